@@ -16,16 +16,16 @@ use Rattle.of_values.specs.Values.{value_words}
 use Rattle.of_trace.specs.Words.{flow_there}
 
 -- the first member of a step
-abbrev pub named : List ℕ → List ℕ
+unfoldable pub named : List ℕ → List ℕ
 named step = key (codes "step") ++ quoted step
 
 -- the priority and the match of an entry
-abbrev pub flow_members : Option Flow → List ℕ
+unfoldable pub flow_members : Option Flow → List ℕ
 flow_members None = []
 flow_members (Some flow) = number_member (codes "priority") flow.priority ++ 44 ∷ key (codes "match") ++ match_object flow.fields
 
 -- numbers of more than 53 bits are strings
-abbrev pub hexadecimal_member : List ℕ → ℕ → ℕ → List ℕ
+unfoldable pub hexadecimal_member : List ℕ → ℕ → ℕ → List ℕ
 hexadecimal_member name least n = text_member name (numbers.hexadecimal least n)
 
 unfoldable pub action_members : Action → List ℕ
@@ -50,15 +50,19 @@ step_members f (Act action) = action_members action
 step_members f TtlExpired = named (codes "TTL expired")
 step_members f End = named (codes "end")
 
-abbrev pub step_object : Forwarding → Step → List ℕ
+unfoldable pub step_object : Forwarding → Step → List ℕ
 step_object f step = 123 ∷ step_members f step ++ 125 ∷ []
 
-unfoldable pub effect_members : Effect → List ℕ
-effect_members (Answer bytes) = key (codes "effect") ++ quoted (codes "message") ++ text_member (codes "message") (encode_lower bytes)
-effect_members (Sent port frame) = key (codes "effect") ++ quoted (codes "frame") ++ number_member (codes "port") port ++ text_member (codes "frame") (encode_lower frame)
-effect_members Closed = key (codes "effect") ++ quoted (codes "closed")
+-- the first member of an effect
+unfoldable pub effect_named : List ℕ → List ℕ
+effect_named effect = key (codes "effect") ++ quoted effect
 
-abbrev pub effect_object : Effect → List ℕ
+unfoldable pub effect_members : Effect → List ℕ
+effect_members (Answer bytes) = effect_named (codes "message") ++ text_member (codes "message") (encode_lower bytes)
+effect_members (Sent port frame) = effect_named (codes "frame") ++ number_member (codes "port") port ++ text_member (codes "frame") (encode_lower frame)
+effect_members Closed = effect_named (codes "closed")
+
+unfoldable pub effect_object : Effect → List ℕ
 effect_object effect = 123 ∷ effect_members effect ++ 125 ∷ []
 
 -- the frame and the port at which it is received

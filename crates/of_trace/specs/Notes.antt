@@ -38,7 +38,7 @@ use Rattle.of_trace.specs.declared.reason.Reason.TheVariants.{Won, Differs, Lowe
 use Rattle.of_trace.specs.declared.sight.Sight.{Sight}
 use Rattle.of_trace.specs.Sights.{key_seen, sight_after, stepped}
 use Rattle.of_trace.specs.Text.{step_line, trace_text}
-use Rattle.of_trace.specs.Words.{flow_there, heading, leaving_text, words_line, words_text}
+use Rattle.of_trace.specs.Words.{entered, flow_there, heading, leaving_text, words_line, words_text}
 use Rattle.of_trace.specs.Json.{trace_json}
 use Rattle.of_trace.specs.Why.{reason_in}
 

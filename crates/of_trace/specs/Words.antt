@@ -30,6 +30,10 @@ use Rattle.of_values.specs.Entries.{entry_words}
 use Rattle.of_trace.specs.declared.sight.Sight.{Sight}
 use Rattle.of_trace.specs.Sights.{key_seen}
 
+-- words and a number
+unfoldable pub numbered : List ℕ → ℕ → List ℕ
+numbered words n = words ++ 32 ∷ decimal n
+
 -- ---- THE FRAME: its ingress port, and of each header the fields that say from where and to where
 
 -- a word and two fields that a frame has both or none of
@@ -37,7 +41,7 @@ abbrev pub pair_words : List ℕ → Field → List ℕ → Field → Option ℕ
 pair_words word a between b (Some x) (Some y) = codes ", " ++ word ++ 32 ∷ value_words a x None ++ between ++ value_words b y None
 pair_words word a between b x y = []
 
-abbrev pub pair : (Field → Option ℕ) → List ℕ → Field → List ℕ → Field → List ℕ
+unfoldable pub pair : (Field → Option ℕ) → List ℕ → Field → List ℕ → Field → List ℕ
 pair map word a between b = pair_words word a between b (map a) (map b)
 
 -- a word and a field
@@ -45,30 +49,40 @@ abbrev pub single_words : List ℕ → Field → Option ℕ → List ℕ
 single_words word f None = []
 single_words word f (Some v) = codes ", " ++ word ++ 32 ∷ value_words f v None
 
-abbrev pub single : (Field → Option ℕ) → List ℕ → Field → List ℕ
+unfoldable pub single : (Field → Option ℕ) → List ℕ → Field → List ℕ
 single map word f = single_words word f (map f)
 
-abbrev pub ttl_part : Option ℕ → List ℕ
+unfoldable pub ttl_part : Option ℕ → List ℕ
 ttl_part None = []
-ttl_part (Some n) = codes ", ttl" ++ 32 ∷ decimal n
+ttl_part (Some n) = numbered (codes ", ttl") n
 
-abbrev pub header_words : (Field → Option ℕ) → List ℕ
-header_words map =
+unfoldable pub ethernet_words : (Field → Option ℕ) → List ℕ
+ethernet_words map =
     pair map (codes "eth") fields.EthSrc (codes " > ") fields.EthDst
     ++ single map (codes "eth_type") fields.EthType
     ++ pair map (codes "vlan") fields.VlanVid (codes " priority ") fields.VlanPcp
-    ++ pair map (codes "arp") fields.ArpSpa (codes " > ") fields.ArpTpa
-    ++ single map (codes "arp_op") fields.ArpOp
-    ++ pair map (codes "ipv4") fields.Ipv4Src (codes " > ") fields.Ipv4Dst
+
+unfoldable pub arp_words : (Field → Option ℕ) → List ℕ
+arp_words map = pair map (codes "arp") fields.ArpSpa (codes " > ") fields.ArpTpa ++ single map (codes "arp_op") fields.ArpOp
+
+unfoldable pub ip_words : (Field → Option ℕ) → List ℕ
+ip_words map =
+    pair map (codes "ipv4") fields.Ipv4Src (codes " > ") fields.Ipv4Dst
     ++ pair map (codes "ipv6") fields.Ipv6Src (codes " > ") fields.Ipv6Dst
     ++ single map (codes "ip_proto") fields.IpProto
-    ++ pair map (codes "tcp") fields.TcpSrc (codes " > ") fields.TcpDst
+
+unfoldable pub transport_words : (Field → Option ℕ) → List ℕ
+transport_words map =
+    pair map (codes "tcp") fields.TcpSrc (codes " > ") fields.TcpDst
     ++ pair map (codes "udp") fields.UdpSrc (codes " > ") fields.UdpDst
     ++ pair map (codes "icmp type") fields.Icmpv4Type (codes " code ") fields.Icmpv4Code
     ++ pair map (codes "icmpv6 type") fields.Icmpv6Type (codes " code ") fields.Icmpv6Code
 
+unfoldable pub header_words : (Field → Option ℕ) → List ℕ
+header_words map = ethernet_words map ++ arp_words map ++ ip_words map ++ transport_words map
+
 -- what tables see of it, and its TTL or hop limit
-abbrev pub sight_words : Sight → List ℕ
+unfoldable pub sight_words : Sight → List ℕ
 sight_words s = header_words (key_seen s) ++ ttl_part (ttl_of (layers_of s.frame))
 
 -- a frame that is received; one that is too short or too long is not
@@ -80,15 +94,15 @@ abbrev pub entered : ℕ → List ℕ → List Sight
 entered port frame = unless_fault port frame (frame_fault frame)
 
 -- its headers, or that nothing happens, since a frame has 14 to 9,216 bytes
-abbrev pub packet_words : List ℕ → List Sight → List ℕ
-packet_words frame [] = codes "," ++ 32 ∷ decimal (length frame) ++ codes " bytes: a frame has 14 to 9216 bytes, so it is dropped"
+unfoldable pub packet_words : List ℕ → List Sight → List ℕ
+packet_words frame [] = numbered (codes ",") (length frame) ++ codes " bytes: a frame has 14 to 9216 bytes, so it is dropped"
 packet_words frame (s ∷ others) = sight_words s
 
-abbrev pub absent_port : Option Port → List ℕ
+unfoldable pub absent_port : Option Port → List ℕ
 absent_port None = codes ": there is no such port, so the frame is dropped"
 absent_port (Some q) = []
 
-abbrev pub heading : Forwarding → ℕ → List ℕ → List ℕ
+unfoldable pub heading : Forwarding → ℕ → List ℕ → List ℕ
 heading f port frame = codes "in_port " ++ numbers.port port ++ packet_words frame (entered port frame) ++ absent_port (port_at f.ports port)
 
 -- ---- THE STEPS
@@ -98,42 +112,53 @@ abbrev pub flow_there : Forwarding → ℕ → ℕ → Option Flow
 flow_there f table place = if nat_lt table 16 then flow_in f table place else None
 
 -- its priority and its match
-abbrev pub found_words : Option Flow → List ℕ
+unfoldable pub found_words : Option Flow → List ℕ
 found_words None = []
 found_words (Some flow) = codes ", " ++ entry_words flow.priority flow.fields
 
 -- how many bytes of the packet the controller gets
-abbrev pub length_words : ℕ → ℕ → List ℕ
-length_words port max_len = if port == OFPP_CONTROLLER then (if max_len == 0xffff then [] else codes ", the first" ++ 32 ∷ decimal max_len ++ codes " bytes") else []
+unfoldable pub length_words : ℕ → ℕ → List ℕ
+length_words port max_len = if port == OFPP_CONTROLLER then (if max_len == 0xffff then [] else numbered (codes ", the first") max_len ++ codes " bytes") else []
 
-abbrev pub action_line : Action → List ℕ
+unfoldable pub action_line : Action → List ℕ
 action_line (Output port max_len) = codes "output " ++ numbers.port port ++ length_words port max_len
-action_line (Group group) = codes "group" ++ 32 ∷ decimal group
+action_line (Group group) = numbered (codes "group") group
 action_line (SetField field value) = codes "set " ++ name_of field ++ 32 ∷ value_words field value None
 action_line other = encoding (rows.Do other)
 
-abbrev pub words_line : Forwarding → Step → List ℕ
-words_line f (Miss table) = codes "table" ++ 32 ∷ decimal table ++ codes ": no entry matches"
-words_line f (Entry table place) = codes "table" ++ 32 ∷ decimal table ++ codes ": entry" ++ 32 ∷ decimal place ++ found_words (flow_there f table place)
-words_line f Apply = codes "apply actions"
-words_line f Clear = codes "clear the action set"
-words_line f Write = codes "write into the action set"
-words_line f (Metadata value mask) = codes "write metadata " ++ value_words fields.Metadata value (Some mask)
-words_line f (Goto table) = codes "go to table" ++ 32 ∷ decimal table
-words_line f Set = codes "run the action set"
+abbrev pub metadata_words : ℕ → ℕ → List ℕ
+metadata_words value mask = codes "write metadata " ++ value_words fields.Metadata value (Some mask)
+
+-- a step that needs no more than its own values
+unfoldable pub plain_line : Step → List ℕ
+plain_line Apply = codes "apply actions"
+plain_line Clear = codes "clear the action set"
+plain_line Write = codes "write into the action set"
+plain_line (Metadata value mask) = metadata_words value mask
+plain_line (Goto table) = numbered (codes "go to table") table
+plain_line Set = codes "run the action set"
+plain_line TtlExpired = codes "dec_nw_ttl: the TTL has expired, so the packet goes to the controller"
+plain_line End = codes "end"
+plain_line other = []
+
+unfoldable pub words_line : Forwarding → Step → List ℕ
+words_line f (Miss table) = numbered (codes "table") table ++ codes ": no entry matches"
+words_line f (Entry table place) = numbered (codes "table") table ++ numbered (codes ": entry") place ++ found_words (flow_there f table place)
 words_line f (Act action) = action_line action
-words_line f TtlExpired = codes "dec_nw_ttl: the TTL has expired, so the packet goes to the controller"
-words_line f End = codes "end"
+words_line f other = plain_line other
 
 abbrev pub words_text : Forwarding → List Step → List ℕ
 words_text f steps = flat_map (λ s. ended (words_line f s)) steps
 
 -- ---- WHAT LEAVES
 
+unfoldable pub effect_words : Effect → List ℕ
+effect_words (Answer bytes) = codes "to the controller: " ++ encode_lower bytes
+effect_words (Sent port frame) = numbered (codes "out by port") port ++ codes ": " ++ encode_lower frame
+effect_words Closed = codes "the connection is closed"
+
 abbrev pub leaving_line : Effect → List ℕ
-leaving_line (Answer bytes) = codes "to the controller: " ++ encode_lower bytes ++ 10 ∷ []
-leaving_line (Sent port frame) = codes "out by port" ++ 32 ∷ decimal port ++ codes ": " ++ encode_lower frame ++ 10 ∷ []
-leaving_line Closed = codes "the connection is closed" ++ 10 ∷ []
+leaving_line effect = effect_words effect ++ 10 ∷ []
 
 abbrev pub leaving_text : List Effect → List ℕ
 leaving_text effects = (if length effects == 0 then codes "nothing leaves" ++ 10 ∷ [] else []) ++ flat_map leaving_line effects

@@ -4,7 +4,7 @@ ghost use Rattle.std.specs.List.{flat_map};
 ghost use Rattle.of_json.specs.Parts.{listed, number_member, text_member};
 ghost use Rattle.of_values.specs.Numbers.{port as port_words};
 ghost use Rattle.of_values.specs.Values.{value_words};
-ghost use Rattle.of_trace.specs.Json.{action_members, effect_members, effect_object, flow_members, head_members, hexadecimal_member, named, step_members, step_object, trace_json};
+ghost use Rattle.of_trace.specs.Json.{action_members, effect_members, effect_named, effect_object, flow_members, head_members, hexadecimal_member, named, step_members, step_object, trace_json};
 ghost use Rattle.of_trace.specs.Words.{flow_there};
 
 use crate::traces::Trace;
@@ -23,6 +23,7 @@ use of_wire::limits::TABLES;
 use std::alloc::{AllocError, Global};
 
 // Appends the first member of a step.
+#[tactic(auto, unfolding(crate::specs::Json::named))]
 fn push_named(out: &mut Vec<u8>, step: &[u8]) -> Result<(), AllocError>
     ensures { OnOk result (out.new.items ≡ out.old.items ++ named step.now) }
 {
@@ -37,14 +38,14 @@ fn push_numbered(
     name: &[u8],
     number: u128,
 ) -> Result<(), AllocError>
-    ensures { OnOk result (out.new.items ≡ out.old.items ++ named step.now ++ number_member name.now number) }
+    ensures { OnOk result (out.new.items ≡ out.old.items ++ (named step.now ++ number_member name.now number)) }
 {
     push_named(out, step)?;
     push_number_member(out, name, number)
 }
 
 // Appends a number in hexadecimal, as a string.
-#[tactic(auto, unfolding(of_json::specs::Parts::text_member))]
+#[tactic(auto, unfolding(of_json::specs::Parts::text_member, crate::specs::Json::hexadecimal_member))]
 fn push_hexadecimal_member(
     out: &mut Vec<u8>,
     name: &[u8],
@@ -88,6 +89,7 @@ fn push_value_member(out: &mut Vec<u8>, field: Field, value: u128) -> Result<(),
 }
 
 // Appends the priority and the match of a flow.
+#[tactic(auto, unfolding(crate::specs::Json::flow_members))]
 fn push_flow(out: &mut Vec<u8>, flow: &Flow) -> Result<(), AllocError>
     ensures { OnOk result (out.new.items ≡ out.old.items ++ flow_members (Some flow.now)) }
 {
@@ -98,6 +100,7 @@ fn push_flow(out: &mut Vec<u8>, flow: &Flow) -> Result<(), AllocError>
 }
 
 // Appends the same of an entry, if there is one.
+#[tactic(auto, unfolding(crate::specs::Json::flow_members))]
 fn push_entry<L: Lookup>(
     out: &mut Vec<u8>,
     switch: &Switch<L>,
@@ -172,6 +175,7 @@ fn push_step<L: Lookup>(
     }
 }
 
+#[tactic(auto, unfolding(crate::specs::Json::step_object))]
 fn push_step_object<L: Lookup>(
     out: &mut Vec<u8>,
     switch: &Switch<L>,
@@ -216,25 +220,34 @@ fn push_steps<L: Lookup>(
     }
 }
 
+// Appends the first member of an effect.
+#[tactic(auto, unfolding(crate::specs::Json::effect_named))]
+fn push_effect_named(out: &mut Vec<u8>, effect: &[u8]) -> Result<(), AllocError>
+    ensures { OnOk result (out.new.items ≡ out.old.items ++ effect_named effect.now) }
+{
+    push_key(out, b"effect")?;
+    push_quoted(out, effect)
+}
+
 #[tactic(auto, unfolding(crate::specs::Json::effect_members))]
 fn push_effect(alloc: Global, out: &mut Vec<u8>, effect: &Effect) -> Result<(), AllocError>
     ensures { OnOk result (out.new.items ≡ out.old.items ++ effect_members effect.now) }
 {
-    push_key(out, b"effect")?;
     match effect {
         Effect::Answer(bytes) => {
-            push_quoted(out, b"message")?;
+            push_effect_named(out, b"message")?;
             push_bytes_member(alloc, out, b"message", bytes.as_slice())
         }
         Effect::Sent { port, frame } => {
-            push_quoted(out, b"frame")?;
+            push_effect_named(out, b"frame")?;
             push_number_member(out, b"port", u128::from(*port))?;
             push_bytes_member(alloc, out, b"frame", frame.as_slice())
         }
-        Effect::Closed => push_quoted(out, b"closed"),
+        Effect::Closed => push_effect_named(out, b"closed"),
     }
 }
 
+#[tactic(auto, unfolding(crate::specs::Json::effect_object))]
 fn push_effect_object(alloc: Global, out: &mut Vec<u8>, effect: &Effect) -> Result<(), AllocError>
     ensures { OnOk result (out.new.items ≡ out.old.items ++ effect_object effect.now) }
 {

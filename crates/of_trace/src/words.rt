@@ -6,7 +6,7 @@ ghost use Rattle.of_headers.specs.FieldMap.{value};
 ghost use Rattle.of_machine.specs.declared.data.Step.TheVariants.{Act};
 ghost use Rattle.of_text.specs.Lines.{ended};
 ghost use Rattle.of_trace.specs.Encoded.{are_encoded, is_encoded};
-ghost use Rattle.of_trace.specs.Words.{absent_port, action_line, flow_there, found_words, header_words, heading, leaving_line, leaving_text, length_words, packet_words, pair, sight_words, single, ttl_part, words_line, words_text};
+ghost use Rattle.of_trace.specs.Words.{absent_port, action_line, arp_words, effect_words, ethernet_words, flow_there, found_words, header_words, heading, ip_words, leaving_line, leaving_text, length_words, metadata_words, numbered, packet_words, pair, plain_line, sight_words, single, transport_words, ttl_part, words_line, words_text};
 
 use crate::packets::arrived;
 use crate::sight::Sight;
@@ -27,6 +27,7 @@ use std::alloc::{AllocError, Global};
 const WHOLE: u16 = 0xffff;
 
 // Appends a word and two fields, if the packet has both.
+#[tactic(auto, unfolding(crate::specs::Words::pair))]
 fn push_pair(
     out: &mut Vec<u8>,
     key: &FieldKey,
@@ -49,6 +50,7 @@ fn push_pair(
 }
 
 // Appends a word and a field, if the packet has it.
+#[tactic(auto, unfolding(crate::specs::Words::single))]
 fn push_single(
     out: &mut Vec<u8>,
     key: &FieldKey,
@@ -66,9 +68,9 @@ fn push_single(
     Ok(())
 }
 
-// Appends the fields of a packet that say from where and to where, header by header.
-fn push_headers(out: &mut Vec<u8>, key: &FieldKey) -> Result<(), AllocError>
-    ensures { OnOk result (out.new.items ≡ out.old.items ++ header_words (value key.now)) }
+#[tactic(auto, unfolding(crate::specs::Words::ethernet_words))]
+fn push_ethernet(out: &mut Vec<u8>, key: &FieldKey) -> Result<(), AllocError>
+    ensures { OnOk result (out.new.items ≡ out.old.items ++ ethernet_words (value key.now)) }
 {
     push_pair(out, key, b"eth", Field::EthSrc, b" > ", Field::EthDst)?;
     push_single(out, key, b"eth_type", Field::EthType)?;
@@ -79,12 +81,30 @@ fn push_headers(out: &mut Vec<u8>, key: &FieldKey) -> Result<(), AllocError>
         Field::VlanVid,
         b" priority ",
         Field::VlanPcp,
-    )?;
+    )
+}
+
+#[tactic(auto, unfolding(crate::specs::Words::arp_words))]
+fn push_arp(out: &mut Vec<u8>, key: &FieldKey) -> Result<(), AllocError>
+    ensures { OnOk result (out.new.items ≡ out.old.items ++ arp_words (value key.now)) }
+{
     push_pair(out, key, b"arp", Field::ArpSpa, b" > ", Field::ArpTpa)?;
-    push_single(out, key, b"arp_op", Field::ArpOp)?;
+    push_single(out, key, b"arp_op", Field::ArpOp)
+}
+
+#[tactic(auto, unfolding(crate::specs::Words::ip_words))]
+fn push_ip(out: &mut Vec<u8>, key: &FieldKey) -> Result<(), AllocError>
+    ensures { OnOk result (out.new.items ≡ out.old.items ++ ip_words (value key.now)) }
+{
     push_pair(out, key, b"ipv4", Field::Ipv4Src, b" > ", Field::Ipv4Dst)?;
     push_pair(out, key, b"ipv6", Field::Ipv6Src, b" > ", Field::Ipv6Dst)?;
-    push_single(out, key, b"ip_proto", Field::IpProto)?;
+    push_single(out, key, b"ip_proto", Field::IpProto)
+}
+
+#[tactic(auto, unfolding(crate::specs::Words::transport_words))]
+fn push_transport(out: &mut Vec<u8>, key: &FieldKey) -> Result<(), AllocError>
+    ensures { OnOk result (out.new.items ≡ out.old.items ++ transport_words (value key.now)) }
+{
     push_pair(out, key, b"tcp", Field::TcpSrc, b" > ", Field::TcpDst)?;
     push_pair(out, key, b"udp", Field::UdpSrc, b" > ", Field::UdpDst)?;
     push_pair(
@@ -105,20 +125,30 @@ fn push_headers(out: &mut Vec<u8>, key: &FieldKey) -> Result<(), AllocError>
     )
 }
 
+// Appends the fields of a packet that say from where and to where, header by header.
+#[tactic(auto, unfolding(crate::specs::Words::header_words))]
+fn push_headers(out: &mut Vec<u8>, key: &FieldKey) -> Result<(), AllocError>
+    ensures { OnOk result (out.new.items ≡ out.old.items ++ header_words (value key.now)) }
+{
+    push_ethernet(out, key)?;
+    push_arp(out, key)?;
+    push_ip(out, key)?;
+    push_transport(out, key)
+}
+
 // Appends a TTL, if there is one.
+#[tactic(auto, unfolding(crate::specs::Words::ttl_part))]
 fn push_ttl_part(out: &mut Vec<u8>, ttl: Option<u8>) -> Result<(), AllocError>
     ensures { OnOk result (out.new.items ≡ out.old.items ++ ttl_part ttl) }
 {
     match ttl {
         None => Ok(()),
-        Some(ttl) => {
-            out.extend_from_slice(b", ttl")?;
-            push_number(out, u64::from(ttl))
-        }
+        Some(ttl) => push_numbered(out, b", ttl", u64::from(ttl)),
     }
 }
 
 // Appends what tables see of a packet, and its TTL or hop limit.
+#[tactic(auto, unfolding(crate::specs::Words::sight_words))]
 fn push_sight(out: &mut Vec<u8>, sight: &Sight) -> Result<(), AllocError>
     ensures { OnOk result (out.new.items ≡ out.old.items ++ sight_words sight.now) }
 {
@@ -127,6 +157,7 @@ fn push_sight(out: &mut Vec<u8>, sight: &Sight) -> Result<(), AllocError>
 }
 
 // Appends a packet, or that the frame is too short or too long to be received.
+#[tactic(auto, unfolding(crate::specs::Words::packet_words))]
 fn push_packet(
     out: &mut Vec<u8>,
     frame: &[u8],
@@ -137,14 +168,14 @@ fn push_packet(
     match packet {
         Some(sight) => push_sight(out, sight),
         None => {
-            out.push(b',')?;
-            push_number(out, frame.len() as u64)?;
+            push_numbered(out, b",", frame.len() as u64)?;
             out.extend_from_slice(b" bytes: a frame has 14 to 9216 bytes, so it is dropped")
         }
     }
 }
 
 // Appends that there is no port, if there is none.
+#[tactic(auto, unfolding(crate::specs::Words::absent_port))]
 fn push_absent(out: &mut Vec<u8>, port: Option<&Port>) -> Result<(), AllocError>
     ensures { OnOk result (out.new.items ≡ out.old.items ++ absent_port (option_copied port.entry)) }
 {
@@ -155,6 +186,7 @@ fn push_absent(out: &mut Vec<u8>, port: Option<&Port>) -> Result<(), AllocError>
 }
 
 /// Appends the first line: the ingress port, and the frame in words or why it is dropped.
+#[tactic(auto, unfolding(crate::specs::Words::heading))]
 pub fn push_heading<L: Lookup>(
     alloc: Global,
     out: &mut Vec<u8>,
@@ -174,6 +206,7 @@ pub fn push_heading<L: Lookup>(
 }
 
 // Appends the priority and the match of a flow.
+#[tactic(auto, unfolding(crate::specs::Words::found_words))]
 fn push_entry<L: Lookup>(
     out: &mut Vec<u8>,
     switch: &Switch<L>,
@@ -192,6 +225,7 @@ fn push_entry<L: Lookup>(
 }
 
 // Appends the same of this flow.
+#[tactic(auto, unfolding(crate::specs::Words::found_words))]
 fn push_flow_words(out: &mut Vec<u8>, flow: &Flow) -> Result<(), AllocError>
     ensures { OnOk result (out.new.items ≡ out.old.items ++ found_words (Some flow.now)) }
 {
@@ -200,18 +234,19 @@ fn push_flow_words(out: &mut Vec<u8>, flow: &Flow) -> Result<(), AllocError>
 }
 
 // Appends how many bytes of a packet the controller gets.
+#[tactic(auto, unfolding(crate::specs::Words::length_words))]
 fn push_length(out: &mut Vec<u8>, port: u32, max_len: u16) -> Result<(), AllocError>
     ensures { OnOk result (out.new.items ≡ out.old.items ++ length_words port max_len) }
 {
     if port != OFPP_CONTROLLER || max_len == WHOLE {
         return Ok(());
     }
-    out.extend_from_slice(b", the first")?;
-    push_number(out, u64::from(max_len))?;
+    push_numbered(out, b", the first", u64::from(max_len))?;
     out.extend_from_slice(b" bytes")
 }
 
 // Appends an action.
+#[tactic(auto, unfolding(crate::specs::Words::action_line))]
 fn push_action(out: &mut Vec<u8>, action: Action) -> Result<(), AllocError>
     requires { IsTrue (is_encoded (Act action)) }
     ensures { OnOk result (out.new.items ≡ out.old.items ++ action_line action) }
@@ -236,14 +271,54 @@ fn push_action(out: &mut Vec<u8>, action: Action) -> Result<(), AllocError>
 }
 
 // Appends words and a number.
+#[tactic(auto, unfolding(crate::specs::Words::numbered))]
 fn push_numbered(out: &mut Vec<u8>, words: &[u8], number: u64) -> Result<(), AllocError>
-    ensures { OnOk result (out.new.items ≡ out.old.items ++ words.now ++ 32 ∷ decimal number) }
+    ensures { OnOk result (out.new.items ≡ out.old.items ++ numbered words.now number) }
 {
     out.extend_from_slice(words)?;
     push_number(out, number)
 }
 
+fn push_text(out: &mut Vec<u8>, text: &[u8]) -> Result<(), AllocError>
+    ensures { OnOk result (out.new.items ≡ out.old.items ++ text.now) }
+{
+    out.extend_from_slice(text)
+}
+
+fn push_metadata(out: &mut Vec<u8>, value: u64, mask: u64) -> Result<(), AllocError>
+    ensures { OnOk result (out.new.items ≡ out.old.items ++ metadata_words value mask) }
+{
+    out.extend_from_slice(b"write metadata ")?;
+    push_value_words(
+        out,
+        Field::Metadata,
+        u128::from(value),
+        Some(u128::from(mask)),
+    )
+}
+
+#[tactic(auto, unfolding(crate::specs::Words::plain_line))]
+fn push_plain(out: &mut Vec<u8>, step: Step) -> Result<(), AllocError>
+    ensures { OnOk result (out.new.items ≡ out.old.items ++ plain_line step) }
+{
+    match step {
+        Step::Apply => push_text(out, b"apply actions"),
+        Step::Clear => push_text(out, b"clear the action set"),
+        Step::Write => push_text(out, b"write into the action set"),
+        Step::Metadata { value, mask } => push_metadata(out, value, mask),
+        Step::Goto(table) => push_numbered(out, b"go to table", u64::from(table)),
+        Step::Set => push_text(out, b"run the action set"),
+        Step::TtlExpired => push_text(
+            out,
+            b"dec_nw_ttl: the TTL has expired, so the packet goes to the controller",
+        ),
+        Step::End => push_text(out, b"end"),
+        Step::Miss(_) | Step::Entry { .. } | Step::Act(_) => Ok(()),
+    }
+}
+
 /// Appends a step in words, without the end of its line.
+#[tactic(auto, unfolding(crate::specs::Words::words_line))]
 pub fn push_words_line<L: Lookup>(
     out: &mut Vec<u8>,
     switch: &Switch<L>,
@@ -262,25 +337,15 @@ pub fn push_words_line<L: Lookup>(
             push_numbered(out, b": entry", number as u64)?;
             push_entry(out, switch, table, number)
         }
-        Step::Apply => out.extend_from_slice(b"apply actions"),
-        Step::Clear => out.extend_from_slice(b"clear the action set"),
-        Step::Write => out.extend_from_slice(b"write into the action set"),
-        Step::Metadata { value, mask } => {
-            out.extend_from_slice(b"write metadata ")?;
-            push_value_words(
-                out,
-                Field::Metadata,
-                u128::from(value),
-                Some(u128::from(mask)),
-            )
-        }
-        Step::Goto(table) => push_numbered(out, b"go to table", u64::from(table)),
-        Step::Set => out.extend_from_slice(b"run the action set"),
         Step::Act(action) => push_action(out, action),
-        Step::TtlExpired => out.extend_from_slice(
-            b"dec_nw_ttl: the TTL has expired, so the packet goes to the controller",
-        ),
-        Step::End => out.extend_from_slice(b"end"),
+        Step::Apply
+        | Step::Clear
+        | Step::Write
+        | Step::Metadata { .. }
+        | Step::Goto(_)
+        | Step::Set
+        | Step::TtlExpired
+        | Step::End => push_plain(out, step),
     }
 }
 
@@ -300,22 +365,29 @@ pub fn push_words<L: Lookup>(
     Ok(())
 }
 
-// Appends an effect in words.
-fn push_leaving_line(alloc: Global, out: &mut Vec<u8>, effect: &Effect) -> Result<(), AllocError>
-    ensures { OnOk result (out.new.items ≡ out.old.items ++ leaving_line effect.now) }
+// Appends an effect in words, without the end of its line.
+#[tactic(auto, unfolding(crate::specs::Words::effect_words))]
+fn push_effect(alloc: Global, out: &mut Vec<u8>, effect: &Effect) -> Result<(), AllocError>
+    ensures { OnOk result (out.new.items ≡ out.old.items ++ effect_words effect.now) }
 {
     match effect {
         Effect::Answer(bytes) => {
             out.extend_from_slice(b"to the controller: ")?;
-            push_hex(alloc, out, bytes.as_slice())?;
+            push_hex(alloc, out, bytes.as_slice())
         }
         Effect::Sent { port, frame } => {
             push_numbered(out, b"out by port", u64::from(*port))?;
             out.extend_from_slice(b": ")?;
-            push_hex(alloc, out, frame.as_slice())?;
+            push_hex(alloc, out, frame.as_slice())
         }
-        Effect::Closed => out.extend_from_slice(b"the connection is closed")?,
+        Effect::Closed => out.extend_from_slice(b"the connection is closed"),
     }
+}
+
+fn push_leaving_line(alloc: Global, out: &mut Vec<u8>, effect: &Effect) -> Result<(), AllocError>
+    ensures { OnOk result (out.new.items ≡ out.old.items ++ leaving_line effect.now) }
+{
+    push_effect(alloc, out, effect)?;
     out.push(b'\n')?;
     Ok(())
 }
