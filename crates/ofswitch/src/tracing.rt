@@ -53,7 +53,7 @@ fn traced_on_rows<S: Source>(rt: &HostRuntime, asked: &Trace, reader: &mut S) ->
 }
 
 // The switch before a line is the one that the lines before it leave.
-fn traced_at<S: Source>(rt: &HostRuntime, asked: &Trace, source: S) -> Ended
+fn traced_at<S: Source + Drop>(rt: &HostRuntime, asked: &Trace, source: S) -> Ended
     requires reads { S.reads source ≡ 0 }
 {
     let mut source = source;
