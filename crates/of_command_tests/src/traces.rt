@@ -8,7 +8,9 @@ use of_replay::memory::MemorySink;
 use of_replay::streams::ReaderSource;
 use of_replay::{Ended, READ_SIZE, Reading, Source, push_effects, zeros};
 use of_switch::{Effect, PortChange, Switch};
-use of_trace::{Asked, FirstLines, Form, Output, Reason, Style, explain, print, trace, why, write_trace};
+use of_trace::{
+    Asked, FirstLines, Form, Output, Reason, Style, explain, print, trace, why, write_trace,
+};
 use std::alloc::Global;
 use std::process::Abort;
 use std::test::Fail;
@@ -67,7 +69,8 @@ out by port 2: 02000000000202000000000188b50000000000000000000000000000000000000
 ";
 
 /// As JSON, written by hand.
-const AS_JSON: &[u8] = b"{\"command\":\"trace\",\"in_port\":1,\"frame\":\"02000000000202000000000188b500000000000000000000000000000000000000000000000000000000000000000000000000000000000000000000\",\"steps\":[{\"step\":\"entry\",\"table\":0,\"entry\":0,\"priority\":10,\"match\":{\"in_port\":\"1\"}},{\"step\":\"apply\"},{\"step\":\"output\",\"port\":\"2\",\"max_len\":0},{\"step\":\"action set\"},{\"step\":\"end\"}],\"effects\":[{\"effect\":\"frame\",\"port\":2,\"frame\":\"02000000000202000000000188b500000000000000000000000000000000000000000000000000000000000000000000000000000000000000000000\"}]}
+const AS_JSON: &[u8] =
+    b"{\"command\":\"trace\",\"in_port\":1,\"frame\":\"02000000000202000000000188b500000000000000000000000000000000000000000000000000000000000000000000000000000000000000000000\",\"steps\":[{\"step\":\"entry\",\"table\":0,\"entry\":0,\"priority\":10,\"match\":{\"in_port\":\"1\"}},{\"step\":\"apply\"},{\"step\":\"output\",\"port\":\"2\",\"max_len\":0},{\"step\":\"action set\"},{\"step\":\"end\"}],\"effects\":[{\"effect\":\"frame\",\"port\":2,\"frame\":\"02000000000202000000000188b500000000000000000000000000000000000000000000000000000000000000000000000000000000000000000000\"}]}
 ";
 
 fn added(number: u32) -> PortChange {
@@ -149,7 +152,15 @@ fn printed<L: Lookup>(alloc: Global, switch: &Switch<L>, port: u32) -> Result<Ve
 
 fn explained<L: Lookup>(alloc: Global, switch: &Switch<L>, port: u32) -> Result<Vec<u8>, Fail> {
     let traced = trace(alloc, switch, port, &FRAME)?;
-    Ok(explain(alloc, switch, Style::Lines, Asked::Nothing, port, &FRAME, &traced)?)
+    Ok(explain(
+        alloc,
+        switch,
+        Style::Lines,
+        Asked::Nothing,
+        port,
+        &FRAME,
+        &traced,
+    )?)
 }
 
 fn written<L: Lookup>(

@@ -50,7 +50,8 @@ fn push_notes_of(
     ids: &[u8],
     flows: &[FlowLine],
 ) -> Result<(), AllocError>
-    ensures { OnOk result (view_notes notes.new.items ≡ view_notes notes.old.items ++ flat_map (λ table. notes_in table (map view_flow_line flows.now)) ids.now) }
+    ensures { OnOk result (view_notes notes.new.items ≡
+        view_notes notes.old.items ++ flat_map (λ table. notes_in table (map view_flow_line flows.now)) ids.now) }
 {
     for table in ids {
         push_notes_in(alloc, notes, *table, flows)?;

@@ -45,12 +45,7 @@ fn push_digits(out: &mut Vec<u8>, field: Field, number: u128) -> Result<(), Allo
 }
 
 // Appends a space and a value of a field.
-fn push_text(
-    out: &mut Vec<u8>,
-    style: Style,
-    field: Field,
-    number: u128,
-) -> Result<(), AllocError>
+fn push_text(out: &mut Vec<u8>, style: Style, field: Field, number: u128) -> Result<(), AllocError>
     ensures { OnOk result (out.new.items ≡ out.old.items ++ value_text style field number) }
 {
     match style {

@@ -145,11 +145,7 @@ fn push_action(out: &mut Vec<u8>, action: Action) -> Result<(), AllocError>
 }
 
 #[tactic(auto, unfolding(crate::specs::Json::step_members))]
-fn push_step<L: Lookup>(
-    out: &mut Vec<u8>,
-    switch: &Switch<L>,
-    step: Step,
-) -> Result<(), AllocError>
+fn push_step<L: Lookup>(out: &mut Vec<u8>, switch: &Switch<L>, step: Step) -> Result<(), AllocError>
     ensures { OnOk result (out.new.items ≡ out.old.items ++ step_members switch.now.core.forwarding step) }
 {
     match step {

@@ -121,7 +121,8 @@ fn push_table_notes<L: Lookup>(
     key: &FieldKey,
 ) -> Result<(), AllocError>
     requires { table < 16 }
-    ensures { OnOk result (out.new.items ≡ out.old.items ++ table_notes style asked table (value key.now) (table_at table switch.now.core.forwarding.tables).flows) }
+    ensures { OnOk result (out.new.items ≡ out.old.items
+        ++ table_notes style asked table (value key.now) (table_at table switch.now.core.forwarding.tables).flows) }
 {
     push_seen(out, style, switch, table, key)?;
     push_reasons(out, style, switch, table, key, asked)

@@ -89,7 +89,8 @@ pub fn push_reasons<L: Lookup>(
     asked: Asked,
 ) -> Result<(), AllocError>
     requires { table < 16 }
-    ensures { OnOk result (out.new.items ≡ out.old.items ++ reasons_from style asked table (value key.now) (table_at table switch.now.core.forwarding.tables).flows 0
+    ensures { OnOk result (out.new.items ≡ out.old.items
+        ++ reasons_from style asked table (value key.now) (table_at table switch.now.core.forwarding.tables).flows 0
         (table_at table switch.now.core.forwarding.tables).flows) }
 {
     let winner = winner_in(switch, table, key);

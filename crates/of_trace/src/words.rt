@@ -158,11 +158,7 @@ fn push_sight(out: &mut Vec<u8>, sight: &Sight) -> Result<(), AllocError>
 
 // Appends a packet, or that the frame is too short or too long to be received.
 #[tactic(auto, unfolding(crate::specs::Words::packet_words))]
-fn push_packet(
-    out: &mut Vec<u8>,
-    frame: &[u8],
-    packet: &Option<Sight>,
-) -> Result<(), AllocError>
+fn push_packet(out: &mut Vec<u8>, frame: &[u8], packet: &Option<Sight>) -> Result<(), AllocError>
     ensures { OnOk result (out.new.items ≡ out.old.items ++ packet_words frame.now (option_to_list packet.now)) }
 {
     match packet {
@@ -279,7 +275,7 @@ fn push_numbered(out: &mut Vec<u8>, words: &[u8], number: u64) -> Result<(), All
     push_number(out, number)
 }
 
-fn push_text(out: &mut Vec<u8>, text: &[u8]) -> Result<(), AllocError>
+fn push_phrase(out: &mut Vec<u8>, text: &[u8]) -> Result<(), AllocError>
     ensures { OnOk result (out.new.items ≡ out.old.items ++ text.now) }
 {
     out.extend_from_slice(text)
@@ -302,17 +298,17 @@ fn push_plain(out: &mut Vec<u8>, step: Step) -> Result<(), AllocError>
     ensures { OnOk result (out.new.items ≡ out.old.items ++ plain_line step) }
 {
     match step {
-        Step::Apply => push_text(out, b"apply actions"),
-        Step::Clear => push_text(out, b"clear the action set"),
-        Step::Write => push_text(out, b"write into the action set"),
+        Step::Apply => push_phrase(out, b"apply actions"),
+        Step::Clear => push_phrase(out, b"clear the action set"),
+        Step::Write => push_phrase(out, b"write into the action set"),
         Step::Metadata { value, mask } => push_metadata(out, value, mask),
         Step::Goto(table) => push_numbered(out, b"go to table", u64::from(table)),
-        Step::Set => push_text(out, b"run the action set"),
-        Step::TtlExpired => push_text(
+        Step::Set => push_phrase(out, b"run the action set"),
+        Step::TtlExpired => push_phrase(
             out,
             b"dec_nw_ttl: the TTL has expired, so the packet goes to the controller",
         ),
-        Step::End => push_text(out, b"end"),
+        Step::End => push_phrase(out, b"end"),
         Step::Miss(_) | Step::Entry { .. } | Step::Act(_) => Ok(()),
     }
 }

@@ -42,7 +42,8 @@ fn styled<L: Lookup>(
     form: Form,
     trace: &Trace,
 ) -> Result<Vec<u8>, AllocError>
-    ensures { IfOk result (λ text. text.items ≡ styled_text style form switch.now.core.forwarding port frame.now trace.now.steps.items trace.now.effects.items) }
+    ensures { IfOk result (λ text. text.items
+        ≡ styled_text style form switch.now.core.forwarding port frame.now trace.now.steps.items trace.now.effects.items) }
 {
     match form {
         Form::Plain => print_in(alloc, switch, port, frame, style, trace),

@@ -1,8 +1,8 @@
 //! Reports of `check`.
 use crate::hinting::Seen;
 use crate::importing::{NotImported, import_of, read_whole};
-use crate::parts::print_part;
 use crate::lookups::Lookups;
+use crate::parts::print_part;
 use crate::standard_input::StandardInput;
 use of_classifier::Scan;
 use of_command_line::{Check, CheckOutput, FileKind};
@@ -79,11 +79,7 @@ fn events_reported(rt: &HostRuntime, asked: &Check, bytes: &[u8]) -> Result<bool
 }
 
 /// The flow text of what ovs-ofctl prints.
-pub fn text_of_table(
-    rt: &HostRuntime,
-    kind: FileKind,
-    bytes: &[u8],
-) -> Result<Vec<u8>, NoReport> {
+pub fn text_of_table(rt: &HostRuntime, kind: FileKind, bytes: &[u8]) -> Result<Vec<u8>, NoReport> {
     let mode = Mode {
         skip: false,
         renumber: false,
@@ -97,7 +93,6 @@ pub fn text_of_table(
         }
     }
 }
-
 
 // A file of another kind with a mistake in its first line is taken for a table of Open vSwitch.
 fn say_guess(rt: &HostRuntime, kind: FileKind) {

@@ -38,11 +38,11 @@ use parts::print_part;
 use saying::{Unsaid, said};
 use serving::serve_rows;
 use standard_input::StandardInput;
-use tracing::{traced, traced_by_content};
 use std::alloc::Global;
 use std::fs::File;
 use std::io::{self, Read};
 use std::process::ExitCode;
+use tracing::{traced, traced_by_content};
 
 /// The exit status if the arguments are not understood.
 const BAD_ARGUMENTS: u8 = 1;
@@ -95,9 +95,8 @@ fn tell(rt: &HostRuntime, why: &NoRequest) -> ExitCode {
 
 fn carry_out(rt: &HostRuntime, request: &Request) -> ExitCode {
     match request {
-        Request::Replay { file, .. }
-        | Request::Assemble { file }
-        | Request::Disassemble { file } => run_file(rt, request, file.as_str()),
+        Request::Replay { file, .. } | Request::Assemble { file } | Request::Disassemble { file } =>
+            run_file(rt, request, file.as_str()),
         Request::Trace(asked) => run_trace(rt, request, asked),
         Request::Check(asked) => run_check(rt, asked),
         Request::Import {

@@ -6,7 +6,6 @@
 
 use of_cache::Cached;
 use of_mask_groups::MaskGroups;
-
 pub use of_switch::{Effect, Effects, Event, PortChange, Report, Switch, SwitchError};
 pub use of_text::{Config, assemble, disassemble};
 pub use of_wire::Bytes;

@@ -11,4 +11,4 @@ returns-in-Goto c = rw c.in-Goto.is (rw c.from.ensures at c.push_numbered.ensure
 
 pub returns-in-TtlExpired : goal.returns-in-TtlExpired
 unfolding plain_line
-returns-in-TtlExpired c = rw c.in-TtlExpired.is c.push_text-in-TtlExpired.ensures
+returns-in-TtlExpired c = rw c.in-TtlExpired.is c.push_phrase-in-TtlExpired.ensures
