@@ -3,6 +3,7 @@
 from __future__ import annotations
 
 import contextlib
+import json
 import os
 import tempfile
 import threading
@@ -33,7 +34,8 @@ _LOG_IN_MEMORY = 1 << 24
 # How much of a log a new run of the program gets at a time, in bytes.
 _BLOCK_SIZE = 1 << 20
 
-# Exit statuses: a file has a fault; `ofswitch check` found something.
+# Exit statuses: an argument or a file has a fault; `ofswitch check` found something.
+_BAD_ARGUMENT = 1
 _BAD_FILE = 2
 _FOUND = 4
 
@@ -119,9 +121,9 @@ class Switch:
         """The next bytes of the controller, which may be cut anywhere: bytes, or a message of os-ken or pyof."""
         return self._play(rows.feed(data))
 
-    def frame(self, port: int, frame: Octets) -> list[Effect]:
-        """A frame comes in on a port: bytes, or a packet of scapy or os-ken."""
-        return self._play(rows.frame(port, frame))
+    def frame(self, port: int, frame: Octets | str) -> list[Effect]:
+        """A frame comes in on a port: bytes, a packet of scapy or os-ken, or words, as `frame_of` reads them."""
+        return self._play(rows.frame(port, self._octets(frame)))
 
     def at(self, nanoseconds: int) -> list[Effect]:
         """The time is this many nanoseconds after the start."""
@@ -171,9 +173,24 @@ class Switch:
         """The flows that never win, and other likely mistakes, as `ofswitch check` prints them (docs/CHECK.md)."""
         return self._ask(["check", "--events", "-"], b"", good=(0, _FOUND))
 
-    def steps(self, port: int, frame: Octets, *, explain: bool = False) -> str:
+    def frame_of(self, words: str) -> bytes:
+        """The frame that has these fields: "tcp,nw_src=10.0.0.1,tp_dst=80" (docs/TRACE.md). ValueError if there is none.
+
+        Hexadecimal digits are a frame, too.
+        """
+        if "in_port" in words:
+            raise ValueError("in_port: the port is an argument of its own")
+        try:
+            trace = run_to_end([self._program, "trace", "--flows", "-", "--json", "--port", "1", words], b"", self._timeout)
+        except ProgramError as fault:
+            if fault.status != _BAD_ARGUMENT:
+                raise
+            raise ValueError(fault.said) from None
+        return bytes.fromhex(json.loads(trace)["frame"])
+
+    def steps(self, port: int, frame: Octets | str, *, explain: bool = False) -> str:
         """Each step that this frame would take now, one per line, and then what leaves (docs/TRACE.md); with notes if `explain`."""
-        return self._answer(f"{'explain' if explain else 'trace'} {rows.frame(port, frame).removeprefix('f ')}")
+        return self._answer(f"{'explain' if explain else 'trace'} {rows.frame(port, self._octets(frame)).removeprefix('f ')}")
 
     @property
     def keeps_log(self) -> bool:
@@ -205,9 +222,9 @@ class Switch:
             self._story.follow(log)
             return self._story.text()
 
-    def trace(self, port: int, frame: Octets) -> str:
+    def trace(self, port: int, frame: Octets | str) -> str:
         """What this frame would do now, in words: how it comes in, each lookup, and what leaves."""
-        notes = self._answer(f"frame {rows.frame(port, frame).removeprefix('f ')}")
+        notes = self._answer(f"frame {rows.frame(port, self._octets(frame)).removeprefix('f ')}")
         return "".join(line.removeprefix("    ") for line in notes.splitlines(keepends=True))
 
     def pcap(self, path: StrPath) -> None:
@@ -347,6 +364,9 @@ class Switch:
         with self._played:
             text = self._log_bytes() + more
         return run_to_end([self._program, *words], text, self._timeout, good)
+
+    def _octets(self, frame: Octets | str) -> Octets:
+        return self.frame_of(frame) if isinstance(frame, str) else frame
 
     def _converted(self, word: str, text: str) -> str:
         """The output of the program for a text. ValueError if the text has a fault."""
