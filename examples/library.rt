@@ -1,1 +1,0 @@
-../crates/of_example/src/main.rt
