@@ -1,7 +1,7 @@
 //! The switch as a library: all that a program needs that has an OpenFlow 1.3.5 switch inside.
 //!
 //! `OpenFlowSwitch` is the switch with the classifier of `ofswitch`. Its calls (`frame`, `feed` and `next`, `port_change`, `moment`) return their
-//! effects; `run` does events in any order, and its contract is the abstract switch's run. examples/library.rt is a whole program.
+//! effects; `run` does events in any order, and its contract is the abstract switch's run. crates/of_example is a whole program.
 #![tactic(auto)]
 
 use of_cache::Cached;
