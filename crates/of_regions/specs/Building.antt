@@ -1,0 +1,28 @@
+-- What is known of fields, one after the other.
+use Rattle.std.specs.Prelude.{◌≡◌, ℕ, List, Option, None, IfSome}
+use Rattle.of_layers.specs.declared.field.Field.{Field}
+use Rattle.of_layers.specs.Fields.{ones_of}
+use Rattle.of_headers.specs.FieldMap.{value}
+use Rattle.of_oxm.specs.Masks.{mask_at, looked_at, value_of}
+use Rattle.of_oxm.specs.declared.match_field.MatchField.{MatchField}
+use Rattle.of_shapes.specs.declared.shape.Shape.{Shape}
+use Rattle.of_shapes.specs.declared.shape.Tagging.{Tagging}
+use Rattle.of_regions.specs.declared.building.Fields.{Fields}
+use Rattle.of_regions.specs.declared.joining.Bits.{Bits}
+use Rattle.of_regions.specs.Joining.{Joined}
+use Rattle.of_regions.specs.Known.{rule_in}
+
+abbrev pub bits_at : Fields → Field → Bits
+bits_at fields f = record { mask = mask_at fields.masks f; known = value fields.known f }
+
+-- nothing is known of a field
+abbrev pub IsUnknown : Fields → Field → Type 0
+IsUnknown fields f = (mask_at fields.masks f ≡ None) × (value fields.known f ≡ None)
+
+-- what is known of all fields but one is the same
+abbrev pub AreOthers : Fields → Field → Fields → Type 0
+AreOthers old field new = (f : Field) → ¬ (f ≡ field) → bits_at new f ≡ bits_at old f
+
+-- what is known of a field is what a shape and a tagging say, and a match asks
+abbrev pub IsBegun : Shape → Option Tagging → List MatchField → Fields → Field → Type 0
+IsBegun s t m fields f = Joined (ones_of f) (rule_in s t f) (looked_at m f) (value_of m f) (bits_at fields f)

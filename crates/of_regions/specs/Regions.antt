@@ -1,0 +1,26 @@
+-- REGIONS OF PACKETS: the packets of one shape of which some bits are known (OpenFlow 1.3.5, 5.3 and 7.2.3.7).
+use Rattle.std.specs.Prelude.{ℕ, Option, Some, None}
+use Rattle.of_layers.specs.declared.field.Field.{Field}
+use Rattle.of_headers.specs.FieldMap.{value}
+use Rattle.of_oxm.specs.Masks.{mask_at}
+use Rattle.of_shapes.specs.declared.shape.Tagging.{Tagging}
+use Rattle.of_shapes.specs.Rules.{IsTagging}
+use Rattle.of_frames.specs.Knowing.{IsAmong}
+use Rattle.of_regions.specs.declared.region.Region.{Region}
+
+-- a field map that agrees with what is known
+abbrev pub In : Region → (Field → Option ℕ) → Type 0
+In r map = IsAmong (mask_at r.masks) (value r.known) map
+
+abbrev pub InOne : Option Region → (Field → Option ℕ) → Type 0
+InOne None map = ⊥
+InOne (Some r) map = In r map
+
+-- a tagging, if one is said
+abbrev pub HasTagging : Option Tagging → (Field → Option ℕ) → Type 0
+HasTagging None map = Unit {0}
+HasTagging (Some t) map = IsTagging t map
+
+-- a frame has a tag or none
+abbrev pub SomeTagging : (Field → Option ℕ) → Type 0
+SomeTagging map = (t : Tagging) × IsTagging t map

@@ -1,0 +1,86 @@
+//! Regions in two parts.
+ghost use Rattle.std.specs.Prelude.{◌≡◌, ◌<◌, ◌==◌, ◌⊎◌, ℕ, Option, Some, None, if◌then◌else◌, true};
+ghost use Rattle.of_layers.specs.declared.field.Field.{Field as TheField};
+ghost use Rattle.of_layers.specs.Fields.{number_of, ones_of};
+ghost use Rattle.of_headers.specs.FieldMap.{value};
+ghost use Rattle.of_oxm.specs.Masks.{mask_at};
+ghost use Rattle.of_oxm.specs.NormalForm.{IsKept};
+ghost use Rattle.of_shapes.specs.Rules.{IsTagging};
+ghost use Rattle.of_regions.specs.Dividing.{AreWithout, IsBitOf};
+ghost use Rattle.of_regions.specs.Known.{is_known_by, rule_in};
+ghost use Rattle.of_regions.specs.Meeting.{IsCrossed};
+ghost use Rattle.of_regions.specs.Regions.{In, SomeTagging};
+
+use crate::meeting::bits;
+use crate::region::Region;
+use of_headers::{Field, FieldKey};
+use of_oxm::{FieldMask, MatchField};
+use of_shapes::Tagging;
+
+// These bits without those of a mask.
+fn without(bits: u128, mask: u128) -> u128
+    ensures { AreWithout bits mask result }
+{
+    bits ^ (bits & mask)
+}
+
+// One of these bits: the highest, if the field may have a mask, such as that of a prefix; else the lowest.
+fn one_of(field: Field, bits: u128) -> u128
+    requires { 0 < bits }
+    ensures { IsBitOf bits result }
+{
+    if field.row().maskable {
+        return highest(bits);
+    }
+    lowest(bits)
+}
+
+fn highest(bits: u128) -> u128
+    requires { 0 < bits }
+    ensures { IsBitOf bits result }
+{
+    1 << bits.ilog2()
+}
+
+fn lowest(bits: u128) -> u128
+    requires { 0 < bits }
+    ensures { IsBitOf bits result }
+{
+    1 << bits.trailing_zeros()
+}
+
+impl Region {
+    // The same, with these bits of a field that has it.
+    fn learned(self, field: Field, mask: u128, known: u128) -> Region
+        requires { is_known_by (ones_of field) (rule_in self.shape self.tagging field) (Some mask) (Some known) ≡ true }
+        ensures masks { (f : TheField) → mask_at result.masks f ≡ (if number_of f == number_of field then Some mask else mask_at self.masks f) }
+        ensures known { (f : TheField) → value result.known f ≡ (if number_of f == number_of field then Some known else value self.known f) }
+        ensures same { (result.shape ≡ self.shape) × (result.tagging ≡ self.tagging) }
+    {
+        Region {
+            shape: self.shape,
+            tagging: self.tagging,
+            masks: FieldMask {
+                masks: self.masks.masks.with(field, mask),
+            },
+            known: self.known.with(field, known),
+        }
+    }
+
+    // Those whose field has a bit, and those whose field lacks it.
+    fn by_bit(self, e: &MatchField, mask: u128, known: u128) -> (Region, Region)
+        requires kept { IsKept e.now }
+        requires crossed { IsCrossed self e.now }
+        requires mask { mask_at self.masks e.now.field ≡ Some mask }
+        requires known { value self.known e.now.field ≡ Some known }
+        ensures within { (map : TheField → Option ℕ) → In result.0 map ⊎ In result.1 map → In self map }
+        ensures all { (map : TheField → Option ℕ) → In self map → In result.0 map ⊎ In result.1 map }
+        ensures apart { (map : TheField → Option ℕ) → In result.0 map → In result.1 map → ⊥ }
+    {
+        let bit = one_of(e.field, without(bits(e), mask));
+        (
+            self.learned(e.field, mask | bit, known | bit),
+            self.learned(e.field, mask | bit, known),
+        )
+    }
+}
