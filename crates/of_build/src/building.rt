@@ -1,21 +1,12 @@
 //! Event files that build a configuration.
-ghost use Rattle.std.specs.Prelude.{◌≡◌, ◌<◌, ◌≤◌, ◌+◌, ◌^◌, ◌++◌, true, IfOk, OnOk, length, map};
-ghost use Rattle.std.specs.List.{AllByRecursion, list_all};
+ghost use Rattle.std.specs.Prelude.{◌≡◌, ◌++◌, IfOk, OnOk};
+ghost use Rattle.std.specs.List.{flat_map};
 ghost use Rattle.hex.specs.Hex.{encode_lower};
-ghost use Rattle.of_groups.specs.Buckets.{are_fit};
-ghost use Rattle.of_groups.specs.Chains.{chain};
-ghost use Rattle.of_groups.specs.Sound.{is_fit_group};
-ghost use Rattle.of_text.specs.Groups.{buckets_of, groups_at};
-ghost use Rattle.of_text.specs.Kept.{IsEntry};
-ghost use Rattle.of_text.specs.Views.{view, view_flows, view_group, view_groups};
-ghost use Rattle.of_text.specs.Configs.{all_flows};
-ghost use Rattle.of_messages.specs.Written.{flow_mod_bytes};
-ghost use Rattle.of_build.specs.Building.{add_lines, add_of as add_is, build_text, group_lines, in_turn, of_length, chunk_line, those};
+ghost use Rattle.of_build.specs.Building.{build_text, chunk_line};
 
-use of_groups::chain_lengths;
-use of_messages::{FlowMod, FlowModCommand, NewGroup, write_flow_mod, write_group_mod};
-use of_text::{Config, FlowText, GroupText};
-use of_wire::limits::{OFP_NO_BUFFER, OFPG_ANY, OFPP_ANY, TABLES};
+use crate::listing::messages;
+use of_text::Config;
+use of_wire::Bytes;
 use std::alloc::{AllocError, Global};
 
 /// A HELLO of version 4 without elements (OpenFlow 1.3.5, 7.5.1).
@@ -39,147 +30,12 @@ fn push_chunk(alloc: Global, out: &mut Vec<u8>, bytes: &[u8]) -> Result<(), Allo
     Ok(())
 }
 
-// The FLOW_MOD that adds a flow of that table.
-fn add_of(table: u8, flow: &FlowText) -> Result<FlowMod, AllocError>
-    requires { IsEntry table (view flow.now) }
-    ensures { IfOk result (λ m. m ≡ add_is (view flow.now)) }
+// Appends the rows of these messages.
+fn push_chunks(alloc: Global, out: &mut Vec<u8>, messages: &[Bytes]) -> Result<(), AllocError>
+    ensures { OnOk result (out.new.items ≡ out.old.items ++ flat_map chunk_line messages.now) }
 {
-    let _ = table;
-    Ok(FlowMod {
-        cookie: flow.head.cookie,
-        cookie_mask: 0,
-        table: flow.head.table,
-        command: FlowModCommand::Add,
-        idle_timeout: flow.head.idle,
-        hard_timeout: flow.head.hard,
-        priority: flow.head.priority,
-        buffer: OFP_NO_BUFFER,
-        out_port: OFPP_ANY,
-        out_group: OFPG_ANY,
-        flags: flow.head.flags,
-        fields: flow.to_match()?,
-        instructions: flow.to_instructions()?,
-    })
-}
-
-// Appends the row that adds a flow of that table.
-fn push_flow(
-    alloc: Global,
-    out: &mut Vec<u8>,
-    xid: u32,
-    table: u8,
-    flow: &FlowText,
-) -> Result<(), AllocError>
-    requires { IsEntry table (view flow.now) }
-    ensures { OnOk result (out.new.items ≡ out.old.items ++ chunk_line (flow_mod_bytes xid (add_is (view flow.now)))) }
-{
-    let flow_mod = add_of(table, flow)?;
-    let bytes = write_flow_mod(alloc, xid, &flow_mod)?;
-    push_chunk(alloc, out, bytes.as_slice())
-}
-
-// Appends a row for each flow of a table, with transaction ids from this one on, and returns the next.
-fn push_flows(
-    alloc: Global,
-    out: &mut Vec<u8>,
-    xid: u32,
-    table: u8,
-    flows: &[FlowText],
-) -> Result<u32, AllocError>
-    requires entries { AllByRecursion (IsEntry table) (view_flows flows.now) }
-    requires few { xid + length flows.now < 2 ^ 32 }
-    ensures rows { OnOk result (out.new.items ≡ out.old.items ++ add_lines xid (view_flows flows.now)) }
-    ensures next { IfOk result (λ next. next ≡ xid + length flows.now) }
-{
-    let mut next = xid;
-    for flow in flows {
-        push_flow(alloc, out, next, table, flow)?;
-        next += 1;
-    }
-    Ok(next)
-}
-
-// Appends the row that adds a group, if it is wanted, and returns the next transaction id.
-fn push_group(
-    alloc: Global,
-    out: &mut Vec<u8>,
-    xid: u32,
-    wanted: bool,
-    group: &GroupText,
-) -> Result<u32, AllocError>
-    requires fit { are_fit (buckets_of (view_group group.now)) ≡ true }
-    requires few { xid + 1 < 2 ^ 32 }
-    ensures rows { OnOk result (out.new.items ≡ out.old.items ++ group_lines xid (those wanted (view_group group.now))) }
-    ensures next { IfOk result (λ next. next ≡ xid + length (those wanted (view_group group.now))) }
-{
-    if !wanted {
-        return Ok(xid);
-    }
-    let new_group = NewGroup {
-        id: group.head.id,
-        kind: group.head.kind,
-        buckets: group.to_buckets()?,
-    };
-    let bytes = write_group_mod(alloc, xid, &new_group)?;
-    push_chunk(alloc, out, bytes.as_slice())?;
-    Ok(xid + 1)
-}
-
-// Appends a row for each group that begins a chain of this length, with transaction ids from this one on, and returns the next.
-fn push_groups(
-    alloc: Global,
-    out: &mut Vec<u8>,
-    xid: u32,
-    wanted: u8,
-    groups: &[GroupText],
-    lengths: &[u8],
-) -> Result<u32, AllocError>
-    requires fit { list_all is_fit_group (groups_at 0 (view_groups groups.now)) ≡ true }
-    requires lengths { lengths.now ≡ map (λ g. chain (groups_at 0 (view_groups groups.now)) g.id) (groups_at 0 (view_groups groups.now)) }
-    requires few { xid + length groups.now < 2 ^ 32 }
-    ensures rows { OnOk result (out.new.items ≡ out.old.items ++ group_lines xid (of_length (view_groups groups.now) wanted (view_groups groups.now))) }
-    ensures next { IfOk result (λ next. next ≡ xid + length (of_length (view_groups groups.now) wanted (view_groups groups.now))) }
-    ensures most { IfOk result (λ next. next ≤ xid + length groups.now) }
-{
-    let mut next = xid;
-    let mut place = 0;
-    for group in groups {
-        next = push_group(alloc, out, next, lengths[place] == wanted, group)?;
-        place += 1;
-    }
-    Ok(next)
-}
-
-// Appends a row for each group, in turn, and returns the next transaction id.
-fn push_all_groups(alloc: Global, out: &mut Vec<u8>, config: &Config) -> Result<u32, AllocError>
-    ensures rows { OnOk result (out.new.items ≡ out.old.items ++ group_lines 1 (in_turn config.now.groups)) }
-    ensures next { IfOk result (λ next. next ≡ 1 + length (in_turn config.now.groups)) }
-    ensures most { IfOk result (λ next. next ≤ 769) }
-{
-    config.known();
-    let made = config.to_groups(0)?;
-    let lengths = chain_lengths(alloc, made.groups())?;
-    let groups = config.groups();
-    let second = push_groups(alloc, out, 1, 1, groups, &lengths)?;
-    let third = push_groups(alloc, out, second, 2, groups, &lengths)?;
-    let next = push_groups(alloc, out, third, 3, groups, &lengths)?;
-    Ok(next)
-}
-
-// Appends a row for each flow, with transaction ids from this one on.
-fn push_tables(
-    alloc: Global,
-    out: &mut Vec<u8>,
-    first: u32,
-    config: &Config,
-) -> Result<(), AllocError>
-    requires { first ≤ 769 }
-    ensures { OnOk result (out.new.items ≡ out.old.items ++ add_lines first (all_flows config.now.tables)) }
-{
-    config.known();
-    let mut xid = first;
-    for table in 0..TABLES {
-        xid = push_flows(alloc, out, xid, table, config.flows(table))?;
+    for message in messages {
+        push_chunk(alloc, out, message.as_slice())?;
     }
     Ok(())
 }
@@ -192,7 +48,6 @@ pub fn build(alloc: Global, config: &Config) -> Result<Vec<u8>, AllocError>
     let mut out = Vec::new(alloc);
     out.extend_from_slice(b"connect\n")?;
     push_chunk(alloc, &mut out, &HELLO)?;
-    let first = push_all_groups(alloc, &mut out, config)?;
-    push_tables(alloc, &mut out, first, config)?;
+    push_chunks(alloc, &mut out, &messages(alloc, config)?)?;
     Ok(out)
 }

@@ -2,5 +2,7 @@
 #![tactic(auto)]
 
 mod building;
+mod listing;
 
 pub use building::{build, push_hex};
+pub use listing::messages;

@@ -25,14 +25,13 @@ use Rattle.of_messages.specs.CanonicalGroups.{group_add_bytes}
 use Rattle.of_messages.specs.declared.message.Message.TheVariants.{FlowMod as AFlowMod}
 use Rattle.of_messages.specs.Written.{flow_mod_bytes}
 use Rattle.of_messages.proofs.GroupAgain.{group_add_again}
-use Rattle.of_build.specs.Building.{add_of, new_of}
 use Rattle.of_laws.specs.Cells.{Fits}
 use Rattle.of_laws.specs.Grammar.{flow_mod_cells}
 use Rattle.of_laws.proofs.Only.{only}
 use Rattle.of_laws.proofs.WrittenRequests.{flow_mod_encoded}
 use Rattle.of_laws.proofs.FlowsAdded.{AreSent, IsSent}
 use Rattle.of_laws.proofs.GroupsAdded.{IsSentGroup}
-use Rattle.of_config.specs.Listing.{flow_adds, group_adds}
+use Rattle.of_build.specs.Listing.{add_of, flow_adds, group_adds, new_of}
 use Rattle.of_config.specs.Built.{Said, IsGroup, IsFlow, Listed, config_said, listed, listed_by, said, said_by}
 use Rattle.of_config.proofs.BuildingLemmas.{given_so, group_in}
 use Rattle.of_config.proofs.ComingBack.{all_sent, groups_sent}

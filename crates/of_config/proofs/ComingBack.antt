@@ -33,7 +33,6 @@ use Rattle.of_messages.specs.Written.{flow_mod_bytes, flow_mod_fixed_part, messa
 use Rattle.of_messages.proofs.Appended.{length_flow_mod}
 use Rattle.of_messages.proofs.BucketsWritten.{buckets_short, length_front}
 use Rattle.of_session.specs.Stream.{length_of}
-use Rattle.of_build.specs.Building.{add_of, in_turn, new_of, of_length}
 use Rattle.of_datapath.specs.declared.effect.Effect.{Effect}
 use Rattle.of_switch.specs.declared.event.Event.{Event}
 use Rattle.of_switch.specs.declared.event.Event.TheVariants.{Chunk}
@@ -49,7 +48,7 @@ use Rattle.of_laws.proofs.GroupsAdded.{AreSentGroups, IsSentGroup, group_events,
 use Rattle.of_laws.proofs.StreamMessages.{built, one_message}
 use Rattle.of_laws.proofs.Chunks.{Leads, ready}
 use Rattle.of_laws.proofs.Present.{all_kept}
-use Rattle.of_config.specs.Listing.{flow_adds, group_adds, messages_of}
+use Rattle.of_build.specs.Listing.{add_of, flow_adds, group_adds, in_turn, messages_of, new_of, of_length}
 use Rattle.of_config.specs.Sending.{config_by, config_from, is_command}
 use Rattle.of_config.proofs.SendingLemmas.{greeted_is}
 

@@ -1,4 +1,3 @@
-pub mod ListingLemmas
 pub mod SendingLemmas
 pub mod ComingBack
 pub mod Outcomes

@@ -1,4 +1,3 @@
-pub mod Listing
 pub mod Sending
 pub mod Outcomes
 pub mod Built

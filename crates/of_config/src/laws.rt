@@ -1,6 +1,5 @@
 //! Laws of configurations and their messages.
-ghost use Rattle.std.specs.Prelude.{◌≡◌, ◌++◌, ◌∷◌, ◌+◌, ◌≤◌, ◌^◌, [], ℕ, List, true, false, Ok, Err, codes, length, take};
-ghost use Rattle.std.specs.List.{flat_map};
+ghost use Rattle.std.specs.Prelude.{◌≡◌, ◌++◌, ◌∷◌, ◌+◌, ◌≤◌, ◌^◌, [], ℕ, List, true, false, Ok, Err, length, take};
 ghost use Rattle.of_text.specs.Configs.{Configuration, IsConfig, all_flows};
 ghost use Rattle.of_wire.specs.declared.code.Code.{Code};
 ghost use Rattle.of_messages.specs.Heads.{xid_of};
@@ -12,15 +11,9 @@ ghost use Rattle.of_switch.specs.Runs.{chunk_in};
 ghost use Rattle.of_switch.specs.Loading.{config_of};
 ghost use Rattle.of_config.specs.declared.fault.ConfigFault.TheVariants.{NoMemory, NotACommand, Refused};
 ghost use Rattle.of_config.specs.Outcomes.{ComesTo, Takes};
-ghost use Rattle.of_build.specs.Building.{build_text, hello, chunk_line};
 ghost use Rattle.of_config.specs.Built.{config_said};
-ghost use Rattle.of_config.specs.Listing.{flow_adds, group_adds, messages_of};
+ghost use Rattle.of_build.specs.Listing.{flow_adds, group_adds, messages_of};
 ghost use Rattle.of_config.specs.Sending.{config_by, greeted, is_command};
-
-/// The event file of a configuration is a connection, a HELLO, and a row for each message of the configuration, in their order.
-pub fn file_has_the_messages()
-    ensures { (c : Configuration) → build_text c ≡ codes "connect\n" ++ (chunk_line hello ++ flat_map chunk_line (messages_of c)) }
-{}
 
 /// The configuration that the messages of a configuration give is that configuration.
 pub fn messages_give_it_back()

@@ -4,14 +4,11 @@
 mod building;
 mod fault;
 mod laws;
-mod listing;
 mod sending;
 
 pub use building::build;
 pub use fault::ConfigFault;
 pub use laws::{
-    each_is_taken_or_the_first_is_named, file_has_the_messages, messages_by_number_build_it,
-    messages_give_it_back,
+    each_is_taken_or_the_first_is_named, messages_by_number_build_it, messages_give_it_back,
 };
-pub use listing::messages;
 pub use sending::config_of;

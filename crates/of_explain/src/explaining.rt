@@ -1,8 +1,9 @@
 //! Event files, explained.
-ghost use Rattle.std.specs.Prelude.{◌≡◌, ◌⊎◌, ◌↔◌, ◌<◌, ◌≤◌, ◌+◌};
+ghost use Rattle.std.specs.Prelude.{◌≡◌};
 ghost use Rattle.of_switch.specs.State.{start};
 ghost use Rattle.of_replay.specs.Play.{PrintsLines, WrittenEarly};
 ghost use Rattle.of_replay.specs.RowTexts.{told};
+ghost use Rattle.of_replay.specs.WholeFiles.{RunFaults};
 ghost use Rattle.of_explain.specs.Explained.{explained};
 
 use crate::rows::Explaining;
@@ -26,14 +27,8 @@ pub fn explain<L: Lookup, S: Source, W: Sink>(
     requires failures { W.failures writer.old ≡ 0 }
     ensures output { PrintsLines (told (start dpid) explained) result (S.answers reader.old) (S.answers reader.new) (S.ends reader.old) (S.ends reader.new)
         (W.taken writer.old) (W.taken writer.new) }
-    ensures done { result ≡ Ended.Done → (S.failures reader.new ≡ S.failures reader.old) × (S.ends reader.new ≡ S.ends reader.old + 1) ×
-        (W.failures writer.new ≡ 0) }
-    ensures reads { S.reads reader.new ≤ 1000000 }
-    ensures once { S.failures reader.new ≤ S.failures reader.old + 1 }
-    ensures read_fault { result ≡ Ended.ReadFault → (S.failures reader.old < S.failures reader.new) ⊎
-        ((S.reads reader.new ≡ 1000000) × (S.ends reader.new ≡ S.ends reader.old)) }
-    ensures failed_read { S.failures reader.old < S.failures reader.new → (result ≡ Ended.ReadFault) ⊎ (result ≡ Ended.WriteFault) }
-    ensures write_fault { (result ≡ Ended.WriteFault) ↔ (0 < W.failures writer.new) }
+    ensures faults { RunFaults 1000000 result (S.reads reader.new) (S.ends reader.old) (S.ends reader.new) (S.failures reader.old) (S.failures reader.new)
+        (W.failures writer.new) }
     ensures early { WrittenEarly (told (start dpid) explained) (S.answers reader.old) (S.answers reader.new) (W.taken writer.old) (W.taken writer.new) }
 {
     print_file::<L, _, _, _>(alloc, dpid, MOST_READS, &Explaining, reader, writer)

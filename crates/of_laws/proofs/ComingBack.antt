@@ -1,6 +1,7 @@
 -- A configuration comes back from its file.
-use Rattle.std.proofs.Common.{◌≡◌, ℕ, suc, ◌+◌, ◌<◌, ◌≤◌, eqb, true, List, [], ◌∷◌, ◌++◌, length, None, refl, ◌∙◌, ap, subst, arith}
+use Rattle.std.proofs.Common.{◌≡◌, ℕ, suc, ◌+◌, ◌<◌, ◌≤◌, eqb, true, List, [], ◌∷◌, ◌++◌, length, None, refl, sym, ◌∙◌, ap, subst, arith}
 use Rattle.std.specs.Prelude.{map, replicate, slice_index_or}
+use Rattle.std.proofs.lemmas.Grind.{flat_map-append}
 use Rattle.std.specs.List.{AllByRecursion, flat_map, list_all}
 use Rattle.std.proofs.lemmas.Bool.{and_from, and_parts, eq-eqb, lt-ltb, not-true}
 use Rattle.std.proofs.lemmas.List.{length-map}
@@ -26,7 +27,8 @@ use Rattle.of_text.proofs.TextLemmas.{all_back, all_front}
 use Rattle.of_messages.specs.CanonicalGroups.{has_numbers}
 use Rattle.of_messages.specs.Written.{hello_bytes}
 use Rattle.of_session.specs.Session.{greeting}
-use Rattle.of_build.specs.Building.{BuildsOf, add_lines, build_text, group_lines, hello, in_turn, chunk_line}
+use Rattle.of_build.specs.Building.{BuildsOf, build_text, hello, chunk_line}
+use Rattle.of_build.specs.Listing.{flow_adds, group_adds, in_turn, messages_of}
 use Rattle.of_datapath.specs.declared.effect.Effect.TheVariants.{Answer}
 use Rattle.of_switch.specs.declared.event.Event.{Event}
 use Rattle.of_switch.specs.declared.event.Event.TheVariants.{Connect, Chunk}
@@ -136,14 +138,15 @@ hello_shown : IsShown hello
 hello_shown = record { each = are_bytes hello (record { each = (omega arith, (omega arith, (omega arith, (omega arith, (omega arith, (omega arith, (omega arith, (omega arith, tt)))))))) }); some = omega arith; few = omega arith }
 
 file_means : (c : Configuration) → IsConfig c → Means (build_text c) (Connect ∷ Chunk hello ∷ later c)
-unfolding build_text later
+unfolding build_text messages_of later
 file_means c k =
-    let flows = add_lines (1 + length (in_turn c.groups)) (all_flows c.tables) in
+    let groups = group_adds 1 (in_turn c.groups) in
+    let adds = flow_adds (1 + length (in_turn c.groups)) (all_flows c.tables) in
+    let flows = flat_map chunk_line adds in
     let sent = groups_sent c.groups (config_groups c k) in
-    means_connect (chunk_line hello ++ (group_lines 1 (in_turn c.groups) ++ flows)) (Chunk hello ∷ later c)
-    (means_chunk hello (group_lines 1 (in_turn c.groups) ++ flows) (later c) hello_shown
-    (groups_shown 1 c.groups flows (flow_events (1 + length (in_turn c.groups)) (all_flows c.tables)) sent
-    (flows_shown c.groups 0 c.tables (all_sent c k) (1 + length (in_turn c.groups)))))
+    let rows = subst (λ (text : List ℕ). Means text (later c)) (sym (flat_map-append chunk_line groups adds)) (groups_shown 1 c.groups flows (flow_events (1 + length (in_turn c.groups)) (all_flows c.tables)) sent
+    (flows_shown c.groups 0 c.tables (all_sent c k) (1 + length (in_turn c.groups)))) in
+    means_connect (chunk_line hello ++ flat_map chunk_line (messages_of c)) (Chunk hello ∷ later c) (means_chunk hello (flat_map chunk_line (messages_of c)) (later c) hello_shown rows)
 
 -- ---- the run
 

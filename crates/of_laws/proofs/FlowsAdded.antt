@@ -1,7 +1,7 @@
 -- Flows that are added, each after those before it.
 use Rattle.std.proofs.Common.{◌≡◌, ℕ, zero, suc, ◌+◌, ◌<◌, ◌≤◌, eqb, Bool, true, false, not, List, [], ◌∷◌, ◌++◌, length, drop, get_or, set, None, refl, sym, ◌∙◌, ap, subst, append_assoc, arith, Ok}
 use Rattle.std.specs.Prelude.{◌&&◌, ◌||◌, map, nat_le, bit_and, replicate}
-use Rattle.std.specs.List.{AllByRecursion, list_any}
+use Rattle.std.specs.List.{AllByRecursion, list_any, flat_map}
 use Rattle.std.proofs.lemmas.Bool.{and_parts, eq-eqb, eqb-true, and_right}
 use Rattle.std.proofs.lemmas.Bool.Decides.{nat_tests}
 use Rattle.std.proofs.lemmas.Nat.{and_le_r}
@@ -30,7 +30,8 @@ use Rattle.of_messages.specs.declared.message.Message.TheVariants.{FlowMod as Is
 use Rattle.of_messages.specs.Messages.{message_of}
 use Rattle.of_messages.specs.Written.{flow_mod_bytes, flow_mod_fixed_part, flow_mod_numbers}
 use Rattle.of_messages.proofs.Appended.{length_flow_mod}
-use Rattle.of_build.specs.Building.{add_of, add_lines}
+use Rattle.of_build.specs.Building.{chunk_line}
+use Rattle.of_build.specs.Listing.{add_of, flow_adds}
 use Rattle.of_buffers.specs.Buffers.{none_held}
 use Rattle.of_switch.specs.declared.event.Event.{Event}
 use Rattle.of_switch.specs.declared.event.Event.TheVariants.{Chunk}
@@ -257,11 +258,11 @@ flows_lead dpid xid gs ts n sent =
 
 -- ---- their rows
 
-shown_table : (xid k : ℕ) (fs rest : List TextFlow) → AllByRecursion (IsSent k) fs → ((x : ℕ) → Means (add_lines x rest) (flow_events x rest)) → Means (add_lines xid (fs ++ rest)) (flow_events xid (fs ++ rest))
+shown_table : (xid k : ℕ) (fs rest : List TextFlow) → AllByRecursion (IsSent k) fs → ((x : ℕ) → Means (flat_map chunk_line (flow_adds x rest)) (flow_events x rest)) → Means (flat_map chunk_line (flow_adds xid (fs ++ rest))) (flow_events xid (fs ++ rest))
 shown_table xid k [] rest sent others = others xid
 shown_table xid k (f ∷ fs) rest sent others =
-    means_chunk (flow_mod_bytes xid (add_of f)) (add_lines (xid + 1) (fs ++ rest)) (flow_events (xid + 1) (fs ++ rest)) (shown_flow xid k f sent.0) (shown_table (xid + 1) k fs rest sent.1 others)
+    means_chunk (flow_mod_bytes xid (add_of f)) (flat_map chunk_line (flow_adds (xid + 1) (fs ++ rest))) (flow_events (xid + 1) (fs ++ rest)) (shown_flow xid k f sent.0) (shown_table (xid + 1) k fs rest sent.1 others)
 
-pub flows_shown : (gs : List TextGroup) (k : ℕ) (ts : List (List TextFlow)) → AreSent gs k ts → (xid : ℕ) → Means (add_lines xid (all_flows ts)) (flow_events xid (all_flows ts))
+pub flows_shown : (gs : List TextGroup) (k : ℕ) (ts : List (List TextFlow)) → AreSent gs k ts → (xid : ℕ) → Means (flat_map chunk_line (flow_adds xid (all_flows ts))) (flow_events xid (all_flows ts))
 flows_shown gs k [] sent xid = means_end
 flows_shown gs k (fs ∷ rest) sent xid = shown_table xid k fs (all_flows rest) sent.0.sent (flows_shown gs (suc k) rest sent.1)

@@ -1,7 +1,7 @@
 -- Groups that are added in turn.
 use Rattle.std.proofs.Common.{◌≡◌, ℕ, suc, ◌+◌, ◌<◌, ◌≤◌, eqb, Bool, true, false, not, cond, List, [], ◌∷◌, ◌++◌, length, Option, Some, None, refl, sym, ◌∙◌, ap, subst, append_assoc, arith}
 use Rattle.std.specs.Prelude.{◌&&◌, ◌||◌, map, filter, nat_le, nat_lt}
-use Rattle.std.specs.List.{AllByRecursion, list_all}
+use Rattle.std.specs.List.{AllByRecursion, list_all, flat_map}
 use Rattle.std.specs.Option.{option_map_or}
 use Rattle.std.proofs.lemmas.Bool.{and_parts, eq-eqb, eqb-true, not-true}
 use Rattle.std.proofs.lemmas.Bool.Decides.{nat_tests}
@@ -28,7 +28,8 @@ use Rattle.of_messages.specs.declared.message.Message.TheVariants.{GroupMod as I
 use Rattle.of_messages.specs.CanonicalGroups.{as_written, canonical_buckets, group_add_bytes, group_add_fixed_part, has_numbers}
 use Rattle.of_messages.proofs.BucketsWritten.{buckets_short, length_front}
 use Rattle.of_messages.proofs.GroupAgain.{group_add_again}
-use Rattle.of_build.specs.Building.{group_lines, in_turn, new_of, of_length, chunk_line}
+use Rattle.of_build.specs.Building.{chunk_line}
+use Rattle.of_build.specs.Listing.{group_adds, in_turn, new_of, of_length}
 use Rattle.of_switch.specs.declared.event.Event.{Event}
 use Rattle.of_switch.specs.declared.event.Event.TheVariants.{Chunk}
 use Rattle.of_switch.specs.GroupMods.{refused_for}
@@ -275,13 +276,13 @@ groups_lead dpid gs ts more t now all rest xid =
 
 -- ---- their rows
 
-shown_all : (all : List Group) (xid : ℕ) (gs : List TextGroup) (rest : List ℕ) (more : List Event) → AllByRecursion (IsSentGroup all) gs → Means rest more → Means (group_lines xid gs ++ rest) (group_events xid gs more)
+shown_all : (all : List Group) (xid : ℕ) (gs : List TextGroup) (rest : List ℕ) (more : List Event) → AllByRecursion (IsSentGroup all) gs → Means rest more → Means (flat_map chunk_line (group_adds xid gs) ++ rest) (group_events xid gs more)
 shown_all all xid [] rest more sent others = others
 shown_all all xid (g ∷ gs) rest more sent others =
-    subst (λ (file : List ℕ). Means file (group_events xid (g ∷ gs) more)) (sym (append_assoc (chunk_line (group_add_bytes xid (new_of g))) (group_lines (xid + 1) gs) rest))
-    (means_chunk (group_add_bytes xid (new_of g)) (group_lines (xid + 1) gs ++ rest) (group_events (xid + 1) gs more) (shown_group xid all g sent.0) (shown_all all (xid + 1) gs rest more sent.1 others))
+    subst (λ (file : List ℕ). Means file (group_events xid (g ∷ gs) more)) (sym (append_assoc (chunk_line (group_add_bytes xid (new_of g))) (flat_map chunk_line (group_adds (xid + 1) gs)) rest))
+    (means_chunk (group_add_bytes xid (new_of g)) (flat_map chunk_line (group_adds (xid + 1) gs) ++ rest) (group_events (xid + 1) gs more) (shown_group xid all g sent.0) (shown_all all (xid + 1) gs rest more sent.1 others))
 
-pub groups_shown : (xid : ℕ) (gs : List TextGroup) (rest : List ℕ) (more : List Event) → AreSentGroups gs → Means rest more → Means (group_lines xid (in_turn gs) ++ rest) (group_events xid (in_turn gs) more)
+pub groups_shown : (xid : ℕ) (gs : List TextGroup) (rest : List ℕ) (more : List Event) → AreSentGroups gs → Means rest more → Means (flat_map chunk_line (group_adds xid (in_turn gs)) ++ rest) (group_events xid (in_turn gs) more)
 groups_shown xid gs rest more all others =
     let kept : (n : ℕ) → AllByRecursion (IsSentGroup (groups_at 0 gs)) (of_length gs n gs) = λ n. all_kept (IsSentGroup (groups_at 0 gs)) (of_len gs n) gs all.each in
     let each : AllByRecursion (IsSentGroup (groups_at 0 gs)) (in_turn gs) =

@@ -25,7 +25,7 @@ use Rattle.of_messages.specs.GroupMods.{group_mod_of, group_of, kind_of}
 use Rattle.of_messages.specs.Heads.{header_length, type_of, version_of}
 use Rattle.of_messages.specs.Messages.{message_of}
 use Rattle.of_messages.specs.declared.group_mod.NewGroup.{NewGroup}
-use Rattle.of_build.specs.Building.{new_of}
+use Rattle.of_build.specs.Listing.{new_of}
 use Rattle.of_text.specs.Groups.{TextBucket, TextGroup, bucket_of, buckets_of}
 use Rattle.of_text.specs.Refusals.{buckets_refusals, list_refusals, or_else}
 use Rattle.of_text.proofs.RefusalLemmas.{first_append}

@@ -21,7 +21,7 @@ use Rattle.of_messages.specs.declared.message.FlowModCommand.{FlowModCommand}
 use Rattle.of_messages.specs.declared.message.FlowModCommand.TheVariants.{Add}
 use Rattle.of_messages.specs.Messages.{command_said, flow_mod_by, flow_mod_of, instructions_for, message_of}
 use Rattle.of_messages.specs.Written.{flow_mod_bytes, flow_mod_numbers}
-use Rattle.of_build.specs.Building.{add_of}
+use Rattle.of_build.specs.Listing.{add_of}
 use Rattle.of_text.specs.Flows.{Flow, Step, Apply, Clear, Write, Metadata, Goto}
 use Rattle.of_text.specs.Kept.{instruction_of, instructions_of}
 use Rattle.of_text.specs.Refusals.{flow_refusals, goes_with, goto_refusals, match_refusals, or_else, step_refusals, steps_refusals}

@@ -16,6 +16,7 @@ use Rattle.of_replay.specs.Rows.{row_of, rows_of}
 use Rattle.of_replay.specs.Play.{lines_read, but_last, earlier_lines, EndsPrinting, PrintsLines}
 use Rattle.of_replay.specs.Output.{printed_from}
 use Rattle.of_replay.specs.RowTexts.{RowText, plain, told}
+use Rattle.of_replay.specs.WholeFiles.{RunFaults}
 use Rattle.of_replay.specs.Stepping.{LineGoes, Prints, Within, Halts, ChunkGoes, Plays, PlayedAll, PlaysRead, ReadSoFar, WritesFail, ReadsFail, ended_so}
 use Rattle.of_replay.proofs.Lines.{within_start, within_ends, within_played, within_end_halts, within_open, prints_front, tale_join, plain_is}
 use Rattle.of_replay.proofs.TellingLemmas.{appends-none, appends-then, answers-none, told_more, given-more}
@@ -249,7 +250,7 @@ not_write (Err Memory) writes w e is = cc
 not_write (Err Read) writes w e is = cc
 not_write (Err Write) writes w e is = omega (arith, w, e)
 
-pub done_by : (most : ℕ) (r : Result (Unit {0}) Halt) (reads ends ends' failures failures' writes : ℕ) → ReadsFail most r reads ends ends' failures failures' → WritesFail r writes → ended_so r ≡ Done → (failures' ≡ failures) × (ends' ≡ ends + 1) × (writes ≡ 0)
+done_by : (most : ℕ) (r : Result (Unit {0}) Halt) (reads ends ends' failures failures' writes : ℕ) → ReadsFail most r reads ends ends' failures failures' → WritesFail r writes → ended_so r ≡ Done → (failures' ≡ failures) × (ends' ≡ ends + 1) × (writes ≡ 0)
 done_by most (Ok u) reads ends ends' failures failures' writes h w e = (h.1, h.0, w)
 done_by most (Err (Bad n)) reads ends ends' failures failures' writes h w e = cc
 done_by most (Err Memory) reads ends ends' failures failures' writes h w e = cc
@@ -260,23 +261,56 @@ once_or : (most : ℕ) (reads failures failures' : ℕ) → (failures' ≡ failu
 once_or most reads failures failures' (inl e) = omega (arith, e)
 once_or most reads failures failures' (inr h) = omega (arith, h.0)
 
-pub once_by : (most : ℕ) (r : Result (Unit {0}) Halt) (reads ends ends' failures failures' : ℕ) → ReadsFail most r reads ends ends' failures failures' → failures' ≤ failures + 1
+once_by : (most : ℕ) (r : Result (Unit {0}) Halt) (reads ends ends' failures failures' : ℕ) → ReadsFail most r reads ends ends' failures failures' → failures' ≤ failures + 1
 once_by most (Ok u) reads ends ends' failures failures' h = omega (arith, h.1)
 once_by most (Err (Bad n)) reads ends ends' failures failures' h = omega (arith, h)
 once_by most (Err Memory) reads ends ends' failures failures' h = omega (arith, h)
 once_by most (Err Read) reads ends ends' failures failures' h = once_or most reads failures failures' h.1
 once_by most (Err Write) reads ends ends' failures failures' h = h
 
-pub failed_by : (most : ℕ) (r : Result (Unit {0}) Halt) (reads ends ends' failures failures' : ℕ) → ReadsFail most r reads ends ends' failures failures' → failures < failures' → (ended_so r ≡ ReadFault) ⊎ (ended_so r ≡ WriteFault)
+failed_by : (most : ℕ) (r : Result (Unit {0}) Halt) (reads ends ends' failures failures' : ℕ) → ReadsFail most r reads ends ends' failures failures' → failures < failures' → (ended_so r ≡ ReadFault) ⊎ (ended_so r ≡ WriteFault)
 failed_by most (Ok u) reads ends ends' failures failures' h lt = absurd (omega (arith, h.1, lt))
 failed_by most (Err (Bad n)) reads ends ends' failures failures' h lt = absurd (omega (arith, h, lt))
 failed_by most (Err Memory) reads ends ends' failures failures' h lt = absurd (omega (arith, h, lt))
 failed_by most (Err Read) reads ends ends' failures failures' h lt = inl refl
 failed_by most (Err Write) reads ends ends' failures failures' h lt = inr refl
 
-pub unwritten_by : (r : Result (Unit {0}) Halt) (writes : ℕ) → WritesFail r writes → (ended_so r ≡ WriteFault) ↔ (0 < writes)
+unwritten_by : (r : Result (Unit {0}) Halt) (writes : ℕ) → WritesFail r writes → (ended_so r ≡ WriteFault) ↔ (0 < writes)
 unwritten_by (Ok u) writes w = (λ e. cc, λ lt. absurd (omega (arith, w, lt)))
 unwritten_by (Err (Bad n)) writes w = (λ e. cc, λ lt. absurd (omega (arith, w, lt)))
 unwritten_by (Err Memory) writes w = (λ e. cc, λ lt. absurd (omega (arith, w, lt)))
 unwritten_by (Err Read) writes w = (λ e. cc, λ lt. absurd (omega (arith, w, lt)))
 unwritten_by (Err Write) writes w = (λ e. w, λ lt. refl)
+
+limited_by : (most : ℕ) (r : Result (Unit {0}) Halt) (reads ends ends' failures failures' : ℕ) → ReadsFail most r reads ends ends' failures failures' → ended_so r ≡ ReadFault → (failures < failures') ⊎ ((reads ≡ most) × (ends' ≡ ends))
+limited_by most (Ok u) reads ends ends' failures failures' h e = cc
+limited_by most (Err (Bad n)) reads ends ends' failures failures' h e = cc
+limited_by most (Err Memory) reads ends ends' failures failures' h e = cc
+limited_by most (Err Read) reads ends ends' failures failures' h e = either h.1
+  where
+    either : (failures' ≡ failures + 1) ⊎ ((failures' ≡ failures) × (reads ≡ most)) → (failures < failures') ⊎ ((reads ≡ most) × (ends' ≡ ends))
+    either (inl one) = inl (omega (arith, one))
+    either (inr none) = inr (none.1, h.0)
+limited_by most (Err Write) reads ends ends' failures failures' h e = cc
+
+pub run_faults : (most : ℕ) (r : Result (Unit {0}) Halt) (ended : Ended) (reads ends ends' failures failures' writes : ℕ) → ended ≡ ended_so r → ReadsFail most r reads ends ends' failures failures' → reads ≤ most → WritesFail r writes
+    → RunFaults most ended reads ends ends' failures failures' writes
+run_faults most r ended reads ends ends' failures failures' writes is h few w = rw is (record {
+  done = done_by most r reads ends ends' failures failures' writes h w;
+  few = few;
+  once = once_by most r reads ends ends' failures failures' h;
+  read_fault = limited_by most r reads ends ends' failures failures' h;
+  failed_read = failed_by most r reads ends ends' failures failures' h;
+  write_fault = unwritten_by r writes w;
+})
+
+-- memory ran out before the first read
+pub unread_faults : (most ends failures reads writes : ℕ) → reads ≡ 0 → writes ≡ 0 → RunFaults most NoMemory reads ends ends failures failures writes
+unread_faults most ends failures reads writes r w = record {
+  done = λ e. cc;
+  few = omega (arith, r);
+  once = omega arith;
+  read_fault = λ e. cc;
+  failed_read = λ lt. absurd (omega (arith, lt));
+  write_fault = (λ e. cc, λ lt. absurd (omega (arith, w, lt)));
+}

@@ -35,6 +35,20 @@ unreadable n (line ∷ lines) = if is_line line then unreadable (n + 1) lines el
 abbrev pub bad_line : List ℕ → Option ℕ
 bad_line file = unreadable 0 (lines_of file)
 
+-- FAULTS OF RUNS over the rows of a file, of at most so many reads, by how many reads there were, found the end and failed, and how many writes failed
+pub record RunFaults (most : ℕ) (result : Ended) (reads ends ends' failures failures' writes : ℕ) : Type 0 where
+  -- no read and no write failed, and the end was read
+  pub done : result ≡ Done → (failures' ≡ failures) × (ends' ≡ ends + 1) × (writes ≡ 0)
+  pub few : reads ≤ most
+  -- one read fails at most
+  pub once : failures' ≤ failures + 1
+  -- a read failed, or so many reads found no end
+  pub read_fault : result ≡ ReadFault → (failures < failures') ⊎ ((reads ≡ most) × (ends' ≡ ends))
+  -- what was read before is written after it, and that may fail, too
+  pub failed_read : failures < failures' → (result ≡ ReadFault) ⊎ (result ≡ WriteFault)
+  -- exactly where a write failed
+  pub write_fault : (result ≡ WriteFault) ↔ (0 < writes)
+
 -- FAULTS OF FILES, by how many reads there were, found the end and failed, and how many writes failed
 pub record Faults (result : Ended) (reads ends ends' failures failures' writes : ℕ) : Type 0 where
   -- no read and no write failed, and the end was read

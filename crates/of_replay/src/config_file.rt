@@ -19,10 +19,7 @@ fn configured(alloc: Global, file: &[u8]) -> Result<Config, Ended>
     match assemble(alloc, file) {
         Ok(config) => Ok(config),
         Err(TextFault::NoMemory) => Err(Ended::NoMemory),
-        Err(TextFault::Syntax(line)) => Err(Ended::Text(TextFault::Syntax(line))),
-        Err(TextFault::Refused { line, code }) => {
-            Err(Ended::Text(TextFault::Refused { line, code }))
-        }
+        Err(fault) => Err(Ended::Text(fault)),
     }
 }
 

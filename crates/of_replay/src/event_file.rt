@@ -1,5 +1,5 @@
 //! Event files from a source, played on a new switch, and what it gives to a sink.
-ghost use Rattle.std.specs.Prelude.{◌≡◌, ◌⊎◌, ◌↔◌, ◌<◌, ◌≤◌, ◌+◌, IfOk, replicate};
+ghost use Rattle.std.specs.Prelude.{◌≡◌, IfOk, replicate};
 ghost use Rattle.of_switch.specs.State.{start};
 ghost use Rattle.of_replay.specs.Output.{printed_from};
 ghost use Rattle.of_replay.specs.Play.{PrintsLines, WrittenEarly};
@@ -7,6 +7,7 @@ ghost use Rattle.of_replay.specs.RowTexts.{told};
 ghost use Rattle.of_replay.specs.Rows.{rows_of};
 ghost use Rattle.of_replay.specs.Ended.{status_of};
 ghost use Rattle.of_replay.specs.Stepping.{ended_so};
+ghost use Rattle.of_replay.specs.WholeFiles.{RunFaults};
 
 use crate::halt::Halt;
 use crate::io::{Sink, Source};
@@ -97,14 +98,8 @@ pub fn print_file<L: Lookup, T: RowPrinter<L>, S: Source, W: Sink>(
     requires failures { W.failures writer.old ≡ 0 }
     ensures output { PrintsLines (told (start dpid) T.tale) result (S.answers reader.old) (S.answers reader.new) (S.ends reader.old) (S.ends reader.new)
         (W.taken writer.old) (W.taken writer.new) }
-    ensures done { result ≡ Ended.Done → (S.failures reader.new ≡ S.failures reader.old) × (S.ends reader.new ≡ S.ends reader.old + 1) ×
-        (W.failures writer.new ≡ 0) }
-    ensures reads { S.reads reader.new ≤ most }
-    ensures once { S.failures reader.new ≤ S.failures reader.old + 1 }
-    ensures read_fault { result ≡ Ended.ReadFault → (S.failures reader.old < S.failures reader.new) ⊎
-        ((S.reads reader.new ≡ most) × (S.ends reader.new ≡ S.ends reader.old)) }
-    ensures failed_read { S.failures reader.old < S.failures reader.new → (result ≡ Ended.ReadFault) ⊎ (result ≡ Ended.WriteFault) }
-    ensures write_fault { (result ≡ Ended.WriteFault) ↔ (0 < W.failures writer.new) }
+    ensures faults { RunFaults most result (S.reads reader.new) (S.ends reader.old) (S.ends reader.new) (S.failures reader.old) (S.failures reader.new)
+        (W.failures writer.new) }
     ensures early { WrittenEarly (told (start dpid) T.tale) (S.answers reader.old) (S.answers reader.new) (W.taken writer.old) (W.taken writer.new) }
 {
     let Ok(mut buffer) = zeros(alloc, READ_SIZE) else {
@@ -131,14 +126,8 @@ pub fn replay<L: Lookup, S: Source, W: Sink>(
     requires failures { W.failures writer.old ≡ 0 }
     ensures output { PrintsLines (λ lines. printed_from (start dpid) (rows_of lines).events) result (S.answers reader.old) (S.answers reader.new)
         (S.ends reader.old) (S.ends reader.new) (W.taken writer.old) (W.taken writer.new) }
-    ensures done { result ≡ Ended.Done → (S.failures reader.new ≡ S.failures reader.old) × (S.ends reader.new ≡ S.ends reader.old + 1) ×
-        (W.failures writer.new ≡ 0) }
-    ensures reads { S.reads reader.new ≤ 1000000 }
-    ensures once { S.failures reader.new ≤ S.failures reader.old + 1 }
-    ensures read_fault { result ≡ Ended.ReadFault → (S.failures reader.old < S.failures reader.new) ⊎
-        ((S.reads reader.new ≡ 1000000) × (S.ends reader.new ≡ S.ends reader.old)) }
-    ensures failed_read { S.failures reader.old < S.failures reader.new → (result ≡ Ended.ReadFault) ⊎ (result ≡ Ended.WriteFault) }
-    ensures write_fault { (result ≡ Ended.WriteFault) ↔ (0 < W.failures writer.new) }
+    ensures faults { RunFaults 1000000 result (S.reads reader.new) (S.ends reader.old) (S.ends reader.new) (S.failures reader.old) (S.failures reader.new)
+        (W.failures writer.new) }
     ensures early { WrittenEarly (λ lines. printed_from (start dpid) (rows_of lines).events) (S.answers reader.old) (S.answers reader.new)
         (W.taken writer.old) (W.taken writer.new) }
 {

@@ -1,3 +1,8 @@
+//! What stops a run.
+ghost use Rattle.of_replay.specs.declared.halt.Halt.TheVariants.{Memory};
+
+use std::alloc::AllocError;
+
 /// What stops a run before the end.
 #[derive(Clone, Copy, Debug, PartialEq, Eq)]
 pub enum Halt {
@@ -9,4 +14,14 @@ pub enum Halt {
     Read,
     /// A write failed.
     Write,
+}
+
+impl From<AllocError> for Halt {
+    ghost use Rattle.std.specs.Prelude.{◌≡◌};
+
+    ghost from_gives = { λ _ halt. halt ≡ Memory };
+
+    fn from(_error: AllocError) -> Halt {
+        Halt::Memory
+    }
 }

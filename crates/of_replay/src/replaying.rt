@@ -17,7 +17,7 @@ use crate::telling::RowPrinter;
 use of_classifier::Lookup;
 use of_switch::Switch;
 use of_wire::{front_of, rest_from};
-use std::alloc::{AllocError, Global};
+use std::alloc::Global;
 
 /// A run of a file's rows, which are played as they are read: of the file, only the line that has begun is kept.
 #[derive(Drop)]
@@ -69,10 +69,8 @@ impl<L: Lookup> Replaying<L> {
             self.new.printer }
         ensures number { self.new.number ≡ self.old.number }
     {
-        let row = match read_row(self.open.bytes(), &mut self.bytes) {
-            Ok(Some(row)) => row,
-            Ok(None) => return Err(Halt::Bad(self.number)),
-            Err(AllocError) => return Err(Halt::Memory),
+        let Some(row) = read_row(self.open.bytes(), &mut self.bytes)? else {
+            return Err(Halt::Bad(self.number));
         };
         self.text.clear();
         let told = teller.tell(
@@ -86,10 +84,8 @@ impl<L: Lookup> Replaying<L> {
         if told.is_err() {
             return Err(Halt::Memory);
         }
-        match self.printer.print(&self.text) {
-            Ok(()) => Ok(()),
-            Err(AllocError) => Err(Halt::Memory),
-        }
+        self.printer.print(&self.text)?;
+        Ok(())
     }
 
     // Plays the open line, and begins another.
@@ -120,10 +116,8 @@ impl<L: Lookup> Replaying<L> {
         ensures memory { IfErr result (λ halt. halt ≡ Halt.Memory) }
         ensures kept { (self.new.number ≡ self.old.number) × (self.new.switch ≡ self.old.switch) × (self.new.printer ≡ self.old.printer) }
     {
-        match self.open.extend(part) {
-            Ok(()) => Ok(()),
-            Err(AllocError) => Err(Halt::Memory),
-        }
+        self.open.extend(part)?;
+        Ok(())
     }
 
     // Bytes are read: plays the lines that they end. Their text is written, or still to be written.

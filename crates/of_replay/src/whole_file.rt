@@ -15,10 +15,8 @@ fn keep(file: &mut Vec<u8>, part: &[u8]) -> Result<(), Halt>
     ensures kept { OnOk result (file.new.items ≡ file.old.items ++ part.now) }
     ensures memory { IfErr result (λ halt. halt ≡ Halt.Memory) }
 {
-    match file.extend_from_slice(part) {
-        Ok(()) => Ok(()),
-        Err(_) => Err(Halt::Memory),
-    }
+    file.extend_from_slice(part)?;
+    Ok(())
 }
 
 /// Reads all bytes of a source.

@@ -1,4 +1,5 @@
-use of_config::{ConfigFault, build, config_of, messages};
+use of_build::messages;
+use of_config::{ConfigFault, build, config_of};
 use of_test_rows::bytes_of;
 use of_text::{Config, assemble, disassemble};
 use of_wire::{Bytes, Code};

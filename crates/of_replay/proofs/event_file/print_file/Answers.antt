@@ -1,5 +1,5 @@
 use Rattle.of_replay.proofs.Early.{early_none}
-use Rattle.of_replay.proofs.WholeRuns.{done_by, nothing_read, once_by, failed_by, unwritten_by}
+use Rattle.of_replay.proofs.WholeRuns.{nothing_read, run_faults, unread_faults}
 use Rattle.std.proofs.Common.{◌≡◌, ◌∙◌, refl}
 use Rattle.of_switch.specs.State.{start}
 use Rattle.of_replay.proofs.event_file.print_file.Goals as goal
@@ -9,21 +9,14 @@ returns-clause-output g c =
     let new : c.new-replaying.result.switch ≡ start c.args.dpid = c.new-replaying.ensures.2 ∙ c.in-Ok-new.ensures in
     rw c.ended_by.ensures (rw new at c.play.ensures.plays)
 
-pub returns-clause-done : goal.returns-clause-done
-returns-clause-done g c =
-    rw c.ended_by.ensures (done_by c.args.most c.play.result (g.S.Source.reads c.play.new.reader) (g.S.Source.ends c.args.reader.now) (g.S.Source.ends c.play.new.reader) (g.S.Source.failures c.args.reader.now) (g.S.Source.failures c.play.new.reader) (g.W.Sink.failures c.play.new.writer)
-    c.play.ensures.reads c.play.ensures.writes)
+pub returns-clause-faults : goal.returns-clause-faults
+returns-clause-faults g c = run_faults c.args.most c.play.result _ _ _ _ _ _ _ c.ended_by.ensures c.play.ensures.reads c.play.ensures.few c.play.ensures.writes
 
-pub returns-clause-once : goal.returns-clause-once
-returns-clause-once g c =
-    once_by c.args.most c.play.result (g.S.Source.reads c.play.new.reader) (g.S.Source.ends c.args.reader.now) (g.S.Source.ends c.play.new.reader) (g.S.Source.failures c.args.reader.now) (g.S.Source.failures c.play.new.reader) c.play.ensures.reads
+pub returns-in_default-new-clause-faults : goal.returns-in_default-new-clause-faults
+returns-in_default-new-clause-faults g c = unread_faults _ _ _ _ _ c.requires.reads c.requires.failures
 
-pub returns-clause-failed_read : goal.returns-clause-failed_read
-returns-clause-failed_read g c =
-    rw c.ended_by.ensures (failed_by c.args.most c.play.result (g.S.Source.reads c.play.new.reader) (g.S.Source.ends c.args.reader.now) (g.S.Source.ends c.play.new.reader) (g.S.Source.failures c.args.reader.now) (g.S.Source.failures c.play.new.reader) c.play.ensures.reads)
-
-pub returns-clause-write_fault : goal.returns-clause-write_fault
-returns-clause-write_fault g c = rw c.ended_by.ensures (unwritten_by c.play.result (g.W.Sink.failures c.play.new.writer) c.play.ensures.writes)
+pub returns-in_default-clause-faults : goal.returns-in_default-clause-faults
+returns-in_default-clause-faults g c = unread_faults _ _ _ _ _ c.requires.reads c.requires.failures
 
 pub returns-in_default-new-clause-output : goal.returns-in_default-new-clause-output
 returns-in_default-new-clause-output g c = nothing_read (start c.args.dpid) g.T.RowPrinter.tale (g.S.Source.answers c.args.reader.now) (g.S.Source.ends c.args.reader.now) (g.W.Sink.taken c.args.writer.now)

@@ -2,8 +2,8 @@ use Rattle.std.proofs.Common.{◌≡◌, eqb, drop}
 use Rattle.of_groups.specs.Chains.{chain}
 use Rattle.of_text.specs.Groups.{TextGroup, groups_at}
 use Rattle.of_text.specs.Views.{view_groups}
-use Rattle.of_config.proofs.ListingLemmas.{Adding}
-use Rattle.of_config.proofs.listing.push_groups.Given as goal
+use Rattle.of_build.proofs.ListingLemmas.{Adding}
+use Rattle.of_build.proofs.listing.push_groups.Given as goal
 
 abbrev pub invariant-loop-group : goal.invariant-loop-group
 invariant-loop-group l = record {

@@ -1,21 +1,27 @@
 -- The messages that build a configuration, flow by flow, table by table and group by group.
-use Rattle.std.proofs.Common.{◌≡◌, ℕ, ◌+◌, ◌<◌, ◌≤◌, Bool, true, false, cond, List, [], ◌∷◌, ◌++◌, codes, length, drop, get_or, refl, sym, ◌∙◌, ap, append_assoc, add-one, drop-cons, arith}
-use Rattle.std.specs.Prelude.{filter, slice_index_or}
-use Rattle.std.specs.List.{flat_map, list_all}
-use Rattle.std.proofs.lemmas.List.{length-append}
+use Rattle.std.proofs.Common.{◌≡◌, ℕ, ◌+◌, ◌<◌, ◌≤◌, Bool, true, false, cond, List, [], ◌∷◌, ◌++◌, length, drop, get_or, refl, sym, ◌∙◌, ap, subst, append_assoc, add-one, drop-cons, arith}
+use Rattle.std.specs.Prelude.{filter, map, slice_index_or}
+use Rattle.std.specs.List.{AllByRecursion, list_all}
+use Rattle.std.proofs.lemmas.List.{length-append, length-map, get_or-map}
 use Rattle.of_messages.specs.Written.{flow_mod_bytes}
 use Rattle.of_messages.specs.CanonicalGroups.{group_add_bytes}
+use Rattle.of_groups.specs.declared.group.Group.{Group}
+use Rattle.of_groups.specs.Chains.{chain}
 use Rattle.of_groups.specs.Sound.{is_fit_group}
 use Rattle.of_text.specs.declared.flow.FlowText.{FlowText}
-use Rattle.of_text.specs.Groups.{TextGroup, groups_at}
+use Rattle.of_text.specs.declared.group.GroupText.{GroupText}
+use Rattle.of_text.specs.Groups.{TextGroup, group_at, groups_at}
 use Rattle.of_text.specs.Flows.{Flow}
-use Rattle.of_text.specs.Views.{view, view_flows}
-use Rattle.of_text.specs.Configs.{Configuration, all_flows}
+use Rattle.of_text.specs.Kept.{IsEntry}
+use Rattle.of_text.specs.Views.{view, view_flows, view_group, view_groups}
+use Rattle.of_text.specs.Configs.{all_flows}
 use Rattle.of_text.proofs.WriteLemmas.{next_flow}
-use Rattle.of_build.specs.Building.{add_lines, add_of, build_text, group_lines, hello, in_turn, new_of, chunk_line, those}
-use Rattle.of_config.specs.Listing.{flow_adds, group_adds, messages_of}
+use Rattle.of_build.specs.Listing.{add_of, flow_adds, group_adds, new_of, those}
 
 -- ---- flows
+
+pub entries_next : (table : ℕ) (fs : List FlowText) (i : ℕ) (x : FlowText) → i < length fs → x ≡ get_or fs i x → AllByRecursion (IsEntry table) (view_flows (drop i fs)) → IsEntry table (view x) × AllByRecursion (IsEntry table) (view_flows (drop (i + 1) fs))
+entries_next table fs i x lt is h = let k : AllByRecursion (IsEntry table) (view x ∷ view_flows (drop (i + 1) fs)) = subst (AllByRecursion (IsEntry table)) (next_flow fs i x lt is) h in (k.0, k.1)
 
 pub adds_next : (fs : List FlowText) (i xid : ℕ) (x : FlowText) (old new all : List (List ℕ)) → i < length fs → x ≡ get_or fs i x → new ≡ old ++ flow_mod_bytes xid (add_of (view x)) ∷ [] → old ++ flow_adds xid (view_flows (drop i fs)) ≡ all
     → new ++ flow_adds (xid + 1) (view_flows (drop (i + 1) fs)) ≡ all
@@ -110,25 +116,14 @@ three_passes a b c start one two three x y z h1 n1 h2 n2 h3 n3 =
       omega (arith, n1, n2, n3, length-append a (b ++ c), length-append b c),
     )
 
--- ---- the rows of the file
-
-rows_of_both : (a b : List (List ℕ)) → flat_map chunk_line (a ++ b) ≡ flat_map chunk_line a ++ flat_map chunk_line b
-rows_of_both [] b = refl
-rows_of_both (m ∷ a) b = ap (λ (o : List ℕ). chunk_line m ++ o) (rows_of_both a b) ∙ sym (append_assoc (chunk_line m) (flat_map chunk_line a) (flat_map chunk_line b))
-
-rows_of_groups : (xid : ℕ) (gs : List TextGroup) → group_lines xid gs ≡ flat_map chunk_line (group_adds xid gs)
-rows_of_groups xid [] = refl
-rows_of_groups xid (g ∷ gs) = ap (λ (o : List ℕ). chunk_line (group_add_bytes xid (new_of g)) ++ o) (rows_of_groups (xid + 1) gs)
-
-rows_of_flows : (xid : ℕ) (fs : List Flow) → add_lines xid fs ≡ flat_map chunk_line (flow_adds xid fs)
-rows_of_flows xid [] = refl
-rows_of_flows xid (f ∷ fs) = ap (λ (o : List ℕ). chunk_line (flow_mod_bytes xid (add_of f)) ++ o) (rows_of_flows (xid + 1) fs)
-
-pub file_rows : (c : Configuration) → build_text c ≡ codes "connect\n" ++ (chunk_line hello ++ flat_map chunk_line (messages_of c))
-unfolding build_text messages_of
-file_rows c =
-    let next = 1 + length (in_turn c.groups) in
-    ap (λ (o : List ℕ). codes "connect\n" ++ (chunk_line hello ++ o))
-    (ap (λ (o : List ℕ). o ++ add_lines next (all_flows c.tables)) (rows_of_groups 1 (in_turn c.groups))
-    ∙ (ap (λ (o : List ℕ). flat_map chunk_line (group_adds 1 (in_turn c.groups)) ++ o) (rows_of_flows next (all_flows c.tables))
-    ∙ sym (rows_of_both (group_adds 1 (in_turn c.groups)) (flow_adds next (all_flows c.tables)))))
+pub next_length : (all : List Group) (gs : List GroupText) (lengths : List ℕ) (i n e : ℕ) (d : GroupText) → i < length gs → d ≡ get_or gs i d → n ≡ get_or lengths i e
+    → lengths ≡ map (λ (g : Group). chain all g.id) (groups_at 0 (view_groups gs)) → n ≡ chain all d.head.id
+next_length all gs lengths i n e d lt is ni ls =
+    let within : i < length (groups_at 0 (view_groups gs)) = omega (arith, lt, length-map (view_groups gs) (group_at 0), length-map gs view_group) in
+    let inside : i < length (view_groups gs) = omega (arith, lt, length-map gs view_group) in
+    ni
+    ∙ (ap (λ (l : List ℕ). get_or l i e) ls
+    ∙ (get_or-map (λ (g : Group). chain all g.id) (groups_at 0 (view_groups gs)) i (group_at 0 (view_group d)) e within
+    ∙ (ap (λ (g : Group). chain all g.id) (get_or-map (group_at 0) (view_groups gs) i (view_group d) (group_at 0 (view_group d)) inside)
+    ∙ (ap (λ (g : TextGroup). chain all g.head.id) (get_or-map view_group gs i d (view_group d) lt)
+    ∙ ap (λ (g : GroupText). chain all g.head.id) (sym is)))))

@@ -1,8 +1,8 @@
 use Rattle.std.proofs.Common.{◌<◌, ◌≤◌, length, ap, arith}
 use Rattle.std.proofs.lemmas.List.{length-map}
 use Rattle.of_text.specs.Views.{view, view_flows}
-use Rattle.of_config.proofs.ListingLemmas.{table_next}
-use Rattle.of_config.proofs.listing.push_tables.Goals as goal
+use Rattle.of_build.proofs.ListingLemmas.{table_next}
+use Rattle.of_build.proofs.listing.push_tables.Goals as goal
 
 pub push_flows-requires : goal.push_flows-requires
 push_flows-requires c =

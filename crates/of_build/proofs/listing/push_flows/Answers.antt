@@ -1,7 +1,7 @@
 use Rattle.std.proofs.Common.{List, ℕ, ◌∷◌, [], ◌++◌, ◌∙◌, ap, arith}
-use Rattle.of_build.proofs.BuildLemmas.{entries_next}
-use Rattle.of_config.proofs.ListingLemmas.{adds_next}
-use Rattle.of_config.proofs.listing.push_flows.Goals as goal
+use Rattle.of_build.proofs.ListingLemmas.{entries_next}
+use Rattle.of_build.proofs.ListingLemmas.{adds_next}
+use Rattle.of_build.proofs.listing.push_flows.Goals as goal
 
 pub flow_message-requires : goal.flow_message-requires
 flow_message-requires c = (entries_next c.args.table c.args.flows.now c.loop-flow.flow-index c.flow-item.result (omega arith) c.flow-item.is c.loop-flow.invariant.entries).0

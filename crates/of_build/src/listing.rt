@@ -9,8 +9,7 @@ ghost use Rattle.of_text.specs.Configs.{all_flows};
 ghost use Rattle.of_text.specs.Groups.{buckets_of, groups_at};
 ghost use Rattle.of_text.specs.Kept.{IsEntry};
 ghost use Rattle.of_text.specs.Views.{view, view_flows, view_group, view_groups};
-ghost use Rattle.of_build.specs.Building.{add_of, in_turn, of_length, those};
-ghost use Rattle.of_config.specs.Listing.{flow_adds, group_adds, messages_of};
+ghost use Rattle.of_build.specs.Listing.{add_of, flow_adds, group_adds, in_turn, messages_of, of_length, those};
 
 use of_groups::chain_lengths;
 use of_messages::{FlowMod, FlowModCommand, NewGroup, write_flow_mod, write_group_mod};

@@ -2,12 +2,12 @@ use Rattle.std.proofs.Common.{◌≡◌, ◌+◌, ◌++◌, drop}
 use Rattle.std.specs.List.{AllByRecursion}
 use Rattle.of_text.specs.Kept.{IsEntry}
 use Rattle.of_text.specs.Views.{view_flows}
-use Rattle.of_build.specs.Building.{add_lines}
-use Rattle.of_build.proofs.building.push_flows.Given as goal
+use Rattle.of_build.specs.Listing.{flow_adds}
+use Rattle.of_build.proofs.listing.push_flows.Given as goal
 
 abbrev pub invariant-loop-flow : goal.invariant-loop-flow
 invariant-loop-flow l = record {
   count : l.next ≡ l.xid + l.flow-index;
   entries : AllByRecursion (IsEntry l.table) (view_flows (drop l.flow-index l.flows));
-  rows : l.out.items ++ add_lines l.next (view_flows (drop l.flow-index l.flows)) ≡ l.fn.out.items ++ add_lines l.xid (view_flows l.flows);
+  messages : l.out.items ++ flow_adds l.next (view_flows (drop l.flow-index l.flows)) ≡ l.fn.out.items ++ flow_adds l.xid (view_flows l.flows);
 }

@@ -4,8 +4,9 @@ use Rattle.of_text.specs.Groups.{groups_at}
 use Rattle.of_text.specs.Views.{view_group, view_groups}
 use Rattle.of_text.proofs.SoundLemmas.{fit_next}
 use Rattle.of_text.proofs.WriteLemmas.{next_group}
-use Rattle.of_build.proofs.BuildLemmas.{adding_start, adding_more, next_length}
-use Rattle.of_build.proofs.building.push_groups.Goals as goal
+use Rattle.of_build.proofs.ListingLemmas.{next_length}
+use Rattle.of_build.proofs.ListingLemmas.{adding_start, adding_more}
+use Rattle.of_build.proofs.listing.push_groups.Goals as goal
 
 pub loop-group-init : goal.loop-group-init
 loop-group-init c = record { place = refl; adding = adding_start _ c.args.xid (view_groups c.args.groups.now) _ c.requires.fit }
@@ -30,5 +31,5 @@ loop-group-preserved c =
       adding =
           adding_more _ c.args.xid (view_groups c.args.groups.now) _ _ _ _ _ _ _ (view_group c.group-item.result) (eqb (get_or c.args.lengths.now l.place 0) c.args.wanted) next (ap (λ (n : ℕ). eqb n c.args.wanted) long)
           (fit_next 0 c.args.groups.now l.group-index c.group-item.result (omega arith) c.group-item.is l.invariant.adding.fit).1
-          c.in_ok-next.ensures.rows c.in_ok-next.ensures.next l.invariant.adding;
+          c.in_ok-next.ensures.messages c.in_ok-next.ensures.next l.invariant.adding;
     }
