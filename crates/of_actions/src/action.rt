@@ -1,5 +1,5 @@
 //! Actions, and the bytes of each.
-ghost use Rattle.std.specs.Prelude.{◌≡◌, ◌≤◌, ◌++◌, true, length, IsTrue, IfOk, OnOk, IfErr, Some, None};
+ghost use Rattle.std.specs.Prelude.{◌≡◌, ◌≤◌, ◌++◌, true, length, IsTrue, IfOk, OnOk, IfErr, IfSome, Some, None};
 ghost use Rattle.of_wire.specs.Refusals.{first_of};
 ghost use Rattle.of_actions.specs.Actions.{action_at, type_refusals, unknown_type as no_action_of};
 ghost use Rattle.of_actions.specs.Beginnings.{len_at};
@@ -49,8 +49,10 @@ pub enum Action {
 
 impl Action {
     /// Its row, and what it says.
+    #[tactic(auto, using(crate::proofs::RowLemmas::said_again))]
     pub fn said(self) -> (ActionRow, Argument)
-        ensures { result ≡ row_and_argument self }
+        ensures said { result ≡ row_and_argument self }
+        ensures again { action_saying result.0.kind result.1 ≡ Some self }
     {
         match self {
             Action::Output { port, max_len } => (OUTPUT, Argument::Port { port, max_len }),
@@ -65,7 +67,9 @@ impl Action {
 
     /// The action of a type that says this. None if there is none.
     pub fn of(kind: u16, argument: Argument) -> Option<Action>
-        ensures { result ≡ action_saying kind argument }
+        ensures action { result ≡ action_saying kind argument }
+        ensures kind { IfSome result (λ action. (row_and_argument action).0.kind ≡ kind) }
+        ensures says { IfSome result (λ action. (row_and_argument action).1 ≡ argument) }
     {
         match argument {
             Argument::Nothing if kind == POP_VLAN.kind => Some(Action::PopVlan),
