@@ -3,17 +3,19 @@ use Rattle.std.specs.Prelude.{ℕ, ◌+◌, ◌==◌, nat_lt, Bool, true, false,
 use Rattle.std.specs.List.{list_any}
 use Rattle.of_layers.specs.Fields.{number_of}
 use Rattle.of_actions.specs.declared.action.Action.{Action}
-use Rattle.of_actions.specs.declared.action.Action.TheVariants.{Output, PushVlan, PopVlan, Group, SetNwTtl, DecNwTtl, SetField}
+use Rattle.of_actions.specs.declared.action.Action.TheVariants.{Output, Group}
+use Rattle.of_actions.specs.declared.argument.Argument.{Argument}
+use Rattle.of_actions.specs.declared.argument.Argument.TheVariants.{Field}
+use Rattle.of_actions.specs.Rows.{said}
+
+-- a SET_FIELD of another field is of another kind
+abbrev pub field_place : Argument → ℕ
+field_place (Field field value) = number_of field
+field_place other = 0
 
 -- The kind of an action, as its rank in execution order: POP_VLAN, PUSH_VLAN, DEC_NW_TTL, SET_NW_TTL, SET_FIELD by ascending field, GROUP, OUTPUT. The standard says no more than that pops come before pushes, these before changes of the TTL, and sets, group and output last.
 abbrev pub rank : Action → ℕ
-rank PopVlan = 0
-rank (PushVlan type) = 1
-rank DecNwTtl = 2
-rank (SetNwTtl ttl) = 3
-rank (SetField field value) = 4 + number_of field
-rank (Group group) = 40
-rank (Output port max_len) = 41
+rank a = (said a).0.rank + field_place (said a).1
 
 -- a set is the list of its actions by ascending rank; this is its action of a kind
 abbrev pub held : ℕ → List Action → Option Action

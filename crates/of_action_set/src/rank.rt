@@ -1,24 +1,28 @@
 //! The kinds of actions in the order in which a set runs them.
 ghost use Rattle.std.specs.Prelude.{◌≡◌, ◌≤◌, nat_lt, length, filter};
 ghost use Rattle.std.specs.List.{list_any};
-ghost use Rattle.of_action_set.specs.Sets.{rank as rank_of, is_group as is_to_group, is_output as is_an_output};
+ghost use Rattle.of_action_set.specs.Sets.{field_place as place_of_field, rank as rank_of, is_group as is_to_group, is_output as is_an_output};
 
-use of_actions::Action;
+use of_actions::{Action, Argument};
+
+fn field_place(argument: Argument) -> u8
+    ensures place { result ≡ place_of_field argument }
+    ensures most { result ≤ 30 }
+{
+    match argument {
+        Argument::Field { field, .. } => field.row().number,
+        _ => 0,
+    }
+}
 
 /// The place of an action's kind in the order of execution (OpenFlow 1.3.5, 5.10).
+#[tactic(auto, using(crate::proofs::Kinded::rank_most))]
 pub(crate) fn rank(action: Action) -> u8
     ensures rank { result ≡ rank_of action }
     ensures most { result ≤ 41 }
 {
-    match action {
-        Action::PopVlan => 0,
-        Action::PushVlan(_) => 1,
-        Action::DecNwTtl => 2,
-        Action::SetNwTtl(_) => 3,
-        Action::SetField { field, .. } => 4 + field.row().number,
-        Action::Group(_) => 40,
-        Action::Output { .. } => 41,
-    }
+    let (row, argument) = action.said();
+    row.rank + field_place(argument)
 }
 
 fn is_group(action: Action) -> bool

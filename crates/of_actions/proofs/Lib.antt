@@ -10,3 +10,4 @@ pub mod InstructionLaws
 pub mod Computed
 pub mod InstructionsAgain
 pub mod InstructionLengths
+pub mod RowLemmas

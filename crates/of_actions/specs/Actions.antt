@@ -1,6 +1,6 @@
 -- Actions on the wire (OpenFlow 1.3.5, 7.2.5).
 use Rattle.std.specs.Prelude.{ℕ, ◌%◌, ◌==◌, nat_lt, Bool, true, not, ◌||◌, List, [], ◌∷◌, length, Option, Some, None, Result, if◌then◌else◌}
-use Rattle.std.specs.Option.{option_map}
+use Rattle.std.specs.Option.{option_map, option_map_or, option_and_then}
 use Rattle.of_wire.specs.declared.codes.TheConstants.{OFPBAC_BAD_ARGUMENT, OFPBAC_BAD_EXPERIMENTER, OFPBAC_BAD_LEN, OFPBAC_BAD_OUT_PORT, OFPBAC_BAD_TYPE, OFPBAC_TOO_MANY}
 use Rattle.of_wire.specs.declared.code.Code.{Code}
 use Rattle.of_wire.specs.Items.{Items, AreItems, items_of}
@@ -11,26 +11,32 @@ use Rattle.of_actions.specs.Beginnings.{type_at, len_at, argument_at}
 use Rattle.of_actions.specs.PortNumbers.{is_port}
 use Rattle.of_actions.specs.SetField.{set_field_at, set_value_at, set_refusals}
 use Rattle.of_actions.specs.declared.action.Action.{Action}
-use Rattle.of_actions.specs.declared.action.Action.TheVariants.{Output, PushVlan, PopVlan, Group, SetNwTtl, DecNwTtl, SetField}
+use Rattle.of_actions.specs.declared.argument.Argument.{Argument}
+use Rattle.of_actions.specs.declared.argument.Argument.TheVariants.{Nothing, Byte, Tag, Word, Port, Field}
+use Rattle.of_actions.specs.declared.rows.Form.{Form}
+use Rattle.of_actions.specs.declared.rows.Form.TheVariants as forms
+use Rattle.of_actions.specs.Rows.{row_of, action_saying}
 
 -- an action of another size: OFPBAC_BAD_LEN
 abbrev pub wrong_size : ℕ → List ℕ → Bool × Code
 wrong_size n rest = (not (len_at rest == n), OFPBAC_BAD_LEN)
 
--- The refusals of an action by its type, in order (7.4.4): of its size, OFPBAC_BAD_OUT_PORT of an OUTPUT, OFPBAC_BAD_ARGUMENT of a PUSH_VLAN, those of a set-field, OFPBAC_BAD_EXPERIMENTER, and OFPBAC_BAD_TYPE of all other types.
+-- the refusals of a form, in order: of its size, and then OFPBAC_BAD_OUT_PORT, OFPBAC_BAD_ARGUMENT of a tag, or those of a set-field
+abbrev pub form_refusals : Form → Bool → List ℕ → List (Bool × Code)
+form_refusals forms.Nothing packet_out rest = wrong_size (size tables.action_header) rest ∷ []
+form_refusals forms.Byte packet_out rest = wrong_size (size tables.action_nw_ttl) rest ∷ []
+form_refusals forms.Tag packet_out rest = wrong_size (size tables.action_push) rest ∷ (not (is_tag_type (argument_at tables.action_push rest)), OFPBAC_BAD_ARGUMENT) ∷ []
+form_refusals forms.Word packet_out rest = wrong_size (size tables.action_group) rest ∷ []
+form_refusals forms.Port packet_out rest = wrong_size (size tables.action_output) rest ∷ (not (is_port packet_out (argument_at tables.action_output rest)), OFPBAC_BAD_OUT_PORT) ∷ []
+form_refusals forms.Field packet_out rest = set_refusals rest
+
+-- a type that no row has
+abbrev pub unknown_type : ℕ → Code
+unknown_type type = if type == 0xffff then OFPBAC_BAD_EXPERIMENTER else OFPBAC_BAD_TYPE
+
+-- The refusals of an action by its type, in order (7.4.4): those of the form of its row.
 unfoldable pub type_refusals : Bool → List ℕ → List (Bool × Code)
-type_refusals packet_out rest =
-    if type_at rest == 0
-    then wrong_size (size tables.action_output) rest ∷ (not (is_port packet_out (argument_at tables.action_output rest)), OFPBAC_BAD_OUT_PORT) ∷ []
-    else if type_at rest == 17
-    then wrong_size (size tables.action_push) rest ∷ (not (is_tag_type (argument_at tables.action_push rest)), OFPBAC_BAD_ARGUMENT) ∷ []
-    else if type_at rest == 18 then wrong_size (size tables.action_header) rest ∷ []
-    else if type_at rest == 22 then wrong_size (size tables.action_group) rest ∷ []
-    else if type_at rest == 23 then wrong_size (size tables.action_nw_ttl) rest ∷ []
-    else if type_at rest == 24 then wrong_size (size tables.action_header) rest ∷ []
-    else if type_at rest == 25 then set_refusals rest
-    else if type_at rest == 0xffff then (true, OFPBAC_BAD_EXPERIMENTER) ∷ []
-    else (true, OFPBAC_BAD_TYPE) ∷ []
+type_refusals packet_out rest = option_map_or (λ r. form_refusals r.form packet_out rest) (row_of (type_at rest)) ((true, unknown_type (type_at rest)) ∷ [])
 
 -- The refusals of the action that begins `rest`, in order, after the actions `seen`: OFPBAC_TOO_MANY, OFPBAC_BAD_LEN, and those of its type.
 unfoldable pub action_refusals : Bool → List Action → List ℕ → List (Bool × Code)
@@ -40,22 +46,23 @@ action_refusals packet_out seen rest =
     ∷ (nat_lt (len_at rest) 8 || not (len_at rest % 8 == 0) || nat_lt (length rest) (len_at rest), OFPBAC_BAD_LEN)
     ∷ type_refusals packet_out rest
 
--- what the numbers of its struct say
-abbrev pub output_of : List ℕ → Option Action
-output_of (type ∷ len ∷ port ∷ max_len ∷ []) = Some (Output port max_len)
-output_of other = None
+-- what the numbers of the struct say
+abbrev pub port_of : List ℕ → Option Argument
+port_of (type ∷ len ∷ port ∷ max_len ∷ []) = Some (Port port max_len)
+port_of other = None
 
--- the action, where it is not refused: OUTPUT, PUSH_VLAN, POP_VLAN, GROUP, SET_NW_TTL, DEC_NW_TTL, SET_FIELD
+-- what an action of a form says, where it is not refused
+abbrev pub argument_of : Form → List ℕ → Option Argument
+argument_of forms.Nothing rest = Some Nothing
+argument_of forms.Byte rest = Some (Byte (argument_at tables.action_nw_ttl rest))
+argument_of forms.Tag rest = Some (Tag (argument_at tables.action_push rest))
+argument_of forms.Word rest = Some (Word (argument_at tables.action_group rest))
+argument_of forms.Port rest = port_of (numbers tables.action_output 0 rest)
+argument_of forms.Field rest = option_map (λ f. Field f (set_value_at f rest)) (set_field_at rest)
+
+-- the action, where it is not refused
 unfoldable pub action_at : List ℕ → Option Action
-action_at rest =
-    if type_at rest == 0 then output_of (numbers tables.action_output 0 rest)
-    else if type_at rest == 17 then Some (PushVlan (argument_at tables.action_push rest))
-    else if type_at rest == 18 then Some PopVlan
-    else if type_at rest == 22 then Some (Group (argument_at tables.action_group rest))
-    else if type_at rest == 23 then Some (SetNwTtl (argument_at tables.action_nw_ttl rest))
-    else if type_at rest == 24 then Some DecNwTtl
-    else if type_at rest == 25 then option_map (λ f. SetField f (set_value_at f rest)) (set_field_at rest)
-    else None
+action_at rest = option_and_then (action_saying (type_at rest)) (option_and_then (λ r. argument_of r.form rest) (row_of (type_at rest)))
 
 abbrev pub actions_of : Bool → Items Action
 actions_of packet_out = record { refusals = action_refusals packet_out; value_at = action_at; size_at = len_at }

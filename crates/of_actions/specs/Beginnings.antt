@@ -1,5 +1,5 @@
 -- What an action or an instruction begins with (OpenFlow 1.3.5, 7.2.4 and 7.2.5).
-use Rattle.std.specs.Prelude.{ℕ, List, [], ◌∷◌, drop}
+use Rattle.std.specs.Prelude.{ℕ, List, ◌∷◌, drop}
 use Rattle.byteorder.specs.Endian.{big_number}
 use Rattle.of_formats.specs.Structs.{Struct, numbers}
 

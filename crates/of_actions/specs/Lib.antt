@@ -1,3 +1,4 @@
+pub mod Rows
 pub mod PortNumbers
 pub mod Supported
 pub mod Rising

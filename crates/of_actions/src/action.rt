@@ -1,20 +1,20 @@
 //! Actions, and the bytes of each.
-ghost use Rattle.std.specs.Prelude.{◌≡◌, ◌≤◌, ◌==◌, ◌++◌, true, false, length, IsTrue, IfOk, OnOk, IfErr, Some, None};
+ghost use Rattle.std.specs.Prelude.{◌≡◌, ◌≤◌, ◌++◌, true, length, IsTrue, IfOk, OnOk, IfErr, IfSome, Some, None};
 ghost use Rattle.of_wire.specs.Refusals.{first_of};
-ghost use Rattle.of_actions.specs.Actions.{action_at, type_refusals};
-ghost use Rattle.of_actions.specs.Beginnings.{type_at, len_at};
+ghost use Rattle.of_actions.specs.Actions.{action_at, type_refusals, unknown_type as no_action_of};
+ghost use Rattle.of_actions.specs.Beginnings.{len_at};
 ghost use Rattle.of_actions.specs.CanonicalActions.{canonical_action};
+ghost use Rattle.of_actions.specs.Rows.{action_saying, said as row_and_argument};
 ghost use Rattle.of_actions.specs.Supported.{is_supported};
 
-use crate::port_number::is_port;
-use crate::set_field::{put_set_field, read_set_field};
+use crate::argument::{Argument, put_argument, read_argument};
+use crate::rows::{
+    ActionRow, DEC_NW_TTL, GROUP, OUTPUT, POP_VLAN, PUSH_VLAN, SET_FIELD, SET_NW_TTL, row_of,
+};
 use byteorder::{BigEndian, ByteOrder};
 use of_layers::Field;
-use of_wire::codes::{
-    OFPBAC_BAD_ARGUMENT, OFPBAC_BAD_EXPERIMENTER, OFPBAC_BAD_LEN, OFPBAC_BAD_OUT_PORT,
-    OFPBAC_BAD_TYPE,
-};
-use of_wire::{Code, put_u16, put_u32};
+use of_wire::Code;
+use of_wire::codes::{OFPBAC_BAD_EXPERIMENTER, OFPBAC_BAD_TYPE};
 use std::alloc::AllocError;
 
 /// What is done to a packet (OpenFlow 1.3.5, 5.12 and 7.2.5).
@@ -48,79 +48,63 @@ pub enum Action {
 }
 
 impl Action {
+    /// Its row, and what it says.
+    #[tactic(auto, using(crate::proofs::RowLemmas::said_again))]
+    pub fn said(self) -> (ActionRow, Argument)
+        ensures said { result ≡ row_and_argument self }
+        ensures again { action_saying result.0.kind result.1 ≡ Some self }
+    {
+        match self {
+            Action::Output { port, max_len } => (OUTPUT, Argument::Port { port, max_len }),
+            Action::PushVlan(ethertype) => (PUSH_VLAN, Argument::Tag(ethertype)),
+            Action::PopVlan => (POP_VLAN, Argument::Nothing),
+            Action::Group(group) => (GROUP, Argument::Word(group)),
+            Action::SetNwTtl(ttl) => (SET_NW_TTL, Argument::Byte(ttl)),
+            Action::DecNwTtl => (DEC_NW_TTL, Argument::Nothing),
+            Action::SetField { field, value } => (SET_FIELD, Argument::Field { field, value }),
+        }
+    }
+
+    /// The action of a type that says this. None if there is none.
+    pub fn of(kind: u16, argument: Argument) -> Option<Action>
+        ensures action { result ≡ action_saying kind argument }
+        ensures kind { IfSome result (λ action. (row_and_argument action).0.kind ≡ kind) }
+        ensures says { IfSome result (λ action. (row_and_argument action).1 ≡ argument) }
+    {
+        match argument {
+            Argument::Nothing if kind == POP_VLAN.kind => Some(Action::PopVlan),
+            Argument::Nothing if kind == DEC_NW_TTL.kind => Some(Action::DecNwTtl),
+            Argument::Byte(ttl) if kind == SET_NW_TTL.kind => Some(Action::SetNwTtl(ttl)),
+            Argument::Tag(ethertype) if kind == PUSH_VLAN.kind => Some(Action::PushVlan(ethertype)),
+            Argument::Word(group) if kind == GROUP.kind => Some(Action::Group(group)),
+            Argument::Port { port, max_len } if kind == OUTPUT.kind => {
+                Some(Action::Output { port, max_len })
+            }
+            Argument::Field { field, value } if kind == SET_FIELD.kind => {
+                Some(Action::SetField { field, value })
+            }
+            _ => None,
+        }
+    }
+
     /// Whether some bytes encode it: in a PACKET_OUT, or in an instruction (OpenFlow 1.3.5, 7.2.5).
     #[tactic(auto, unfolding(crate::specs::Supported::is_supported))]
     pub(crate) fn is_supported(self, packet_out: bool) -> bool
         ensures { result ≡ is_supported packet_out self }
     {
-        match self {
-            Action::Output { port, .. } => is_port(packet_out, port),
-            Action::PushVlan(ethertype) => ethertype == 0x8100 || ethertype == 0x88a8,
-            Action::PopVlan | Action::Group(_) | Action::SetNwTtl(_) | Action::DecNwTtl => true,
-            Action::SetField { field, value } => {
-                let row = field.row();
-                row.settable && value <= row.ones
-            }
-        }
+        let (_, argument) = self.said();
+        argument.is_allowed(packet_out)
     }
 }
 
-#[tactic(auto, unfolding(crate::specs::Actions::type_refusals, crate::specs::Actions::action_at, crate::specs::Supported::is_supported))]
-fn read_output(rest: &[u8], len: usize, packet_out: bool) -> Result<Action, Code>
-    requires long { 8 ≤ len }
-    requires whole { len ≤ length rest.now }
-    requires len { len ≡ len_at rest.now }
-    requires kind { type_at rest.now ≡ 0 }
-    ensures none { OnOk result (first_of (type_refusals packet_out rest.now) ≡ None) }
-    ensures action { IfOk result (λ action. action_at rest.now ≡ Some action) }
-    ensures served { IfOk result (λ action. IsTrue (is_supported packet_out action)) }
-    ensures first { IfErr result (λ code. first_of (type_refusals packet_out rest.now) ≡ Some code) }
+// Why a type is refused that no action has.
+fn unknown_type(kind: u16) -> Code
+    ensures { result ≡ no_action_of kind }
 {
-    if len != 16 {
-        return Err(OFPBAC_BAD_LEN);
-    }
-    let (_, body) = rest.split_at(4);
-    let port = BigEndian::read_u32(body);
-    if !is_port(packet_out, port) {
-        return Err(OFPBAC_BAD_OUT_PORT);
-    }
-    let (_, after) = rest.split_at(8);
-    let max_len = BigEndian::read_u16(after);
-    Ok(Action::Output { port, max_len })
-}
-
-#[tactic(auto, unfolding(crate::specs::Actions::type_refusals, crate::specs::Actions::action_at, crate::specs::Supported::is_supported))]
-fn read_push_vlan(rest: &[u8], len: usize, packet_out: bool) -> Result<Action, Code>
-    requires long { 8 ≤ len }
-    requires whole { len ≤ length rest.now }
-    requires len { len ≡ len_at rest.now }
-    requires kind { type_at rest.now ≡ 17 }
-    ensures none { OnOk result (first_of (type_refusals packet_out rest.now) ≡ None) }
-    ensures action { IfOk result (λ action. action_at rest.now ≡ Some action) }
-    ensures served { IfOk result (λ action. IsTrue (is_supported packet_out action)) }
-    ensures first { IfErr result (λ code. first_of (type_refusals packet_out rest.now) ≡ Some code) }
-{
-    if len != 8 {
-        return Err(OFPBAC_BAD_LEN);
-    }
-    let (_, body) = rest.split_at(4);
-    let ethertype = BigEndian::read_u16(body);
-    if ethertype != 0x8100 && ethertype != 0x88a8 {
-        return Err(OFPBAC_BAD_ARGUMENT);
-    }
-    Ok(Action::PushVlan(ethertype))
-}
-
-// The action, if its length is 8.
-fn with_eight_bytes(action: Action, len: usize) -> Result<Action, Code>
-    ensures eight { OnOk result ((len == 8) ≡ true) }
-    ensures same { IfOk result (λ read. read ≡ action) }
-    ensures other { IfErr result (λ code. ((len == 8) ≡ false) × (code ≡ OFPBAC_BAD_LEN)) }
-{
-    if len == 8 {
-        Ok(action)
+    if kind == 0xffff {
+        OFPBAC_BAD_EXPERIMENTER
     } else {
-        Err(OFPBAC_BAD_LEN)
+        OFPBAC_BAD_TYPE
     }
 }
 
@@ -135,18 +119,12 @@ pub(crate) fn read_type(rest: &[u8], len: usize, packet_out: bool) -> Result<Act
     ensures served { IfOk result (λ action. IsTrue (is_supported packet_out action)) }
     ensures first { IfErr result (λ code. first_of (type_refusals packet_out rest.now) ≡ Some code) }
 {
-    let (_, body) = rest.split_at(4);
-    match BigEndian::read_u16(rest) {
-        0 => read_output(rest, len, packet_out),
-        17 => read_push_vlan(rest, len, packet_out),
-        18 => with_eight_bytes(Action::PopVlan, len),
-        22 => with_eight_bytes(Action::Group(BigEndian::read_u32(body)), len),
-        23 => with_eight_bytes(Action::SetNwTtl(rest[4]), len),
-        24 => with_eight_bytes(Action::DecNwTtl, len),
-        25 => read_set_field(rest, len),
-        0xffff => Err(OFPBAC_BAD_EXPERIMENTER),
-        _ => Err(OFPBAC_BAD_TYPE),
-    }
+    let kind = BigEndian::read_u16(rest);
+    let Some(row) = row_of(kind) else {
+        return Err(unknown_type(kind));
+    };
+    let argument = read_argument(row.form, rest, len, packet_out)?;
+    Action::of(kind, argument).ok_or(OFPBAC_BAD_TYPE)
 }
 
 /// Appends the bytes of an action.
@@ -155,25 +133,6 @@ pub(crate) fn put_action(out: &mut Vec<u8>, action: Action) -> Result<(), AllocE
     requires { is_supported true action ≡ true }
     ensures { OnOk result (out.new.items ≡ out.old.items ++ canonical_action action) }
 {
-    match action {
-        Action::Output { port, max_len } => {
-            out.extend_from_slice(&[0, 0, 0, 16])?;
-            put_u32(out, port)?;
-            put_u16(out, max_len)?;
-            out.extend_from_slice(&[0; 6])
-        }
-        Action::PushVlan(ethertype) => {
-            out.extend_from_slice(&[0, 17, 0, 8])?;
-            put_u16(out, ethertype)?;
-            out.extend_from_slice(&[0; 2])
-        }
-        Action::PopVlan => out.extend_from_slice(&[0, 18, 0, 8, 0, 0, 0, 0]),
-        Action::Group(group) => {
-            out.extend_from_slice(&[0, 22, 0, 8])?;
-            put_u32(out, group)
-        }
-        Action::SetNwTtl(ttl) => out.extend_from_slice(&[0, 23, 0, 8, ttl, 0, 0, 0]),
-        Action::DecNwTtl => out.extend_from_slice(&[0, 24, 0, 8, 0, 0, 0, 0]),
-        Action::SetField { field, value } => put_set_field(out, field, value),
-    }
+    let (row, argument) = action.said();
+    put_argument(out, row.kind, argument)
 }

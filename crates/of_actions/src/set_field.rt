@@ -1,14 +1,15 @@
 //! A set-field action from bytes and as bytes (OpenFlow 1.3.5, 7.2.5).
 ghost use Rattle.std.specs.Prelude.{◌≡◌, ◌≤◌, ◌<◌, ◌++◌, Bool, length, replicate, IsTrue, IfOk, OnOk, IfErr, Some, None};
 ghost use Rattle.of_wire.specs.Refusals.{first_of};
-ghost use Rattle.of_actions.specs.Beginnings.{type_at, len_at};
+ghost use Rattle.of_actions.specs.Beginnings.{len_at};
 ghost use Rattle.of_actions.specs.SetField.{set_field_at, set_refusals};
 ghost use Rattle.of_layers.specs.Fields.{ones_of};
-ghost use Rattle.of_actions.specs.Actions.{action_at};
+ghost use Rattle.of_actions.specs.declared.rows.Form.TheVariants as forms;
+ghost use Rattle.of_actions.specs.Actions.{argument_of};
 ghost use Rattle.of_actions.specs.CanonicalActions.{canonical_set_field};
-ghost use Rattle.of_actions.specs.Supported.{is_supported};
+ghost use Rattle.of_actions.specs.Supported.{is_allowed};
 
-use crate::action::Action;
+use crate::argument::Argument;
 use byteorder::{BigEndian, ByteOrder};
 use of_layers::Field;
 use of_wire::codes::{OFPBAC_BAD_SET_ARGUMENT, OFPBAC_BAD_SET_LEN, OFPBAC_BAD_SET_TYPE};
@@ -29,15 +30,14 @@ fn field_to_set(rest: &[u8]) -> Option<Field>
     }
 }
 
-#[tactic(auto, unfolding(crate::specs::SetField::set_refusals, crate::specs::Actions::action_at, crate::specs::Supported::is_supported))]
-pub(crate) fn read_set_field(rest: &[u8], len: usize) -> Result<Action, Code>
+#[tactic(auto, unfolding(crate::specs::SetField::set_refusals))]
+pub(crate) fn read_set_field(rest: &[u8], len: usize) -> Result<Argument, Code>
     requires long { 8 ≤ len }
     requires whole { len ≤ length rest.now }
     requires len { len ≡ len_at rest.now }
-    requires kind { type_at rest.now ≡ 25 }
     ensures none { OnOk result (first_of (set_refusals rest.now) ≡ None) }
-    ensures action { IfOk result (λ action. action_at rest.now ≡ Some action) }
-    ensures served { (packet_out : Bool) → IfOk result (λ action. IsTrue (is_supported packet_out action)) }
+    ensures says { IfOk result (λ said. argument_of forms.Field rest.now ≡ Some said) }
+    ensures served { (packet_out : Bool) → IfOk result (λ said. IsTrue (is_allowed packet_out said)) }
     ensures first { IfErr result (λ code. first_of (set_refusals rest.now) ≡ Some code) }
 {
     let Some(field) = field_to_set(rest) else {
@@ -52,7 +52,7 @@ pub(crate) fn read_set_field(rest: &[u8], len: usize) -> Result<Action, Code>
     if row.ones < value {
         return Err(OFPBAC_BAD_SET_ARGUMENT);
     }
-    Ok(Action::SetField { field, value })
+    Ok(Argument::Field { field, value })
 }
 
 #[tactic(auto, using(crate::proofs::SetFieldText::front_zeros))]

@@ -32,11 +32,11 @@ pub struct Form {
     pub usage: &'static str,
 }
 
-const BYTE: Word = Word::Decimal(0xff);
+pub const BYTE: Word = Word::Decimal(0xff);
 
-const HALF: Word = Word::Decimal(0xffff);
+pub const HALF: Word = Word::Decimal(0xffff);
 
-const NUMBER: Word = Word::Decimal(0xffff_ffff);
+pub const NUMBER: Word = Word::Decimal(0xffff_ffff);
 
 pub const EVENT_ROWS: [Form; 8] = [
     Form {
@@ -81,7 +81,8 @@ pub const EVENT_ROWS: [Form; 8] = [
     },
 ];
 
-pub const FLOW_LINES: [Form; 16] = [
+/// The lines other than those of actions.
+pub const FLOW_LINES: [Form; 9] = [
     Form {
         name: b"group",
         words: &[NUMBER, Word::GroupKind],
@@ -127,45 +128,10 @@ pub const FLOW_LINES: [Form; 16] = [
         words: &[BYTE],
         usage: "goto TABLE",
     },
-    Form {
-        name: b"output",
-        words: &[NUMBER, HALF],
-        usage: "output PORT MAX",
-    },
-    Form {
-        name: b"push_vlan",
-        words: &[Word::Hex(2)],
-        usage: "push_vlan TYPE",
-    },
-    Form {
-        name: b"pop_vlan",
-        words: &[],
-        usage: "pop_vlan",
-    },
-    Form {
-        name: b"to_group",
-        words: &[NUMBER],
-        usage: "to_group N",
-    },
-    Form {
-        name: b"set_nw_ttl",
-        words: &[BYTE],
-        usage: "set_nw_ttl N",
-    },
-    Form {
-        name: b"dec_nw_ttl",
-        words: &[],
-        usage: "dec_nw_ttl",
-    },
-    Form {
-        name: b"set",
-        words: &[Word::Field, Word::Value],
-        usage: "set NAME VALUE",
-    },
 ];
 
-// The words after a name, where a line begins with it.
-fn behind<'a>(line: &'a [u8], name: &[u8]) -> Option<Option<&'a [u8]>> {
+/// The words after a name, where a line begins with it.
+pub fn behind<'a>(line: &'a [u8], name: &[u8]) -> Option<Option<&'a [u8]>> {
     let rest = line.strip_prefix(name)?;
     match rest.split_first() {
         None => Some(None),

@@ -2,9 +2,10 @@
 ghost use Rattle.of_hints.specs.Layout.{IsSo};
 ghost use Rattle.std.specs.Prelude.{IfSome};
 
+use crate::action_lines::{ActionWords, action_of};
 use crate::forms::{EVENT_ROWS, FLOW_LINES, Form, form_of};
 use crate::layout::{LayoutFault, layout_fault, text_fault};
-use crate::words::{WordFault, words_fault};
+use crate::words::{WordFault, action_fault, words_fault};
 use of_text::is_passed_over;
 use thiserror::Error;
 
@@ -15,8 +16,8 @@ pub enum Hint {
     Layout(LayoutFault),
     #[error("unknown row; rows are connect, lost, c, f, t, port add, port remove, port link")]
     UnknownRow,
-    #[error("unknown line; lines are group, bucket, flow, match, apply, clear, write, metadata, goto, output, push_vlan, pop_vlan, to_group, set_nw_ttl, dec_nw_ttl, set")]
-    UnknownLine,
+    #[error("unknown line; lines are group, bucket, flow, match, apply, clear, write, metadata, goto{0}")]
+    UnknownLine(ActionWords),
     #[error("this is a line of flow text, which asm, and trace and check with --flows, read")]
     FlowText,
     #[error("this is a row of an event file, which replay, dis, and trace and check with --events, read")]
@@ -40,11 +41,15 @@ fn is_ovs_line(line: &[u8]) -> bool {
     })
 }
 
+fn is_flow_line(line: &[u8]) -> bool {
+    form_of(line, &FLOW_LINES).is_some() || action_of(line).is_some()
+}
+
 // What a line is that is none of an event file.
 fn other_than_row(line: &[u8]) -> Hint
     ensures { IsSo result line.now }
 {
-    if form_of(line, &FLOW_LINES).is_some() {
+    if is_flow_line(line) {
         Hint::FlowText
     } else if is_ovs_line(line) {
         Hint::OpenVswitch
@@ -62,13 +67,23 @@ fn other_than_flow(line: &[u8]) -> Hint
     } else if is_ovs_line(line) {
         Hint::OpenVswitch
     } else {
-        Hint::UnknownLine
+        Hint::UnknownLine(ActionWords)
     }
 }
 
-// What is wrong with a line that has to be of one of these forms, if anything is.
-fn fault(line: &[u8], forms: &[Form], unknown: Hint) -> Option<Hint>
-    requires { IsSo unknown line.now }
+// What is wrong with a line of a flow text that is of none of its forms.
+fn other_line(line: &[u8]) -> Option<Hint>
+    ensures { IfSome result (λ hint. IsSo hint line.now) }
+{
+    match action_of(line) {
+        Some((row, words)) => action_fault(row, words).map(Hint::Words),
+        None => Some(other_than_flow(line)),
+    }
+}
+
+// What is wrong with a line that has to be of one of these forms, if anything is; `otherwise` of another line.
+fn fault(line: &[u8], forms: &[Form], otherwise: Option<Hint>) -> Option<Hint>
+    requires { IfSome otherwise (λ hint. IsSo hint line.now) }
     ensures { IfSome result (λ hint. IsSo hint line.now) }
 {
     if let Some(fault) = layout_fault(line) {
@@ -78,7 +93,7 @@ fn fault(line: &[u8], forms: &[Form], unknown: Hint) -> Option<Hint>
         return Some(Hint::Comment);
     }
     let Some((form, words)) = form_of(line, forms) else {
-        return Some(unknown);
+        return otherwise;
     };
     words_fault(&form, words).map(Hint::Words)
 }
@@ -87,14 +102,14 @@ fn fault(line: &[u8], forms: &[Form], unknown: Hint) -> Option<Hint>
 pub fn event_row_hint(line: &[u8]) -> Hint
     ensures { IsSo result line.now }
 {
-    fault(line, &EVENT_ROWS, other_than_row(line)).unwrap_or(Hint::Controller)
+    fault(line, &EVENT_ROWS, Some(other_than_row(line))).unwrap_or(Hint::Controller)
 }
 
 /// What is wrong with a line of a flow text that is a syntax fault.
 pub fn flow_line_hint(line: &[u8]) -> Hint
     ensures { IsSo result line.now }
 {
-    fault(line, &FLOW_LINES, other_than_flow(line)).unwrap_or(Hint::Order(
+    fault(line, &FLOW_LINES, other_line(line)).unwrap_or(Hint::Order(
         "groups in ascending order of number, each with its buckets and their actions; then flows, each with its match in the order of fields, and apply, clear, write, metadata, goto, once each; a mask of all ones is left out, and so is a field whose mask is 0",
     ))
 }
@@ -109,7 +124,7 @@ pub fn import_hint(text: &[u8]) -> Option<Hint>
     let line = text
         .split(|byte| *byte == b'\n')
         .find(|line| !is_passed_over(line))?;
-    if form_of(line, &FLOW_LINES).is_some() {
+    if is_flow_line(line) {
         return Some(Hint::FlowText);
     }
     if form_of(line, &EVENT_ROWS).is_some() {

@@ -1,6 +1,7 @@
 //! What is wrong with a line of an event file or of a flow text, in words, for the person who wrote it.
 #![tactic(auto)]
 
+mod action_lines;
 mod forms;
 mod hint;
 mod laws;

@@ -1,7 +1,9 @@
 //! What is wrong with the words of a line.
 
+use crate::action_lines::{ActionUsage, usage_of, words_of};
 use crate::forms::{Form, Word};
 use crate::values::{is_decimal, prefix_in, value_in, value_of};
+use of_actions::ActionRow;
 use of_layers::Field;
 use thiserror::Error;
 
@@ -10,6 +12,8 @@ use thiserror::Error;
 pub enum WordFault {
     #[error("a missing or extra word: write {0}")]
     Form(&'static str),
+    #[error("a missing or extra word: write {0}")]
+    Action(ActionUsage),
     #[error("word {0}: a decimal number, without a sign and without leading zeros")]
     Decimal(usize),
     #[error("word {place}: the number is at most {most}")]
@@ -146,21 +150,21 @@ fn count(words: Option<&[u8]>) -> usize {
     }
 }
 
-/// What is wrong with the words after the name of a form, if anything is.
-pub fn words_fault(form: &Form, words: Option<&[u8]>) -> Option<WordFault> {
+// What is wrong with the words after so many others, if anything is.
+fn fault_among(
+    kinds: &[Word],
+    before: usize,
+    words: Option<&[u8]>,
+    other_count: WordFault,
+) -> Option<WordFault> {
     let found = count(words);
-    let least = form
-        .words
-        .iter()
-        .filter(|word| **word != Word::Mask)
-        .count();
-    if found < least || found > form.words.len() {
-        return Some(WordFault::Form(form.usage));
+    let least = kinds.iter().filter(|word| **word != Word::Mask).count();
+    if found < least || found > kinds.len() {
+        return Some(other_count);
     }
-    // the words of the name come first
-    let mut place = count(Some(form.name));
+    let mut place = before;
     let mut field = None;
-    for (kind, word) in form.words.iter().zip(words?.split(|byte| *byte == b' ')) {
+    for (kind, word) in kinds.iter().zip(words?.split(|byte| *byte == b' ')) {
         place = place.saturating_add(1);
         if let Some(fault) = word_fault(*kind, word, place, field) {
             return Some(fault);
@@ -170,4 +174,21 @@ pub fn words_fault(form: &Form, words: Option<&[u8]>) -> Option<WordFault> {
         }
     }
     None
+}
+
+/// What is wrong with the words after the name of a form, if anything is.
+pub fn words_fault(form: &Form, words: Option<&[u8]>) -> Option<WordFault> {
+    // the words of the name come first
+    let before = count(Some(form.name));
+    fault_among(form.words, before, words, WordFault::Form(form.usage))
+}
+
+/// What is wrong with the words after that of an action, if anything is.
+pub fn action_fault(row: ActionRow, words: Option<&[u8]>) -> Option<WordFault> {
+    fault_among(
+        words_of(row.form),
+        1,
+        words,
+        WordFault::Action(usage_of(row)),
+    )
 }

@@ -11,16 +11,18 @@ use Rattle.of_layers.specs.Fields.{number_of, ones_of, row_of}
 use Rattle.of_layers.proofs.Table.{value_below, number_below}
 use Rattle.of_oxm.specs.declared.match_field.MatchField.{MatchField}
 use Rattle.of_actions.specs.declared.action.Action.{Action}
-use Rattle.of_actions.specs.declared.action.Action.TheVariants as actions
+use Rattle.of_actions.specs.declared.argument.Argument.{Argument}
+use Rattle.of_actions.specs.declared.argument.Argument.TheVariants.{Nothing, Byte, Tag, Word, Port, Field as FieldValue}
+use Rattle.of_actions.specs.Rows.{said}
 use Rattle.of_lines.specs.declared.row.Row.{Row}
 use Rattle.of_lines.specs.declared.row.Row.TheVariants as rows
 use Rattle.of_text.specs.Flows.{Step, Apply, Clear, Write, step_rows}
-use Rattle.of_text.specs.Rows.{Fits, ActionFits, HeadFits, IsMask}
+use Rattle.of_text.specs.Rows.{Fits, ActionFits, ArgumentFits, HeadFits, IsMask}
 use Rattle.of_text.specs.Order.{flow_next, flow_standing}
 use Rattle.of_ovs_words.specs.Settings.{last_of}
 use Rattle.of_ovs_words.specs.Matches.{fields_of}
 use Rattle.of_import.specs.PartialFlows.{PartialFlow, Refusal}
-use Rattle.of_import.specs.Finished.{when, metadata_step, goto_step, steps_of, field_fits, action_fits, numbers_fit, flow_of, refusal_of}
+use Rattle.of_import.specs.Finished.{when, metadata_step, goto_step, steps_of, field_fits, action_fits, argument_fits, numbers_fit, flow_of, refusal_of}
 use Rattle.of_ovs_words.specs.declared.why.Why.TheVariants as whys
 use Rattle.of_import.specs.PartialGroups.{bucket_fits}
 use Rattle.of_text.specs.Groups.{TextBucket, bucket_rows}
@@ -49,14 +51,16 @@ pub fields_sound : (es : List MatchField) → list_all field_fits es ≡ true �
 fields_sound [] h = tt
 fields_sound (e ∷ es) h = let parts = and_parts (field_fits e) (list_all field_fits es) h in (field_sound e parts.0, fields_sound es parts.1)
 
+argument_sound : (s : Argument) → argument_fits s ≡ true → ArgumentFits s
+argument_sound Nothing h = tt
+argument_sound (Byte n) h = ltb-true n (2 ^ 8) h
+argument_sound (Tag type) h = ltb-true type (2 ^ 16) h
+argument_sound (Word n) h = ltb-true n (2 ^ 32) h
+argument_sound (Port port max_len) h = let parts = and_parts (nat_lt port (2 ^ 32)) (nat_lt max_len (2 ^ 16)) h in (ltb-true port (2 ^ 32) parts.0, ltb-true max_len (2 ^ 16) parts.1)
+argument_sound (FieldValue f value) h = value_below f value (leb-true value (ones_of f) h)
+
 pub action_sound : (a : Action) → action_fits a ≡ true → ActionFits a
-action_sound (actions.Output port max_len) h = let parts = and_parts (nat_lt port (2 ^ 32)) (nat_lt max_len (2 ^ 16)) h in (ltb-true port (2 ^ 32) parts.0, ltb-true max_len (2 ^ 16) parts.1)
-action_sound (actions.PushVlan type) h = ltb-true type (2 ^ 16) h
-action_sound actions.PopVlan h = tt
-action_sound (actions.Group group) h = ltb-true group (2 ^ 32) h
-action_sound (actions.SetNwTtl ttl) h = ltb-true ttl (2 ^ 8) h
-action_sound actions.DecNwTtl h = tt
-action_sound (actions.SetField f value) h = value_below f value (leb-true value (ones_of f) h)
+action_sound a h = argument_sound (said a).1 h
 
 pub actions_sound : (xs : List Action) → list_all action_fits xs ≡ true → AllByRecursion Fits (map rows.Do xs)
 actions_sound [] h = tt

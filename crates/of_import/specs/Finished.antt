@@ -9,7 +9,9 @@ use Rattle.of_layers.specs.Fields.{ones_of, prerequisite_of}
 use Rattle.of_oxm.specs.Prerequisites.{is_met}
 use Rattle.of_oxm.specs.declared.match_field.MatchField.{MatchField}
 use Rattle.of_actions.specs.declared.action.Action.{Action}
-use Rattle.of_actions.specs.declared.action.Action.TheVariants.{Output, PushVlan, PopVlan, Group, SetNwTtl, DecNwTtl, SetField}
+use Rattle.of_actions.specs.declared.argument.Argument.{Argument}
+use Rattle.of_actions.specs.declared.argument.Argument.TheVariants.{Nothing, Byte, Tag, Word, Port, Field as FieldValue}
+use Rattle.of_actions.specs.Rows.{said}
 use Rattle.of_text.specs.Flows.{Flow, Step, Apply, Clear, Write, Metadata, Goto}
 use Rattle.of_ovs_words.specs.declared.why.Why.{Why}
 use Rattle.of_ovs_words.specs.declared.why.Why.TheVariants as whys
@@ -37,14 +39,16 @@ steps_of s = when (not (length s.apply == 0)) (Apply s.apply) ++ when s.clears C
 abbrev pub field_fits : MatchField → Bool
 field_fits e = nat_le e.value (ones_of e.field) && option_map_or (λ mask. nat_lt 0 mask && nat_lt mask (ones_of e.field)) e.mask true
 
+abbrev pub argument_fits : Argument → Bool
+argument_fits Nothing = true
+argument_fits (Byte n) = nat_lt n (2 ^ 8)
+argument_fits (Tag type) = nat_lt type (2 ^ 16)
+argument_fits (Word n) = nat_lt n (2 ^ 32)
+argument_fits (Port port max_len) = nat_lt port (2 ^ 32) && nat_lt max_len (2 ^ 16)
+argument_fits (FieldValue f value) = nat_le value (ones_of f)
+
 abbrev pub action_fits : Action → Bool
-action_fits (Output port max_len) = nat_lt port (2 ^ 32) && nat_lt max_len (2 ^ 16)
-action_fits (PushVlan type) = nat_lt type (2 ^ 16)
-action_fits PopVlan = true
-action_fits (Group group) = nat_lt group (2 ^ 32)
-action_fits (SetNwTtl ttl) = nat_lt ttl (2 ^ 8)
-action_fits DecNwTtl = true
-action_fits (SetField f value) = nat_le value (ones_of f)
+action_fits a = argument_fits (said a).1
 
 abbrev pub numbers_fit : PartialFlow → Bool
 numbers_fit s = list_all field_fits (fields_of s.settings) && list_all action_fits s.apply && list_all action_fits s.write

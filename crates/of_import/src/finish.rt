@@ -11,7 +11,7 @@ ghost use Rattle.of_text.specs.Views.{view, view_step};
 
 use crate::partial_flow::PartialFlow;
 use crate::word_fault::WordFault;
-use of_actions::Action;
+use of_actions::{Action, Argument};
 use of_layers::Prerequisite;
 use of_ovs_words::{FieldWord, Why};
 use of_oxm::{MatchField, is_met};
@@ -108,13 +108,14 @@ fn fields_fit(fields: &[MatchField]) -> bool
 fn action_fits(action: Action) -> bool
     ensures { result ≡ action_fits_so action }
 {
-    match action {
-        Action::Output { port, max_len } => port <= u32::MAX && max_len <= u16::MAX,
-        Action::PushVlan(ethertype) => ethertype <= u16::MAX,
-        Action::Group(group) => group <= u32::MAX,
-        Action::SetNwTtl(ttl) => ttl <= u8::MAX,
-        Action::SetField { field, value } => value <= field.row().ones,
-        Action::PopVlan | Action::DecNwTtl => true,
+    let (_, argument) = action.said();
+    match argument {
+        Argument::Nothing => true,
+        Argument::Byte(number) => number <= u8::MAX,
+        Argument::Tag(ethertype) => ethertype <= u16::MAX,
+        Argument::Word(number) => number <= u32::MAX,
+        Argument::Port { port, max_len } => port <= u32::MAX && max_len <= u16::MAX,
+        Argument::Field { field, value } => value <= field.row().ones,
     }
 }
 

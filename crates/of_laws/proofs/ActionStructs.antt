@@ -1,10 +1,10 @@
 -- Actions that are read are their structs, and back.
 use Rattle.std.proofs.Common.{◌≡◌, ℕ, ◌+◌, ◌*◌, ◌%◌, ◌/◌, ◌^◌, ◌<◌, ◌≤◌, Bool, true, false, not, eqb, ltb, leb, cond, List, [], ◌∷◌, ◌++◌, length, drop, Option, Some, None, refl, sym, ap, subst, ◌∙◌, arith}
-use Rattle.std.specs.Prelude.{slice_index, ◌==◌, ◌&&◌, ◌||◌}
-use Rattle.std.specs.Option.{option_map}
-use Rattle.std.specs.List.{All, list_all, list_any}
+use Rattle.std.specs.Prelude.{is_some, map, slice_index, ◌==◌, ◌&&◌, ◌||◌}
+use Rattle.std.specs.Option.{option_and_then, option_map, option_map_or}
+use Rattle.std.specs.List.{All, AllByRecursion, list_all, list_any}
 use Rattle.std.proofs.lemmas.List.Elements.{All-from_recursion}
-use Rattle.std.proofs.lemmas.Bool.{eq-eqb, eqb-true, le-ltb}
+use Rattle.std.proofs.lemmas.Bool.{eq-eqb, eqb-true, le-ltb, lt-ltb}
 use Rattle.std.proofs.lemmas.Bool.Decides.{nat_tests}
 use Rattle.std.proofs.lemmas.List.{length-append}
 use Rattle.byteorder.specs.Endian.{big_number}
@@ -15,28 +15,32 @@ use Rattle.of_wire.specs.Items.{AreItems}
 use Rattle.of_wire.proofs.FirstLemmas.{none_applies}
 use Rattle.of_wire.proofs.Numbers.{IsBytes, IsBytes-drop}
 use Rattle.of_layers.specs.declared.field.Field.{Field}
-use Rattle.of_layers.specs.declared.field.Field.TheVariants.{EthDst}
 use Rattle.of_layers.specs.Fields.{bytes_of, field_at, is_settable, number_of, ones_of}
 use Rattle.of_layers.specs.Reading.{is_tag_type}
+use Rattle.of_layers.proofs.TestLemmas.{and_true}
 use Rattle.of_layers.proofs.Table.{bytes_most, field_at-number_of, number_of-field_at}
 use Rattle.of_actions.specs.declared.action.Action.{Action}
-use Rattle.of_actions.specs.declared.action.Action.TheVariants.{Output, PushVlan, PopVlan, Group, SetNwTtl, DecNwTtl, SetField}
-use Rattle.of_actions.specs.Actions.{action_at, action_refusals, type_refusals, wrong_size, actions_of, AreActions}
+use Rattle.of_actions.specs.declared.action.Action.TheVariants.{PopVlan}
+use Rattle.of_actions.specs.declared.argument.Argument.{Argument}
+use Rattle.of_actions.specs.declared.argument.Argument.TheVariants.{Nothing, Byte, Tag, Word, Port, Field as FieldValue}
+use Rattle.of_actions.specs.declared.rows.ActionRow.{ActionRow}
+use Rattle.of_actions.specs.declared.rows.Form.{Form}
+use Rattle.of_actions.specs.declared.rows.Form.TheVariants as forms
+use Rattle.of_actions.specs.declared.rows.TheConstants.{ACTIONS}
+use Rattle.of_actions.specs.Rows.{row_of, said, action_saying}
+use Rattle.of_actions.specs.Actions.{action_at, action_refusals, argument_of, form_refusals, type_refusals, unknown_type, wrong_size, actions_of, AreActions}
 use Rattle.of_actions.specs.Beginnings.{type_at, len_at}
 use Rattle.of_actions.specs.PortNumbers.{is_port}
-use Rattle.of_actions.specs.Supported.{is_supported, are_supported}
+use Rattle.of_actions.specs.Supported.{is_allowed, is_supported, are_supported}
 use Rattle.of_actions.specs.SetField.{settable, set_field_at, set_value_at, set_len, set_refusals, known_set_refusals}
 use Rattle.of_actions.proofs.ActionLists.{is_served_list, served_is}
-use Rattle.of_laws.specs.ActionStructs.{action_cells, action_type, action_types, AreStructs}
-use Rattle.of_laws.specs.Cells.{Begins}
-use Rattle.of_laws.proofs.ActionTails.{behind_none}
+use Rattle.of_actions.proofs.RowLemmas.{is_said, said_again}
+use Rattle.of_laws.specs.ActionStructs.{action_cells, action_type, action_types, said_cells, AreStructs}
+use Rattle.of_laws.specs.Cells.{u16, Begins}
+use Rattle.of_laws.proofs.ActionTails.{behind_none, form_is, form_of, has_sample, row_again, sample}
 use Rattle.of_laws.proofs.Places.{Says, says, size, rest_is, size_is, front_of}
 
 -- ---- from what is read to structs
-
-kind_is : (a : Action) (rest : List ℕ) → action_at rest ≡ Some a → type_at rest ≡ action_type a
-unfolding action_at
-kind_is a rest h = grind (arith, nat_tests, h)
 
 -- what holds of each action that is not refused
 record Head (packet_out : Bool) (seen : List Action) (rest : List ℕ) : Type 0 where
@@ -53,16 +57,17 @@ head packet_out seen rest none =
     let fits = n.1.1.0 in
     record { few = grind (arith, nat_tests); long = grind (arith, nat_tests); whole = grind (arith, nat_tests); kind = behind_none 3 (action_refusals packet_out seen rest) none }
 
-record One (packet_out : Bool) (a : Action) (rest : List ℕ) : Type 0 where
-  front : Begins (action_cells a) rest (drop (len_at rest) rest)
-  served : is_supported packet_out a ≡ true
+-- an action of the type that stands there, which says this
+record One (packet_out : Bool) (s : Argument) (rest : List ℕ) : Type 0 where
+  front : Begins (u16 (type_at rest) ∷ said_cells s) rest (drop (len_at rest) rest)
+  served : is_allowed packet_out s ≡ true
 
 -- a struct of so many bytes
-struct : (packet_out : Bool) (a : Action) (rest : List ℕ) (n : ℕ) → IsBytes rest → len_at rest ≡ n → n ≤ length rest → size (action_cells a) ≡ n → Says 0 (action_cells a) rest → is_supported packet_out a ≡ true → One packet_out a rest
-struct packet_out a rest n fits len whole is says served =
-    let cells = action_cells a in
+struct : (packet_out : Bool) (s : Argument) (rest : List ℕ) (n : ℕ) → IsBytes rest → len_at rest ≡ n → n ≤ length rest → 2 + size (said_cells s) ≡ n → Says 2 (said_cells s) rest → is_allowed packet_out s ≡ true → One packet_out s rest
+struct packet_out s rest n fits len whole is says served =
+    let cells = u16 (type_at rest) ∷ said_cells s in
     record {
-      front = subst (λ (k : ℕ). Begins cells rest (drop k rest)) (is ∙ sym len) (front_of cells rest fits (omega (arith, is, whole)) says);
+      front = subst (λ (k : ℕ). Begins cells rest (drop k rest)) (is ∙ sym len) (front_of cells rest fits (omega (arith, is, whole)) (refl, says));
       served = served;
     }
 
@@ -94,14 +99,9 @@ named f rest h = by_tests (eqb (big_number 2 (drop 4 rest)) 0x8000) refl (eqb (s
         let even = eqb-true (slice_index rest 6 % 2) 0 q in
         record { class = eqb-true _ _ p; number = omega (arith, half, even); settable = s.1 }
 
-set_one : (packet_out : Bool) (f : Field) (value : ℕ) (rest : List ℕ) → IsBytes rest → len_at rest ≤ length rest → type_at rest ≡ 25 → first_of (set_refusals rest) ≡ None
-    → (o : Option Field) → set_field_at rest ≡ o → option_map (λ (g : Field). SetField g (set_value_at g rest)) o ≡ Some (SetField f value) → One packet_out (SetField f value) rest
-unfolding set_refusals is_supported
-set_one packet_out f value rest fits whole kind none None is read = absurd cc
-set_one packet_out f value rest fits whole kind none (Some g) is read =
-    let same : g ≡ f = cc in
-    let field : set_field_at rest ≡ Some f = is ∙ ap Some same in
-    let value_is : set_value_at f rest ≡ value = ap (λ (h : Field). set_value_at h rest) (sym same) ∙ cc in
+set_one : (packet_out : Bool) (f : Field) (rest : List ℕ) → IsBytes rest → len_at rest ≤ length rest → set_field_at rest ≡ Some f → first_of (set_refusals rest) ≡ None → One packet_out (FieldValue f (set_value_at f rest)) rest
+unfolding set_refusals
+set_one packet_out f rest fits whole field none =
     let n = named f rest field in
     let none' : first_of (known_set_refusals rest f) ≡ None = rw field at none in
     let tests = none_applies (known_set_refusals rest f) none' in
@@ -109,8 +109,8 @@ set_one packet_out f value rest fits whole kind none (Some g) is read =
     let high : ltb (ones_of f) (set_value_at f rest) ≡ false = tests.1.0 in
     let bytes_is : slice_index rest 7 ≡ bytes_of f = grind (arith, nat_tests, sizes) in
     let len : len_at rest ≡ set_len f = grind (arith, nat_tests, sizes) in
-    let le : leb value (ones_of f) ≡ true = grind (arith, nat_tests, high, value_is) in
-    struct packet_out (SetField f value) rest (set_len f) fits len (omega (arith, len, whole)) (omega (arith, bytes_most f)) (kind, (len, (n.class, (n.number, (bytes_is, (value_is, tt)))))) (rw (n.settable, le) refl)
+    let le : leb (set_value_at f rest) (ones_of f) ≡ true = grind (arith, nat_tests, high) in
+    struct packet_out (FieldValue f (set_value_at f rest)) rest (set_len f) fits len (omega (arith, len, whole)) (omega (arith, bytes_most f)) (len, (n.class, (n.number, (bytes_is, (refl, tt))))) (rw (n.settable, le) refl)
 
 -- ---- each action
 
@@ -125,61 +125,66 @@ allowed r b code none =
     let test : not b ≡ false = (none_applies (r ∷ (not b, code) ∷ []) none).1.0 in
     grind (arith, nat_tests, test)
 
-below : (w n o : ℕ) (rest : List ℕ) → IsBytes rest → big_number w (drop o rest) ≡ n → n < 256 ^ w
-below w n o rest fits is = omega (arith, is, big_from-lt 0 w (drop o rest) (IsBytes-drop o rest fits))
+below : (w o : ℕ) (rest : List ℕ) → IsBytes rest → big_number w (drop o rest) < 256 ^ w
+below w o rest fits = big_from-lt 0 w (drop o rest) (IsBytes-drop o rest fits)
 
-one : (packet_out : Bool) (a : Action) (rest : List ℕ) → IsBytes rest → len_at rest ≤ length rest → first_of (type_refusals packet_out rest) ≡ None → action_at rest ≡ Some a → One packet_out a rest
+-- the same of what is said
+as_said : (packet_out : Bool) (s t : Argument) (rest : List ℕ) → Some s ≡ Some t → One packet_out s rest → One packet_out t rest
+as_said packet_out s t rest h one = let same : s ≡ t = cc in subst (λ (u : Argument). One packet_out u rest) same one
+
+one_form : (packet_out : Bool) (form : Form) (s : Argument) (rest : List ℕ) → IsBytes rest → len_at rest ≤ length rest → first_of (form_refusals form packet_out rest) ≡ None → argument_of form rest ≡ Some s → One packet_out s rest
+one_form packet_out forms.Nothing s rest fits whole none at =
+    let len : len_at rest ≡ 8 = sized 8 rest [] none in
+    as_said packet_out Nothing s rest at (struct packet_out Nothing rest 8 fits len (omega (arith, len, whole)) refl (len, tt) refl)
+one_form packet_out forms.Byte s rest fits whole none at =
+    let n = slice_index rest 4 in
+    let len : len_at rest ≡ 8 = sized 8 rest [] none in
+    as_said packet_out (Byte n) s rest at (struct packet_out (Byte n) rest 8 fits len (omega (arith, len, whole)) refl (len, (refl, tt)) (lt-ltb n 256 (fits 4)))
+one_form packet_out forms.Tag s rest fits whole none at =
+    let type = big_number 2 (drop 4 rest) in
+    let len : len_at rest ≡ 8 = sized 8 rest ((not (is_tag_type type), refusal 2 5) ∷ []) none in
+    as_said packet_out (Tag type) s rest at (struct packet_out (Tag type) rest 8 fits len (omega (arith, len, whole)) refl (len, (refl, tt)) (allowed (wrong_size 8 rest) (is_tag_type type) (refusal 2 5) none))
+one_form packet_out forms.Word s rest fits whole none at =
+    let n = big_number 4 (drop 4 rest) in
+    let len : len_at rest ≡ 8 = sized 8 rest [] none in
+    as_said packet_out (Word n) s rest at (struct packet_out (Word n) rest 8 fits len (omega (arith, len, whole)) refl (len, (refl, tt)) (lt-ltb n 4294967296 (below 4 4 rest fits)))
+one_form packet_out forms.Port s rest fits whole none at =
+    let port = big_number 4 (drop 4 rest) in
+    let max_len = big_number 2 (drop 8 rest) in
+    let len : len_at rest ≡ 16 = sized 16 rest ((not (is_port packet_out port), refusal 2 4) ∷ []) none in
+    let ok : is_port packet_out port ≡ true = allowed (wrong_size 16 rest) (is_port packet_out port) (refusal 2 4) none in
+    let low : ltb max_len 65536 ≡ true = lt-ltb max_len 65536 (below 2 8 rest fits) in
+    as_said packet_out (Port port max_len) s rest at (struct packet_out (Port port max_len) rest 16 fits len (omega (arith, len, whole)) refl (len, (refl, (refl, tt))) (rw (ok, low) refl))
+one_form packet_out forms.Field s rest fits whole none at = by_field (set_field_at rest) refl at
+  where
+    by_field : (o : Option Field) → set_field_at rest ≡ o → option_map (λ (f : Field). FieldValue f (set_value_at f rest)) o ≡ Some s → One packet_out s rest
+    by_field None is at = absurd cc
+    by_field (Some f) is at = as_said packet_out (FieldValue f (set_value_at f rest)) s rest at (set_one packet_out f rest fits whole is none)
+
+-- an action, with its struct
+record OneAction (packet_out : Bool) (a : Action) (rest : List ℕ) : Type 0 where
+  front : Begins (action_cells a) rest (drop (len_at rest) rest)
+  served : is_supported packet_out a ≡ true
+
+one : (packet_out : Bool) (a : Action) (rest : List ℕ) → IsBytes rest → len_at rest ≤ length rest → first_of (type_refusals packet_out rest) ≡ None → action_at rest ≡ Some a → OneAction packet_out a rest
 unfolding type_refusals action_at is_supported
-one packet_out (Output port max_len) rest fits whole none at =
-    let kind : type_at rest ≡ 0 = kind_is (Output port max_len) rest at in
-    let same : Some (Output (big_number 4 (drop 4 rest)) (big_number 2 (drop 8 rest))) ≡ Some (Output port max_len) = rw kind at at in
-    let port_is : big_number 4 (drop 4 rest) ≡ port = cc in
-    let max_is : big_number 2 (drop 8 rest) ≡ max_len = cc in
-    let none' : first_of (wrong_size 16 rest ∷ (not (is_port packet_out (big_number 4 (drop 4 rest))), refusal 2 4) ∷ []) ≡ None = rw kind at none in
-    let len : len_at rest ≡ 16 = sized 16 rest ((not (is_port packet_out (big_number 4 (drop 4 rest))), refusal 2 4) ∷ []) none' in
-    let ok : is_port packet_out port ≡ true = ap (is_port packet_out) (sym port_is) ∙ allowed (wrong_size 16 rest) (is_port packet_out (big_number 4 (drop 4 rest))) (refusal 2 4) none' in
-    let low : max_len < 65536 = below 2 max_len 8 rest fits max_is in
-    let low' : ltb max_len 65536 ≡ true = grind (arith, nat_tests, low) in
-    struct packet_out (Output port max_len) rest 16 fits len (omega (arith, len, whole)) refl (kind, (len, (port_is, (max_is, tt)))) (rw (ok, low') refl)
-one packet_out (PushVlan type) rest fits whole none at =
-    let kind : type_at rest ≡ 17 = kind_is (PushVlan type) rest at in
-    let same : Some (PushVlan (big_number 2 (drop 4 rest))) ≡ Some (PushVlan type) = rw kind at at in
-    let type_is : big_number 2 (drop 4 rest) ≡ type = cc in
-    let none' : first_of (wrong_size 8 rest ∷ (not (is_tag_type (big_number 2 (drop 4 rest))), refusal 2 5) ∷ []) ≡ None = rw kind at none in
-    let len : len_at rest ≡ 8 = sized 8 rest ((not (is_tag_type (big_number 2 (drop 4 rest))), refusal 2 5) ∷ []) none' in
-    let ok : is_tag_type type ≡ true = ap is_tag_type (sym type_is) ∙ allowed (wrong_size 8 rest) (is_tag_type (big_number 2 (drop 4 rest))) (refusal 2 5) none' in
-    struct packet_out (PushVlan type) rest 8 fits len (omega (arith, len, whole)) refl (kind, (len, (type_is, tt))) ok
-one packet_out PopVlan rest fits whole none at =
-    let kind : type_at rest ≡ 18 = kind_is PopVlan rest at in
-    let none' : first_of (wrong_size 8 rest ∷ []) ≡ None = rw kind at none in
-    let len : len_at rest ≡ 8 = sized 8 rest [] none' in
-    struct packet_out PopVlan rest 8 fits len (omega (arith, len, whole)) refl (kind, (len, tt)) refl
-one packet_out (Group group) rest fits whole none at =
-    let kind : type_at rest ≡ 22 = kind_is (Group group) rest at in
-    let same : Some (Group (big_number 4 (drop 4 rest))) ≡ Some (Group group) = rw kind at at in
-    let group_is : big_number 4 (drop 4 rest) ≡ group = cc in
-    let none' : first_of (wrong_size 8 rest ∷ []) ≡ None = rw kind at none in
-    let len : len_at rest ≡ 8 = sized 8 rest [] none' in
-    let low : group < 4294967296 = below 4 group 4 rest fits group_is in
-    struct packet_out (Group group) rest 8 fits len (omega (arith, len, whole)) refl (kind, (len, (group_is, tt))) (grind (arith, nat_tests, low))
-one packet_out (SetNwTtl ttl) rest fits whole none at =
-    let kind : type_at rest ≡ 23 = kind_is (SetNwTtl ttl) rest at in
-    let same : Some (SetNwTtl (slice_index rest 4)) ≡ Some (SetNwTtl ttl) = rw kind at at in
-    let ttl_is : slice_index rest 4 ≡ ttl = cc in
-    let none' : first_of (wrong_size 8 rest ∷ []) ≡ None = rw kind at none in
-    let len : len_at rest ≡ 8 = sized 8 rest [] none' in
-    let low : ttl < 256 = omega (arith, ttl_is, fits 4) in
-    struct packet_out (SetNwTtl ttl) rest 8 fits len (omega (arith, len, whole)) refl (kind, (len, (ttl_is, tt))) (grind (arith, nat_tests, low))
-one packet_out DecNwTtl rest fits whole none at =
-    let kind : type_at rest ≡ 24 = kind_is DecNwTtl rest at in
-    let none' : first_of (wrong_size 8 rest ∷ []) ≡ None = rw kind at none in
-    let len : len_at rest ≡ 8 = sized 8 rest [] none' in
-    struct packet_out DecNwTtl rest 8 fits len (omega (arith, len, whole)) refl (kind, (len, tt)) refl
-one packet_out (SetField f value) rest fits whole none at =
-    let kind : type_at rest ≡ 25 = kind_is (SetField f value) rest at in
-    let read : option_map (λ (g : Field). SetField g (set_value_at g rest)) (set_field_at rest) ≡ Some (SetField f value) = rw kind at at in
-    let none' : first_of (set_refusals rest) ≡ None = rw kind at none in
-    set_one packet_out f value rest fits whole kind none' (set_field_at rest) refl read
+one packet_out a rest fits whole none at = by_row (row_of (type_at rest)) none at
+  where
+    by_said : (form : Form) (o : Option Argument) → argument_of form rest ≡ o → first_of (form_refusals form packet_out rest) ≡ None → option_and_then (action_saying (type_at rest)) o ≡ Some a → OneAction packet_out a rest
+    by_said form None is none at = absurd cc
+    by_said form (Some s) is none at =
+        let this = one_form packet_out form s rest fits whole none is in
+        let e = is_said (type_at rest) s a at in
+        record {
+          front = subst (λ (t : ℕ). Begins (u16 t ∷ said_cells (said a).1) rest (drop (len_at rest) rest)) (sym e.kind)
+          (subst (λ (u : Argument). Begins (u16 (type_at rest) ∷ said_cells u) rest (drop (len_at rest) rest)) (sym e.says) this.front);
+          served = ap (is_allowed packet_out) e.says ∙ this.served;
+        }
+
+    by_row : (o : Option ActionRow) → first_of (option_map_or (λ (r : ActionRow). form_refusals r.form packet_out rest) o ((true, unknown_type (type_at rest)) ∷ [])) ≡ None
+        → option_and_then (action_saying (type_at rest)) (option_and_then (λ (r : ActionRow). argument_of r.form rest) o) ≡ Some a → OneAction packet_out a rest
+    by_row None none at = absurd cc
+    by_row (Some r) none at = by_said r.form (argument_of r.form rest) refl none at
 
 -- ---- lists of actions
 
@@ -209,6 +214,39 @@ found packet_out bytes fits actions h =
 
 -- ---- from structs to what is read
 
+-- what bytes say behind the type, if they begin with the struct of an action of this form
+record FormPasses (packet_out : Bool) (s : Argument) (rest : List ℕ) : Type 0 where
+  len : len_at rest ≡ 2 + size (said_cells s)
+  some : 8 ≤ 2 + size (said_cells s)
+  eights : (2 + size (said_cells s)) % 8 ≡ 0
+  none : first_of (form_refusals (form_of s) packet_out rest) ≡ None
+  at : argument_of (form_of s) rest ≡ Some s
+
+form_passes : (packet_out : Bool) (s : Argument) (rest : List ℕ) → Says 2 (said_cells s) rest → is_allowed packet_out s ≡ true → FormPasses packet_out s rest
+unfolding set_refusals
+form_passes packet_out Nothing rest y served = record { len = y.0; some = omega arith; eights = refl; none = rw y.0 refl; at = refl }
+form_passes packet_out (Byte n) rest y served = record { len = y.0; some = omega arith; eights = refl; none = rw y.0 refl; at = rw y.1.0 refl }
+form_passes packet_out (Tag type) rest y served = record { len = y.0; some = omega arith; eights = refl; none = rw (y.0, y.1.0, served) refl; at = rw y.1.0 refl }
+form_passes packet_out (Word n) rest y served = record { len = y.0; some = omega arith; eights = refl; none = rw y.0 refl; at = rw y.1.0 refl }
+form_passes packet_out (Port port max_len) rest y served =
+    let ok : is_port packet_out port ≡ true = grind (arith, nat_tests, served) in
+    record { len = y.0; some = omega arith; eights = refl; none = rw (y.0, y.1.0, ok) refl; at = rw (y.1.0, y.1.1.0) refl }
+form_passes packet_out (FieldValue f value) rest y served =
+    let may : is_settable f ≡ true = grind (arith, nat_tests, served) in
+    let le : value ≤ ones_of f = grind (arith, nat_tests, served) in
+    let class : eqb (big_number 2 (drop 4 rest)) 0x8000 ≡ true = eq-eqb _ _ y.1.0 in
+    let plain : eqb (slice_index rest 6 % 2) 0 ≡ true = eq-eqb _ _ (omega (arith, y.1.1.0)) in
+    let half : slice_index rest 6 / 2 ≡ number_of f = omega (arith, y.1.1.0) in
+    let known : settable (field_at (slice_index rest 6 / 2)) ≡ Some f = ap (λ (n : ℕ). settable (field_at n)) half ∙ ap settable (field_at-number_of f) ∙ rw may refl in
+    let field : set_field_at rest ≡ Some f = rw (class, plain) known in
+    let value_is : set_value_at f rest ≡ value = y.1.1.1.1.0 in
+    let bytes' : eqb (slice_index rest 7) (bytes_of f) ≡ true = eq-eqb _ _ y.1.1.1.0 in
+    let len' : eqb (len_at rest) (set_len f) ≡ true = eq-eqb _ _ y.0 in
+    let value' : ltb (ones_of f) (set_value_at f rest) ≡ false = le-ltb _ _ (omega (arith, value_is, le)) in
+    let most = bytes_most f in
+    let whole : 2 + size (said_cells (FieldValue f value)) ≡ set_len f = omega arith in
+    record { len = y.0 ∙ sym whole; some = omega (arith, whole); eights = ap (λ (n : ℕ). n % 8) whole ∙ omega arith; none = rw (field, bytes', len', value') refl; at = rw (field, value_is) refl }
+
 -- what bytes say that begin with the struct of an action that may be sent
 pub record Passes (packet_out : Bool) (a : Action) (rest : List ℕ) : Type 0 where
   pub len : len_at rest ≡ size (action_cells a)
@@ -218,30 +256,21 @@ pub record Passes (packet_out : Bool) (a : Action) (rest : List ℕ) : Type 0 wh
   pub at : action_at rest ≡ Some a
 
 pub passes : (packet_out : Bool) (a : Action) (rest : List ℕ) → Says 0 (action_cells a) rest → is_supported packet_out a ≡ true → Passes packet_out a rest
-unfolding type_refusals set_refusals action_at is_supported
-passes packet_out (Output port max_len) rest y served =
-    let ok : is_port packet_out port ≡ true = grind (arith, nat_tests, served) in
-    record { len = y.1.0; some = omega arith; eights = refl; none = rw (y.0, y.1.0, y.1.1.0, ok) refl; at = rw (y.0, y.1.1.0, y.1.1.1.0) refl }
-passes packet_out (PushVlan type) rest y served = record { len = y.1.0; some = omega arith; eights = refl; none = rw (y.0, y.1.0, y.1.1.0, served) refl; at = rw (y.0, y.1.1.0) refl }
-passes packet_out PopVlan rest y served = record { len = y.1.0; some = omega arith; eights = refl; none = rw (y.0, y.1.0) refl; at = rw y.0 refl }
-passes packet_out (Group group) rest y served = record { len = y.1.0; some = omega arith; eights = refl; none = rw (y.0, y.1.0) refl; at = rw (y.0, y.1.1.0) refl }
-passes packet_out (SetNwTtl ttl) rest y served = record { len = y.1.0; some = omega arith; eights = refl; none = rw (y.0, y.1.0) refl; at = rw (y.0, y.1.1.0) refl }
-passes packet_out DecNwTtl rest y served = record { len = y.1.0; some = omega arith; eights = refl; none = rw (y.0, y.1.0) refl; at = rw y.0 refl }
-passes packet_out (SetField f value) rest y served =
-    let may : is_settable f ≡ true = grind (arith, nat_tests, served) in
-    let le : value ≤ ones_of f = grind (arith, nat_tests, served) in
-    let class : eqb (big_number 2 (drop 4 rest)) 0x8000 ≡ true = eq-eqb _ _ y.1.1.0 in
-    let plain : eqb (slice_index rest 6 % 2) 0 ≡ true = eq-eqb _ _ (omega (arith, y.1.1.1.0)) in
-    let half : slice_index rest 6 / 2 ≡ number_of f = omega (arith, y.1.1.1.0) in
-    let known : settable (field_at (slice_index rest 6 / 2)) ≡ Some f = ap (λ (n : ℕ). settable (field_at n)) half ∙ ap settable (field_at-number_of f) ∙ rw may refl in
-    let field : set_field_at rest ≡ Some f = rw (class, plain) known in
-    let value_is : set_value_at f rest ≡ value = y.1.1.1.1.1.0 in
-    let bytes' : eqb (slice_index rest 7) (bytes_of f) ≡ true = eq-eqb _ _ y.1.1.1.1.0 in
-    let len' : eqb (len_at rest) (set_len f) ≡ true = eq-eqb _ _ y.1.0 in
-    let value' : ltb (ones_of f) (set_value_at f rest) ≡ false = le-ltb _ _ (omega (arith, value_is, le)) in
-    let most = bytes_most f in
-    let whole : size (action_cells (SetField f value)) ≡ set_len f = omega arith in
-    record { len = y.1.0 ∙ sym whole; some = omega (arith, whole); eights = ap (λ (n : ℕ). n % 8) whole ∙ omega arith; none = rw (y.0, field, bytes', len', value') refl; at = rw (y.0, field, value_is) refl }
+unfolding type_refusals action_at is_supported
+passes packet_out a rest y served =
+    let p = form_passes packet_out (said a).1 rest y.1 served in
+    let row : row_of (type_at rest) ≡ Some (said a).0 = ap row_of y.0 ∙ row_again a in
+    record {
+      len = p.len;
+      some = p.some;
+      eights = p.eights;
+      none = ap (λ (o : Option ActionRow). first_of (option_map_or (λ (r : ActionRow). form_refusals r.form packet_out rest) o ((true, unknown_type (type_at rest)) ∷ []))) row
+      ∙ ap (λ (form : Form). first_of (form_refusals form packet_out rest)) (form_is a) ∙ p.none;
+      at = ap (λ (o : Option ActionRow). option_and_then (action_saying (type_at rest)) (option_and_then (λ (r : ActionRow). argument_of r.form rest) o)) row
+      ∙ ap (λ (form : Form). option_and_then (action_saying (type_at rest)) (argument_of form rest)) (form_is a)
+      ∙ ap (option_and_then (action_saying (type_at rest))) p.at
+      ∙ ap (λ (t : ℕ). action_saying t (said a).1) y.0 ∙ said_again a;
+    }
 
 none_refused : (packet_out : Bool) (seen : List Action) (rest : List ℕ) (n : ℕ) → length seen ≤ 63 → len_at rest ≡ n → 8 ≤ n → n % 8 ≡ 0 → n ≤ length rest → first_of (type_refusals packet_out rest) ≡ None → first_of (action_refusals packet_out seen rest) ≡ None
 unfolding action_refusals
@@ -274,17 +303,21 @@ only packet_out bytes actions h served =
 -- ---- the types of actions
 
 pub type_listed : (a : Action) → list_any (λ n. n == action_type a) action_types ≡ true
-type_listed (Output port max_len) = refl
-type_listed (PushVlan type) = refl
 type_listed PopVlan = refl
-type_listed (Group group) = refl
-type_listed (SetNwTtl ttl) = refl
-type_listed DecNwTtl = refl
-type_listed (SetField f value) = refl
+type_listed other = refl
 
 abbrev HasAction : ℕ → Type 0
 HasAction n = (a : Action) × (action_type a ≡ n)
 
+has_action : (type : ℕ) (s : Argument) (o : Option Action) → action_saying type s ≡ o → is_some o ≡ true → HasAction type
+has_action type s None is h = absurd cc
+has_action type s (Some a) is h = (a, (is_said type s a is).kind)
+
+have_actions : (rows : List ActionRow) → list_all has_sample rows ≡ true → AllByRecursion HasAction (map (λ r. r.kind) rows)
+have_actions [] h = tt
+have_actions (r ∷ rows) h =
+    let parts = and_true (has_sample r) (list_all has_sample rows) h in
+    (has_action r.kind (sample r.form) (action_saying r.kind (sample r.form)) refl parts.0, have_actions rows parts.1)
+
 pub types_have_actions : All HasAction action_types
-types_have_actions =
-    All-from_recursion HasAction action_types ((Output 0 0, refl), ((PushVlan 0, refl), ((PopVlan, refl), ((Group 0, refl), ((SetNwTtl 0, refl), ((DecNwTtl, refl), ((SetField EthDst 0, refl), tt)))))))
+types_have_actions = All-from_recursion HasAction action_types (have_actions ACTIONS refl)

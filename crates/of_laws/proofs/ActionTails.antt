@@ -1,18 +1,30 @@
 -- Actions that were computed from bytes are the actions that the bytes are.
-use Rattle.std.proofs.Common.{◌≡◌, ℕ, zero, suc, Bool, true, false, ltb, cond, List, [], ◌∷◌, drop, Option, Some, None, Ok, refl, arith}
-use Rattle.std.specs.Prelude.{IsSome}
-use Rattle.std.specs.Option.{option_map, option_map_or}
-use Rattle.std.proofs.lemmas.Bool.{ltb-false}
+use Rattle.std.proofs.Common.{◌≡◌, ℕ, zero, suc, Bool, true, false, eqb, ltb, cond, List, [], ◌∷◌, drop, Option, Some, None, Ok, refl, subst, arith}
+use Rattle.std.specs.Prelude.{IsSome, find, is_some}
+use Rattle.std.specs.Option.{option_and_then, option_map, option_map_or}
+use Rattle.std.proofs.lemmas.Bool.{eqb-true, ltb-false}
+use Rattle.std.proofs.lemmas.Bool.Decides.{nat_tests}
+use Rattle.std.specs.List.{list_all}
 use Rattle.of_wire.specs.declared.code.Code.{Code}
+use Rattle.of_wire.specs.declared.codes.TheConstants.{OFPBAC_BAD_SET_TYPE}
 use Rattle.of_wire.specs.Refusals.{first_of}
 use Rattle.of_wire.specs.Items.{TakesBytes}
 use Rattle.of_wire.proofs.FirstLemmas.{none_applies, first_false}
 use Rattle.of_layers.specs.declared.field.Field.{Field}
+use Rattle.of_layers.specs.declared.field.Field.TheVariants.{EthDst}
+use Rattle.of_layers.proofs.TestLemmas.{and_true}
 use Rattle.of_actions.specs.declared.action.Action.{Action}
-use Rattle.of_actions.specs.declared.action.Action.TheVariants.{SetField}
-use Rattle.of_actions.specs.Beginnings.{len_at}
+use Rattle.of_actions.specs.declared.action.Action.TheVariants.{PopVlan}
+use Rattle.of_actions.specs.declared.argument.Argument.{Argument}
+use Rattle.of_actions.specs.declared.argument.Argument.TheVariants.{Nothing, Byte, Tag, Word, Port, Field as FieldValue}
+use Rattle.of_actions.specs.declared.rows.ActionRow.{ActionRow}
+use Rattle.of_actions.specs.declared.rows.Form.{Form}
+use Rattle.of_actions.specs.declared.rows.Form.TheVariants as forms
+use Rattle.of_actions.specs.declared.rows.TheConstants.{ACTIONS}
+use Rattle.of_actions.specs.Beginnings.{type_at, len_at}
+use Rattle.of_actions.specs.Rows.{row_of, said, action_saying}
 use Rattle.of_actions.specs.SetField.{set_field_at, set_value_at, set_refusals, known_set_refusals}
-use Rattle.of_actions.specs.Actions.{actions_of, action_refusals, type_refusals, action_at, actions_said, AreActions}
+use Rattle.of_actions.specs.Actions.{actions_of, action_refusals, argument_of, form_refusals, type_refusals, unknown_type, action_at, actions_said, AreActions}
 use Rattle.of_laws.proofs.Items.{HasValues, are_items}
 
 -- where none is refused, none of the later ones is
@@ -31,33 +43,74 @@ actions_take packet_out seen bytes some none =
     let low : ltb (len_at bytes) 8 ≡ false = first_false _ _ (first_false _ _ (none_applies (action_refusals packet_out seen bytes) none).1.1.0) in
     omega (arith, ltb-false (len_at bytes) 8 low)
 
+-- ---- rows and what they say
+
+pub form_of : Argument → Form
+form_of Nothing = forms.Nothing
+form_of (Byte n) = forms.Byte
+form_of (Tag type) = forms.Tag
+form_of (Word n) = forms.Word
+form_of (Port port max_len) = forms.Port
+form_of (FieldValue f value) = forms.Field
+
+-- what an action of a form may say
+abbrev pub sample : Form → Argument
+sample forms.Nothing = Nothing
+sample forms.Byte = Byte 0
+sample forms.Tag = Tag 0
+sample forms.Word = Word 0
+sample forms.Port = Port 0 0
+sample forms.Field = FieldValue EthDst 0
+
+-- there is an action of the row's type and form
+abbrev pub has_sample : ActionRow → Bool
+has_sample r = is_some (action_saying r.kind (sample r.form))
+
+pub form_is : (a : Action) → (said a).0.form ≡ form_of (said a).1
+form_is PopVlan = refl
+form_is other = refl
+
+pub row_again : (a : Action) → row_of (said a).0.kind ≡ Some (said a).0
+row_again PopVlan = refl
+row_again other = refl
+
+row_has : (type : ℕ) (rows : List ActionRow) (r : ActionRow) → find (λ r. eqb r.kind type) rows ≡ Some r → list_all has_sample rows ≡ true → is_some (action_saying type (sample r.form)) ≡ true
+row_has type [] r h all = absurd cc
+row_has type (x ∷ rows) r h all = by_test (eqb x.kind type) refl h
+  where
+    by_test : (b : Bool) → eqb x.kind type ≡ b → cond b (Some x) (find (λ r. eqb r.kind type) rows) ≡ Some r → is_some (action_saying type (sample r.form)) ≡ true
+    by_test true is e =
+        let same : x ≡ r = cc in
+        subst (λ (y : ActionRow). is_some (action_saying type (sample y.form)) ≡ true) same
+        (subst (λ (t : ℕ). is_some (action_saying t (sample x.form)) ≡ true) (eqb-true x.kind type is) (and_true (has_sample x) (list_all has_sample rows) all).0)
+    by_test false is e = row_has type rows r e (and_true (has_sample x) (list_all has_sample rows) all).1
+
+-- whatever its numbers are
+said_has : (type : ℕ) (s : Argument) → is_some (action_saying type (sample (form_of s))) ≡ true → is_some (action_saying type s) ≡ true
+said_has type Nothing h = h
+said_has type other h = grind (arith, nat_tests, h)
+
 -- what is not refused has a value
 record Has (refusals : List (Bool × Code)) (value : Option Action) : Type 0 where
   has : first_of refusals ≡ None → IsSome value
 
-some : (rs : List (Bool × Code)) (a : Action) → Has rs (Some a)
-some rs a = record { has = λ none. refl }
-
-either : (b : Bool) (rs ss : List (Bool × Code)) (x y : Option Action) → Has rs x → Has ss y → Has (cond b rs ss) (cond b x y)
-either true rs ss x y h k = h
-either false rs ss x y h k = k
-
-other_type : (b : Bool) (p q : Code) → Has (cond b ((true, p) ∷ []) ((true, q) ∷ [])) None
-other_type true p q = record { has = λ none. absurd cc }
-other_type false p q = record { has = λ none. absurd cc }
-
-some_field : (rest : List ℕ) (o : Option Field) (code : Code) → Has (option_map_or (known_set_refusals rest) o ((true, code) ∷ [])) (option_map (λ (f : Field). SetField f (set_value_at f rest)) o)
-some_field rest None code = record { has = λ none. absurd cc }
-some_field rest (Some f) code = some _ _
-
-some_set : (rest : List ℕ) → Has (set_refusals rest) (option_map (λ (f : Field). SetField f (set_value_at f rest)) (set_field_at rest))
+form_has : (packet_out : Bool) (form : Form) (type : ℕ) (rest : List ℕ) → is_some (action_saying type (sample form)) ≡ true → Has (form_refusals form packet_out rest) (option_and_then (action_saying type) (argument_of form rest))
 unfolding set_refusals
-some_set rest = some_field rest (set_field_at rest) _
+form_has packet_out forms.Field type rest h = by_field (set_field_at rest)
+  where
+    by_field : (o : Option Field) → Has (option_map_or (known_set_refusals rest) o ((true, OFPBAC_BAD_SET_TYPE) ∷ [])) (option_and_then (action_saying type) (option_map (λ (f : Field). FieldValue f (set_value_at f rest)) o))
+    by_field None = record { has = λ none. absurd cc }
+    by_field (Some f) = record { has = λ none. said_has type (FieldValue f (set_value_at f rest)) h }
+form_has packet_out other type rest h = record { has = λ none. said_has type _ h }
 
--- by the tests of the type
 some_type : (packet_out : Bool) (rest : List ℕ) → Has (type_refusals packet_out rest) (action_at rest)
 unfolding type_refusals action_at
-some_type packet_out rest = search (either, some, other_type, some_set) depth 40
+some_type packet_out rest = by_row (row_of (type_at rest)) refl
+  where
+    by_row : (o : Option ActionRow) → row_of (type_at rest) ≡ o
+        → Has (option_map_or (λ (r : ActionRow). form_refusals r.form packet_out rest) o ((true, unknown_type (type_at rest)) ∷ [])) (option_and_then (action_saying (type_at rest)) (option_and_then (λ (r : ActionRow). argument_of r.form rest) o))
+    by_row None is = record { has = λ none. absurd cc }
+    by_row (Some r) is = form_has packet_out r.form (type_at rest) rest (row_has (type_at rest) ACTIONS r is refl)
 
 actions_have : (packet_out : Bool) → HasValues (actions_of packet_out)
 unfolding action_refusals

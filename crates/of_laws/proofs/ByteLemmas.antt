@@ -18,13 +18,15 @@ use Rattle.of_oxm.specs.MatchFieldWire.{encoding}
 use Rattle.of_oxm.specs.MatchGrammar.{padded}
 use Rattle.of_oxm.specs.Canonical.{canonical, written_len}
 use Rattle.of_actions.specs.declared.action.Action.{Action}
-use Rattle.of_actions.specs.declared.action.Action.TheVariants.{Output, PushVlan, PopVlan, Group, SetNwTtl, DecNwTtl, SetField}
+use Rattle.of_actions.specs.declared.argument.Argument.{Argument}
+use Rattle.of_actions.specs.declared.argument.Argument.TheVariants.{Nothing, Byte, Tag, Word, Port, Field as FieldValue}
+use Rattle.of_actions.specs.Rows.{said}
 use Rattle.of_actions.specs.declared.instruction.Instruction.{Instruction}
 use Rattle.of_actions.specs.declared.instruction.Instruction.TheVariants.{Apply, Clear, Write, Metadata, Goto}
-use Rattle.of_actions.specs.Supported.{is_supported, are_supported}
+use Rattle.of_actions.specs.Supported.{is_allowed, is_supported, are_supported}
 use Rattle.of_actions.specs.InstructionLists.{are_kept, is_served_body}
 use Rattle.of_actions.specs.SetField.{set_len}
-use Rattle.of_actions.specs.CanonicalActions.{canonical_action, canonical_actions, canonical_set_field}
+use Rattle.of_actions.specs.CanonicalActions.{canonical_action, canonical_argument, canonical_actions, canonical_set_field}
 use Rattle.of_actions.specs.CanonicalInstructions.{after_type, canonical_instruction, canonical_instructions}
 use Rattle.of_groups.specs.declared.bucket.Bucket.{Bucket}
 use Rattle.of_groups.specs.declared.group.GroupKind.{GroupKind}
@@ -123,18 +125,21 @@ match_bytes m = next (omega arith) (next (omega arith) (both (big 2 (written_len
 
 -- ---- actions
 
-action_bytes : (a : Action) → is_supported false a ≡ true → Bytes (canonical_action a)
-unfolding canonical_action canonical_set_field is_supported
-action_bytes (SetField f v) h =
+argument_bytes : (type : ℕ) (s : Argument) → is_allowed false s ≡ true → Bytes (canonical_argument type s)
+unfolding canonical_set_field
+argument_bytes type (FieldValue f v) h =
     let number = number_below f in
     let size = bytes_most f in
     four (omega arith) (omega arith) (omega arith) (omega (arith, size)) (four (omega arith) (omega arith) (omega (arith, number)) (omega (arith, size)) (both (big (bytes_of f) v) (zeros (set_len f - (8 + bytes_of f)))))
-action_bytes (Output port max_len) h = struct_bytes tables.action_output (0 ∷ 16 ∷ port ∷ max_len ∷ []) tt
-action_bytes (PushVlan type) h = struct_bytes tables.action_push (17 ∷ 8 ∷ type ∷ []) tt
-action_bytes PopVlan h = struct_bytes tables.action_header (18 ∷ 8 ∷ []) tt
-action_bytes (Group group) h = struct_bytes tables.action_group (22 ∷ 8 ∷ group ∷ []) tt
-action_bytes (SetNwTtl ttl) h = let low : ttl < 256 = grind (arith, nat_tests) in struct_bytes tables.action_nw_ttl (23 ∷ 8 ∷ ttl ∷ []) (low, tt)
-action_bytes DecNwTtl h = struct_bytes tables.action_header (24 ∷ 8 ∷ []) tt
+argument_bytes type Nothing h = struct_bytes tables.action_header (type ∷ 8 ∷ []) tt
+argument_bytes type (Byte n) h = let low : n < 256 = grind (arith, nat_tests) in struct_bytes tables.action_nw_ttl (type ∷ 8 ∷ n ∷ []) (low, tt)
+argument_bytes type (Tag n) h = struct_bytes tables.action_push (type ∷ 8 ∷ n ∷ []) tt
+argument_bytes type (Word n) h = struct_bytes tables.action_group (type ∷ 8 ∷ n ∷ []) tt
+argument_bytes type (Port port max_len) h = struct_bytes tables.action_output (type ∷ 16 ∷ port ∷ max_len ∷ []) tt
+
+action_bytes : (a : Action) → is_supported false a ≡ true → Bytes (canonical_action a)
+unfolding canonical_action is_supported
+action_bytes a h = argument_bytes (said a).0.kind (said a).1 h
 
 all_actions : (xs : List Action) → list_all (is_supported false) xs ≡ true → AllByRecursion (λ a. Bytes (canonical_action a)) xs
 all_actions [] h = tt

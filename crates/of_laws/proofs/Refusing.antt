@@ -34,6 +34,7 @@ use Rattle.of_text.specs.Refusals.{action_refusals, field_refusals, list_refusal
 use Rattle.of_text.specs.Rows.{ActionFits, FieldFits, IsMask as RowMask}
 use Rattle.of_laws.specs.Refused.{match_outcome}
 use Rattle.of_laws.proofs.MatchTails.{headed}
+use Rattle.of_text.proofs.EntryLemmas.{action_served}
 use Rattle.of_text.proofs.RefusalLemmas.{first_append}
 use Rattle.of_text.proofs.WireLemmas.{action_as_on_wire, field_as_on_wire}
 
@@ -109,33 +110,10 @@ walk {V} kind text own (suc n) seen (v ∷ vs) room h =
 abbrev own_action : List Action → Action → List (Bool × Code)
 own_action seen a = (ltb 63 (length seen), refusal 2 7) ∷ action_refusals a
 
--- an action that is not refused is supported
-supported : (a : Action) → ActionFits a → first_of (action_refusals a) ≡ None → is_supported false a ≡ true
-unfolding is_supported
-supported (Output port max_len) fits none =
-    let ok = not-false (is_port false port) (none_applies (action_refusals (Output port max_len)) none).0 in
-    let low : ltb max_len 65536 ≡ true = lt-ltb max_len 65536 (omega (arith, fits.1)) in
-    rw (ok, low) refl
-supported (PushVlan type) fits none = not-false (is_tag_type type) (none_applies (action_refusals (PushVlan type)) none).0
-supported PopVlan fits none = refl
-supported (Group group) fits none = lt-ltb group 4294967296 (omega (arith, fits))
-supported (SetNwTtl ttl) fits none = lt-ltb ttl 256 (omega (arith, fits))
-supported DecNwTtl fits none = refl
-supported (SetField f value) fits none =
-    let tests = none_applies (action_refusals (SetField f value)) none in
-    let may = not-false (is_settable f) tests.0 in
-    let most : leb value (ones_of f) ≡ true = le-leb value (ones_of f) (ltb-false (ones_of f) value tests.1.0) in
-    rw (may, most) refl
-
 some_action : (a : Action) → 0 < length (canonical_action a)
 unfolding canonical_action canonical_set_field
-some_action (Output port max_len) = omega arith
-some_action (PushVlan type) = omega arith
-some_action PopVlan = omega arith
-some_action (Group group) = omega arith
-some_action (SetNwTtl ttl) = omega arith
-some_action DecNwTtl = omega arith
 some_action (SetField f value) = omega arith
+some_action other = omega arith
 
 too_many : (seen : List Action) (rest : List ℕ) → ltb 63 (length seen) ≡ true → first_of (wire.action_refusals false seen rest) ≡ Some (refusal 2 7)
 unfolding wire.action_refusals
@@ -159,8 +137,8 @@ action_step seen a x fits = by_count (ltb 63 (length seen)) refl
         record {
           some = some_action a;
           first = action_as_on_wire a seen x fits low ∙ sym own;
-          at = λ none. (action_again false a seen x low (supported a fits (sym own ∙ none))).at;
-          size = λ none. (action_again false a seen x low (supported a fits (sym own ∙ none))).size;
+          at = λ none. (action_again false a seen x low (action_served a fits (sym own ∙ none))).at;
+          size = λ none. (action_again false a seen x low (action_served a fits (sym own ∙ none))).size;
         }
 
 action_steps : (seen actions : List Action) → AllByRecursion ActionFits actions → AreSteps (actions_of false) canonical_action own_action seen actions

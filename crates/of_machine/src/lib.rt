@@ -16,7 +16,7 @@ pub use laws::{
 };
 pub use of_groups::Chosen;
 pub use of_wire::PacketInReason;
-pub use packet_frame::PacketFrame;
+pub use packet_frame::{PacketFrame, rewrite_frame};
 pub use runs::{run, run_actions};
 pub use tables::is_miss;
 pub use world::{NoLog, StepLog, Steps, World};

@@ -113,10 +113,10 @@ impl<'a> PacketFrame<'a> {
         ensures { OnOk result (self.new ≡ rewritten action self.old) }
     {
         match &mut self.held {
-            Held::Own(frame) => rewrite(action, frame),
+            Held::Own(frame) => rewrite_frame(action, frame),
             Held::Lent(bytes, known) => {
                 let mut frame = Frame::with_known(bytes.to_vec(alloc)?, *known);
-                rewrite(action, &mut frame)?;
+                rewrite_frame(action, &mut frame)?;
                 self.held = Held::Own(frame);
                 Ok(())
             }
@@ -140,8 +140,8 @@ impl<'a> PacketFrame<'a> {
     }
 }
 
-// The frame that an action makes.
-fn rewrite(action: Action, frame: &mut Frame) -> Result<(), AllocError>
+/// The frame that an action makes which rewrites it; others leave it as it is (OpenFlow 1.3.5, 5.12).
+pub fn rewrite_frame(action: Action, frame: &mut Frame) -> Result<(), AllocError>
     requires { IsTrue (is_supported false action) }
     ensures { OnOk result (frame.new ≡ rewritten action frame.old) }
 {

@@ -1,9 +1,10 @@
 -- GROUP, GROUP_DESC and GROUP_FEATURES (OpenFlow 1.3.5, 7.3.5.9, 7.3.5.10 and 7.3.5.11): what groups count, what they are, and which there can be.
-use Rattle.std.specs.Prelude.{ℕ, ◌+◌, ◌*◌, List, [], ◌∷◌, ◌++◌, length, map, take, Option, Some, None}
+use Rattle.std.specs.Prelude.{ℕ, ◌+◌, ◌*◌, ◌^◌, List, [], ◌∷◌, ◌++◌, length, map, sum, take, Option, Some, None}
 use Rattle.std.specs.List.{count_by, flat_map}
 use Rattle.std.specs.Option.{option_to_list}
 use Rattle.of_formats.specs.Structs.{size, written}
 use Rattle.of_formats.specs.Tables as structs
+use Rattle.of_actions.specs.declared.rows.TheConstants.{ACTIONS}
 use Rattle.of_messages.specs.CanonicalGroups.{canonical_buckets}
 use Rattle.of_groups.specs.declared.bucket.Bucket.{Bucket}
 use Rattle.of_groups.specs.declared.group.Group.{Group}
@@ -76,9 +77,9 @@ kinds_of_groups = 0x0d
 abbrev pub group_capabilities : ℕ
 group_capabilities = 0x0c
 
--- the bits of the types 0, 17, 18 and 22 to 25: OUTPUT, PUSH_VLAN, POP_VLAN, GROUP, SET_NW_TTL, DEC_NW_TTL and SET_FIELD
+-- a bit for the type of each action
 abbrev pub group_actions : ℕ
-group_actions = 0x03c60001
+group_actions = sum (map (λ r. 2 ^ r.kind) ACTIONS)
 
 -- of ALL, SELECT, INDIRECT and FAST-FAILOVER: how many groups there can be, and which actions; there is no SELECT
 unfoldable pub group_features : List ℕ

@@ -3,11 +3,12 @@ ghost use Rattle.std.specs.Prelude.{◌≡◌, ◌<◌, ◌≤◌, ◌+◌, ◌*
 ghost use Rattle.std.specs.List.{flat_map};
 ghost use Rattle.of_table.specs.Tables.{tables_of};
 ghost use Rattle.of_statistics.specs.Replies.{with_row, with_rows};
-ghost use Rattle.of_statistics.specs.Groups.{bucket_row, group_bytes, group_description, group_description_bytes, group_features, group_features_bytes, group_fixed_part, group_row, group_rows, row_among};
+ghost use Rattle.of_statistics.specs.Groups.{bucket_row, group_actions, group_bytes, group_description, group_description_bytes, group_features, group_features_bytes, group_fixed_part, group_row, group_rows, row_among};
 
 use crate::references::references;
 use crate::replies::{Replies, begun, sealed};
 use crate::writing::put_duration;
+use of_actions::ACTIONS;
 use of_classifier::Lookup;
 use of_groups::{Bucket, Group, Groups};
 use of_messages::{MessageBytes, write_buckets};
@@ -24,11 +25,9 @@ const GROUP_DESC: u16 = 7;
 /// OFPMP_GROUP_FEATURES.
 const GROUP_FEATURES: u16 = 8;
 
-/// ALL, INDIRECT and FAST-FAILOVER; chains, which are checked; 256 groups at most of each type that there is; and for each
-/// type OUTPUT, PUSH_VLAN, POP_VLAN, GROUP, SET_NW_TTL, DEC_NW_TTL and SET_FIELD.
-const FEATURES: [u8; 40] = [
-    0, 0, 0, 0x0d, 0, 0, 0, 0x0c, 0, 0, 1, 0, 0, 0, 0, 0, 0, 0, 1, 0, 0, 0, 1, 0, 0x03, 0xc6, 0, 1,
-    0, 0, 0, 0, 0x03, 0xc6, 0, 1, 0x03, 0xc6, 0, 1,
+/// ALL, INDIRECT and FAST-FAILOVER; chains, which are checked; 256 groups at most of each type that there is.
+const FEATURES: [u8; 24] = [
+    0, 0, 0, 0x0d, 0, 0, 0, 0x0c, 0, 0, 1, 0, 0, 0, 0, 0, 0, 0, 1, 0, 0, 0, 1, 0,
 ];
 
 // How long the row of a group is: 40 bytes, and 16 for each bucket.
@@ -179,10 +178,24 @@ pub fn group_description_replies(
     out.close()
 }
 
+// A bit for the type of each action.
+fn action_bits() -> u32
+    ensures { result ≡ group_actions }
+{
+    ACTIONS.iter().fold(0, |bits: u32, row| {
+        bits | 1u32.wrapping_shl(u32::from(row.kind))
+    })
+}
+
 fn put_features(out: &mut Vec<u8>) -> Result<(), AllocError>
     ensures { OnOk result (out.new.items ≡ out.old.items ++ group_features) }
 {
-    out.extend_from_slice(&FEATURES)
+    let actions = action_bits();
+    out.extend_from_slice(&FEATURES)?;
+    put_u32(out, actions)?;
+    put_u32(out, 0)?;
+    put_u32(out, actions)?;
+    put_u32(out, actions)
 }
 
 /// Which groups there can be (OpenFlow 1.3.5, 7.3.5.11).

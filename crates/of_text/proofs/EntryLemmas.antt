@@ -143,7 +143,8 @@ steps_rise p (s ∷ ss) h =
     above n [] h = refl
     above n (x ∷ xs) h = let k : 41 + n ≤ 40 + run_place x = h.0 in and_from _ _ (lt-ltb n (run_place x) (omega (arith, k))) (above n xs h.1)
 
-action_served : (a : Action) → ActionFits a → first_of (action_refusals a) ≡ None → is_supported false a ≡ true
+-- an action that is not refused is supported
+pub action_served : (a : Action) → ActionFits a → first_of (action_refusals a) ≡ None → is_supported false a ≡ true
 unfolding is_supported
 action_served (Output p m) k h = let none = none_applies (action_refusals (Output p m)) h in and_from (is_port false p) (nat_lt m 0x10000) (not-false _ none.0) (lt-ltb m 0x10000 k.1)
 action_served (PushVlan t) k h = let none = none_applies (action_refusals (PushVlan t)) h in not-false _ none.0

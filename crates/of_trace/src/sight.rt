@@ -8,7 +8,7 @@ ghost use Rattle.of_trace.specs.Encoded.{is_encoded};
 
 use of_actions::Action;
 use of_headers::FieldKey;
-use of_machine::Step;
+use of_machine::{Step, rewrite_frame};
 use of_rewrite::Frame;
 use std::alloc::{AllocError, Global};
 
@@ -73,14 +73,10 @@ fn act_on(frame: &mut Frame, action: Action) -> Result<(), AllocError>
     ensures { OnOk result (frame.new ≡ frame_after action frame.old) }
 {
     match action {
-        Action::PushVlan(tpid) => frame.push_vlan(tpid)?,
-        Action::PopVlan => frame.pop_vlan(),
-        Action::SetNwTtl(ttl) => frame.set_ttl(ttl),
-        Action::SetField { field, value } => frame.set(field, value),
         Action::DecNwTtl => {
             frame.dec_ttl();
+            Ok(())
         }
-        _ => {}
+        _ => rewrite_frame(action, frame),
     }
-    Ok(())
 }

@@ -1,5 +1,5 @@
 use Rattle.of_machine.proofs.Promises.{tag_type, settable, value_fits}
-use Rattle.of_machine.proofs.packet_frame.rewrite.Goals as goal
+use Rattle.of_machine.proofs.packet_frame.rewrite_frame.Goals as goal
 
 pub push_vlan-requires : goal.push_vlan-requires
 push_vlan-requires c = tag_type c.in-PushVlan.tpid (rw c.in-PushVlan.is at c.requires)
