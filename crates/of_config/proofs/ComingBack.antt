@@ -28,7 +28,7 @@ use Rattle.of_text.proofs.FillLemmas.{sixteen, table_at as text_table_at}
 use Rattle.of_text.proofs.GroupLemmas.{config_groups}
 use Rattle.of_text.proofs.TextLemmas.{all_back, all_both, all_front}
 use Rattle.of_messages.specs.CanonicalGroups.{canonical_buckets, group_add_bytes, group_add_fixed_part, has_numbers}
-use Rattle.of_messages.specs.Heads.{flow_mod, group_mod}
+use Rattle.of_formats.specs.declared.messages.TheConstants.{FLOW_MOD, GROUP_MOD}
 use Rattle.of_messages.specs.Written.{flow_mod_bytes, flow_mod_fixed_part, message}
 use Rattle.of_messages.proofs.Appended.{length_flow_mod}
 use Rattle.of_messages.proofs.BucketsWritten.{buckets_short, length_front}
@@ -140,7 +140,7 @@ all_sent c k =
 abbrev AreCommands : List (List ℕ) → Type 0
 AreCommands ms = AllByRecursion (λ (m : List ℕ). is_command m ≡ true) ms
 
-is_of : (kind xid : ℕ) (body : List ℕ) → length body ≤ 65527 → (eqb kind group_mod || eqb kind flow_mod) ≡ true → is_command (message kind xid body) ≡ true
+is_of : (kind xid : ℕ) (body : List ℕ) → length body ≤ 65527 → (eqb kind GROUP_MOD || eqb kind FLOW_MOD) ≡ true → is_command (message kind xid body) ≡ true
 is_of kind xid body few is =
     let one = one_message kind xid body few in
     let m = message kind xid body in

@@ -19,7 +19,8 @@ use Rattle.of_table.specs.Selecting.{Notice}
 use Rattle.of_table.specs.Tables.{notices_in}
 use Rattle.of_messages.specs.declared.role.Role.{Role}
 use Rattle.of_formats.specs.Reading.{◌>>=◌}
-use Rattle.of_messages.specs.Heads.{flow_mod, group_mod, head_refusals, role_refusals, type_of, xid_of}
+use Rattle.of_formats.specs.declared.messages.TheConstants.{FLOW_MOD, GROUP_MOD}
+use Rattle.of_messages.specs.Heads.{head_refusals, role_refusals, type_of, xid_of}
 use Rattle.of_messages.specs.GroupMods.{group_mod_of}
 use Rattle.of_messages.specs.Messages.{body_of, flow_mod_of, is_delete, message_by, message_from}
 use Rattle.of_messages.specs.Written.{error_bytes, message}
@@ -130,12 +131,12 @@ group_mod_said m said k type e none =
 -- its type is one of the two
 type_is : (m : List ℕ) → is_command m ≡ true → (type_of m ≡ 15) ⊎ (type_of m ≡ 14)
 type_is m h =
-    let types = eqb (type_of m) group_mod || eqb (type_of m) flow_mod in
+    let types = eqb (type_of m) GROUP_MOD || eqb (type_of m) FLOW_MOD in
     let outer = and_parts _ (eqb (length_of m) (length m) && types) h in
     let inner = and_parts (eqb (length_of m) (length m)) types outer.1 in
-    by_test (eqb (type_of m) group_mod) (eqb (type_of m) flow_mod) refl refl inner.1
+    by_test (eqb (type_of m) GROUP_MOD) (eqb (type_of m) FLOW_MOD) refl refl inner.1
   where
-    by_test : (b c : Bool) → eqb (type_of m) group_mod ≡ b → eqb (type_of m) flow_mod ≡ c → (b || c) ≡ true → (type_of m ≡ 15) ⊎ (type_of m ≡ 14)
+    by_test : (b c : Bool) → eqb (type_of m) GROUP_MOD ≡ b → eqb (type_of m) FLOW_MOD ≡ c → (b || c) ≡ true → (type_of m ≡ 15) ⊎ (type_of m ≡ 14)
     by_test true c d e i = inl (eqb-true (type_of m) 15 d)
     by_test false true d e i = inr (eqb-true (type_of m) 14 e)
     by_test false false d e i = absurd cc

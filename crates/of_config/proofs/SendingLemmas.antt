@@ -7,7 +7,8 @@ use Rattle.std.specs.Option.{option_map}
 use Rattle.smallvec.specs.SmallVec.{SmallVec}
 use Rattle.of_wire.specs.declared.code.Code.{Code}
 use Rattle.of_messages.specs.declared.message.Message.{Message}
-use Rattle.of_messages.specs.Heads.{flow_mod, group_mod, type_of}
+use Rattle.of_formats.specs.declared.messages.TheConstants.{FLOW_MOD, GROUP_MOD}
+use Rattle.of_messages.specs.Heads.{type_of}
 use Rattle.of_messages.specs.Hellos.{version_by, elements_of}
 use Rattle.of_messages.specs.Messages.{message_from}
 use Rattle.of_session.specs.declared.session.Phase.TheVariants.{Open}
@@ -55,9 +56,9 @@ is_ready s h = λ i. record { connection = h i; core = s.core }
 
 pub is_message : (m : List ℕ) → is_command m ≡ true → IsMessage m
 is_message m h =
-    let rest = eqb (length_of m) (length m) && (eqb (type_of m) group_mod || eqb (type_of m) flow_mod) in
+    let rest = eqb (length_of m) (length m) && (eqb (type_of m) GROUP_MOD || eqb (type_of m) FLOW_MOD) in
     let outer = and_parts (leb 8 (length m)) rest h in
-    let inner = and_parts (eqb (length_of m) (length m)) (eqb (type_of m) group_mod || eqb (type_of m) flow_mod) outer.1 in
+    let inner = and_parts (eqb (length_of m) (length m)) (eqb (type_of m) GROUP_MOD || eqb (type_of m) FLOW_MOD) outer.1 in
     record { header = leb-true 8 (length m) outer.0; whole = eqb-true (length_of m) (length m) inner.0 }
 
 -- it is handled, and then nothing is left

@@ -2,7 +2,8 @@
 use Rattle.std.specs.Prelude.{◌≡◌, ℕ, ◌+◌, ◌==◌, ◌&&◌, ◌||◌, nat_le, Bool, List, [], ◌∷◌, length, drop, Option, Some, None, Result, Ok, Err, if◌then◌else◌}
 use Rattle.byteorder.specs.Endian.{big_number}
 use Rattle.of_wire.specs.declared.code.Code.{Code}
-use Rattle.of_messages.specs.Heads.{error, flow_mod, group_mod, type_of}
+use Rattle.of_formats.specs.declared.messages.TheConstants.{ERROR, FLOW_MOD, GROUP_MOD}
+use Rattle.of_messages.specs.Heads.{type_of}
 use Rattle.of_session.specs.declared.session.Phase.TheVariants.{Open}
 use Rattle.of_session.specs.Stream.{length_of}
 use Rattle.of_text.specs.Configs.{Configuration}
@@ -20,11 +21,11 @@ use Rattle.of_config.specs.declared.fault.ConfigFault.TheVariants.{NotACommand, 
 
 -- by its header a single whole GROUP_MOD or FLOW_MOD (OpenFlow 1.3.5, 7.1)
 abbrev pub is_command : List ℕ → Bool
-is_command m = nat_le 8 (length m) && (length_of m == length m && (type_of m == group_mod || type_of m == flow_mod))
+is_command m = nat_le 8 (length m) && (length_of m == length m && (type_of m == GROUP_MOD || type_of m == FLOW_MOD))
 
 -- the code of an ERROR (7.4.4); None of another message
 abbrev pub code_of : List ℕ → Option Code
-code_of m = if type_of m == error && nat_le 12 (length m) then Some (record { kind = big_number 2 (drop 8 m); code = big_number 2 (drop 10 m) }) else None
+code_of m = if type_of m == ERROR && nat_le 12 (length m) then Some (record { kind = big_number 2 (drop 8 m); code = big_number 2 (drop 10 m) }) else None
 
 -- this, or else that
 abbrev pub or_else : Option Code → Option Code → Option Code

@@ -6,6 +6,7 @@ ghost use Rattle.of_config.specs.Sending.{IsReady, code_of as code_is, config_by
 use crate::fault::ConfigFault;
 use byteorder::{BigEndian, ByteOrder};
 use of_classifier::Scan;
+use of_formats::messages::{ERROR, FLOW_MOD, GROUP_MOD};
 use of_switch::{Effect, Switch, SwitchError};
 use of_text::Config;
 use of_wire::{Bytes, Code};
@@ -16,13 +17,6 @@ const DPID: u64 = 1;
 
 /// A HELLO of version 4 without elements (OpenFlow 1.3.5, 7.5.1).
 const HELLO: [u8; 8] = [4, 0, 0, 8, 0, 0, 0, 0];
-
-/// The types of ERROR, FLOW_MOD and GROUP_MOD.
-const ERROR: u8 = 1;
-
-const FLOW_MOD: u8 = 14;
-
-const GROUP_MOD: u8 = 15;
 
 // Whether these bytes are a single whole GROUP_MOD or FLOW_MOD, by its header.
 fn is_command(message: &[u8]) -> bool

@@ -1,15 +1,15 @@
 -- What a FLOW_MOD does to the flow tables (OpenFlow 1.3.5, 6.4 and 7.3.4.1), and the notices of removed entries (7.4.2).
-use Rattle.std.specs.Prelude.{ℕ, ◌%◌, ◌^◌, ◌==◌, ◌&&◌, nat_le, bit_and, Bool, true, false, not, List, [], ◌∷◌, map, filter, Option, Some, None, is_none, if◌then◌else◌}
+use Rattle.std.specs.Prelude.{ℕ, ◌%◌, ◌^◌, ◌==◌, ◌&&◌, bit_and, Bool, true, false, not, List, [], ◌∷◌, map, filter, Option, Some, None, is_none, if◌then◌else◌}
 use Rattle.std.specs.List.{list_any}
 use Rattle.std.specs.Option.{option_map}
-use Rattle.of_wire.specs.declared.limits.TheConstants.{OFPTT_ALL, OFPP_ANY, OFP_NO_BUFFER}
+use Rattle.of_wire.specs.declared.limits.TheConstants.{OFPFF_CHECK_OVERLAP, OFPFF_NO_BYT_COUNTS, OFPFF_NO_PKT_COUNTS, OFPFF_RESET_COUNTS, OFPFF_SEND_FLOW_REM, OFPTT_ALL, OFPP_ANY, OFP_NO_BUFFER}
 use Rattle.of_buffers.specs.Buffers.{Held, HeldFrames, held, used}
-use Rattle.of_wire.specs.declared.codes.TheConstants.{OFPBAC_BAD_OUT_GROUP, OFPBRC_BUFFER_UNKNOWN, OFPFMFC_BAD_TABLE_ID, OFPFMFC_OVERLAP, OFPFMFC_TABLE_FULL}
+use Rattle.of_wire.specs.declared.codes.TheConstants.{OFPBAC_BAD_OUT_GROUP, OFPBRC_BUFFER_UNKNOWN, OFPFMFC_OVERLAP, OFPFMFC_TABLE_FULL}
 use Rattle.of_wire.specs.Reasons.{flow_removed_number}
 use Rattle.of_wire.specs.declared.code.Code.{Code}
 use Rattle.of_messages.specs.declared.message.FlowMod.{FlowMod}
 use Rattle.of_messages.specs.declared.message.FlowModCommand.{FlowModCommand}
-use Rattle.of_messages.specs.declared.message.FlowModCommand.TheVariants.{Add, Modify, ModifyStrict, Delete, DeleteStrict}
+use Rattle.of_messages.specs.declared.message.FlowModCommand.TheVariants.{Add, Modify, Delete}
 use Rattle.of_messages.specs.declared.message.FlowRemoved.{FlowRemoved}
 use Rattle.of_messages.specs.Messages.{is_delete}
 use Rattle.of_messages.specs.Written.{flow_removed_bytes}
@@ -40,7 +40,13 @@ abbrev pub has_flag : ℕ → ℕ → Bool
 has_flag flags flag = not (bit_and flags flag == 0)
 
 abbrev pub flags_of : ℕ → FlowFlags
-flags_of flags = record { send_removed = has_flag flags 1; check_overlap = has_flag flags 2; reset_counts = has_flag flags 4; no_packet_counts = has_flag flags 8; no_byte_counts = has_flag flags 16 }
+flags_of flags = record {
+  send_removed = has_flag flags OFPFF_SEND_FLOW_REM;
+  check_overlap = has_flag flags OFPFF_CHECK_OVERLAP;
+  reset_counts = has_flag flags OFPFF_RESET_COUNTS;
+  no_packet_counts = has_flag flags OFPFF_NO_PKT_COUNTS;
+  no_byte_counts = has_flag flags OFPFF_NO_BYT_COUNTS;
+}
 
 abbrev pub flow_of : FlowMod → Flow
 flow_of m = record { fields = m.fields; priority = m.priority; cookie = m.cookie; idle_timeout = m.idle_timeout; hard_timeout = m.hard_timeout; flags = flags_of m.flags; instructions = m.instructions }
@@ -50,9 +56,9 @@ is_add Add = true
 is_add other = false
 
 abbrev pub is_strict : FlowModCommand → Bool
-is_strict ModifyStrict = true
-is_strict DeleteStrict = true
-is_strict other = false
+is_strict Add = false
+is_strict (Modify strict) = strict
+is_strict (Delete strict) = strict
 
 -- a number that may mean any: OFPTT_ALL, OFPP_ANY and OFPG_ANY are all ones
 abbrev pub unless_any : ℕ → ℕ → Option ℕ
@@ -83,11 +89,10 @@ is_to_absent_group groups = sends (is_absent groups)
 abbrev pub names_absent_group : List Group → List Instruction → Bool
 names_absent_group groups instructions = list_any (has_action (is_to_absent_group groups)) instructions
 
--- of an ADD: BAD_TABLE_ID (7.4.4: 5/2), OVERLAP with an entry (5/3), TABLE_FULL (5/1)
+-- of an ADD: OVERLAP with an entry (5/3), TABLE_FULL (5/1)
 abbrev pub add_refusals : FlowMod → Tables → List (Bool × Code)
 add_refusals m ts =
-    (is_add m.command && nat_le 16 m.table, OFPFMFC_BAD_TABLE_ID)
-    ∷ (is_add m.command && is_overlapped (flow_of m) (table_at m.table ts).flows, OFPFMFC_OVERLAP)
+    (is_add m.command && is_overlapped (flow_of m) (table_at m.table ts).flows, OFPFMFC_OVERLAP)
     ∷ (is_add m.command && is_full (flow_of m) (table_at m.table ts).flows, OFPFMFC_TABLE_FULL)
     ∷ []
 
@@ -103,10 +108,8 @@ flow_mod_refusals m ts groups b =
 -- the tables after a command
 abbrev pub commanded_by : FlowModCommand → FlowMod → Tables → Tables
 commanded_by Add m ts = added_to m.table (flow_of m) ts
-commanded_by Modify m ts = modified_in (selector_of m) m.instructions (has_flag m.flags 4) ts
-commanded_by ModifyStrict m ts = modified_in (selector_of m) m.instructions (has_flag m.flags 4) ts
-commanded_by Delete m ts = left_in (cause.Delete (selector_of m)) ts
-commanded_by DeleteStrict m ts = left_in (cause.Delete (selector_of m)) ts
+commanded_by (Modify strict) m ts = modified_in (selector_of m) m.instructions (has_flag m.flags OFPFF_RESET_COUNTS) ts
+commanded_by (Delete strict) m ts = left_in (cause.Delete (selector_of m)) ts
 
 abbrev pub commanded : FlowMod → Tables → Tables
 commanded m ts = commanded_by m.command m ts

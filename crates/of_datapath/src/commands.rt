@@ -12,7 +12,10 @@ use of_actions::{Action, Instruction};
 use of_groups::Groups;
 use of_messages::{FlowMod, FlowModCommand, FlowRemoved, write_flow_removed};
 use of_table::{Flow, FlowFlags, NANOS, Removed, Selector};
-use of_wire::limits::{OFPP_ANY, OFPTT_ALL};
+use of_wire::limits::{
+    OFPFF_CHECK_OVERLAP, OFPFF_NO_BYT_COUNTS, OFPFF_NO_PKT_COUNTS, OFPFF_RESET_COUNTS,
+    OFPFF_SEND_FLOW_REM, OFPP_ANY, OFPTT_ALL,
+};
 use std::alloc::{AllocError, Global};
 
 /// Whether a FLOW_MOD's flags have this one (OpenFlow 1.3.5, 7.3.4.1).
@@ -26,11 +29,11 @@ fn flags_from(flags: u16) -> FlowFlags
     ensures { result ≡ flags_of flags }
 {
     FlowFlags {
-        send_removed: has_flag(flags, 1),
-        check_overlap: has_flag(flags, 2),
-        reset_counts: has_flag(flags, 4),
-        no_packet_counts: has_flag(flags, 8),
-        no_byte_counts: has_flag(flags, 16),
+        send_removed: has_flag(flags, OFPFF_SEND_FLOW_REM),
+        check_overlap: has_flag(flags, OFPFF_CHECK_OVERLAP),
+        reset_counts: has_flag(flags, OFPFF_RESET_COUNTS),
+        no_packet_counts: has_flag(flags, OFPFF_NO_PKT_COUNTS),
+        no_byte_counts: has_flag(flags, OFPFF_NO_BYT_COUNTS),
     }
 }
 
@@ -88,10 +91,10 @@ pub fn flow_from(flow_mod: FlowMod) -> Flow
 fn is_strict(command: FlowModCommand) -> bool
     ensures { result ≡ strict command }
 {
-    matches!(
-        command,
-        FlowModCommand::ModifyStrict | FlowModCommand::DeleteStrict
-    )
+    match command {
+        FlowModCommand::Add => false,
+        FlowModCommand::Modify { strict } | FlowModCommand::Delete { strict } => strict,
+    }
 }
 
 fn out_from(command: FlowModCommand, number: u32) -> Option<u32>

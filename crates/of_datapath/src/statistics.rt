@@ -13,7 +13,7 @@ use std::alloc::{AllocError, Global};
 
 // A number that may mean any.
 fn unless_any(number: u32) -> Option<u32>
-    ensures { result ≡ none_for 0xffffffff number }
+    ensures { result ≡ none_for OFPP_ANY number }
 {
     if number == OFPP_ANY {
         None

@@ -4,6 +4,7 @@ use Rattle.std.specs.Prelude.{ℕ, ◌+◌, ◌==◌, ◌&&◌, nat_le, Bool, Li
 use Rattle.std.specs.List.{flat_map, list_all}
 use Rattle.byteorder.specs.Endian.{big_number}
 use Rattle.hex.specs.Hex.{encode_lower}
+use Rattle.of_wire.specs.declared.limits.TheConstants.{OFPP_ANY}
 use Rattle.of_formats.specs.Structs.{Struct, byte, number, plain, pad}
 use Rattle.of_explain.specs.declared.fields.Field.{Field as Row}
 use Rattle.of_explain.specs.declared.fields.Form.{Form}
@@ -34,7 +35,7 @@ in_hex word at size m = if nat_le (at + size) (length m) then word ++ codes " 0x
 -- a word, and the number; nothing where it is 0xffffffff: OFP_NO_BUFFER, OFPP_ANY and OFPG_ANY name none
 abbrev pub unless_any : List ℕ → Option ℕ → List ℕ
 unless_any word None = []
-unless_any word (Some n) = if n == 0xffffffff then [] else word ++ 32 ∷ decimal n
+unless_any word (Some n) = if n == OFPP_ANY then [] else word ++ 32 ∷ decimal n
 
 -- words, but nothing where the number is 0
 abbrev pub unless_zero : Option ℕ → List ℕ → List ℕ

@@ -2,6 +2,7 @@
 use Rattle.std.specs.Prelude.{ℕ, ◌+◌, ◌==◌, List, [], ◌∷◌, ◌++◌, length, codes, Option, Some, None, if◌then◌else◌}
 use Rattle.std.specs.List.{flat_map}
 use Rattle.of_wire.specs.CodeNames.{name_of}
+use Rattle.of_formats.specs.declared.messages.TheConstants.{ERROR, FEATURES_REPLY, FLOW_MOD, FLOW_REMOVED, GET_ASYNC_REPLY, GET_CONFIG_REPLY, GROUP_MOD, MULTIPART_REPLY, MULTIPART_REQUEST, PACKET_IN, PACKET_OUT, PORT_MOD, PORT_STATUS, ROLE_REPLY, ROLE_REQUEST, SET_ASYNC, SET_CONFIG, TABLE_MOD}
 use Rattle.of_formats.specs.Tables as tables
 use Rattle.of_explain.specs.declared.fields.Form.TheVariants.{Plainly, Named, InHex, UnlessAny, UnlessZero}
 use Rattle.of_explain.specs.declared.names.Names.TheVariants.{Types, ErrorTypes, PacketInReasons, FlowRemovedReasons, PortStatusReasons, FlowCommands, GroupCommands, Multiparts, Roles}
@@ -86,21 +87,21 @@ async =
 -- by the type (7.1)
 unfoldable pub told_of : ℕ → List Field
 told_of type =
-    if type == 6 then features
-    else if type == 8 then config
-    else if type == 9 then config
-    else if type == 10 then packet_in
-    else if type == 11 then flow_removed
-    else if type == 12 then port_status
-    else if type == 13 then packet_out
-    else if type == 14 then flow_mod
-    else if type == 15 then group_mod
-    else if type == 16 then port_mod
-    else if type == 17 then table_mod
-    else if type == 24 then role
-    else if type == 25 then role
-    else if type == 27 then async
-    else if type == 28 then async
+    if type == FEATURES_REPLY then features
+    else if type == GET_CONFIG_REPLY then config
+    else if type == SET_CONFIG then config
+    else if type == PACKET_IN then packet_in
+    else if type == FLOW_REMOVED then flow_removed
+    else if type == PORT_STATUS then port_status
+    else if type == PACKET_OUT then packet_out
+    else if type == FLOW_MOD then flow_mod
+    else if type == GROUP_MOD then group_mod
+    else if type == PORT_MOD then port_mod
+    else if type == TABLE_MOD then table_mod
+    else if type == ROLE_REQUEST then role
+    else if type == ROLE_REPLY then role
+    else if type == GET_ASYNC_REPLY then async
+    else if type == SET_ASYNC then async
     else []
 
 -- ---- ERROR (7.4.4)
@@ -162,9 +163,9 @@ multipart_reply_fields m = words multipart m ++ words (counted_by (multipart_typ
 
 unfoldable pub fields_of : ℕ → List ℕ → List ℕ
 fields_of type m =
-    if type == 1 then error_fields m
-    else if type == 18 then multipart_fields m
-    else if type == 19 then multipart_reply_fields m
+    if type == ERROR then error_fields m
+    else if type == MULTIPART_REQUEST then multipart_fields m
+    else if type == MULTIPART_REPLY then multipart_reply_fields m
     else words (told_of type) m
 
 unfoldable pub type_and_fields : Option ℕ → List ℕ → List ℕ

@@ -2,6 +2,7 @@
 use Rattle.std.specs.Prelude.{ℕ, zero, suc, nat_le, ◌==◌, List, [], ◌∷◌, ◌++◌, length, take, drop, map, codes, Option, Some, None, Result, Ok, Err, if◌then◌else◌}
 use Rattle.std.specs.List.{flat_map}
 use Rattle.of_wire.specs.declared.code.Code.{Code}
+use Rattle.of_formats.specs.declared.messages.TheConstants.{MULTIPART_REPLY}
 use Rattle.of_formats.specs.Structs.{size}
 use Rattle.of_formats.specs.Tables as tables
 use Rattle.of_oxm.specs.declared.match_field.MatchField.{MatchField}
@@ -128,7 +129,7 @@ rows_by (Some type) body = flat_map (reply_row type) (rows_of type body)
 
 abbrev pub rows_if : Option ℕ → List ℕ → List ℕ
 rows_if None m = []
-rows_if (Some kind) m = if kind == 19 then rows_by (multipart_type m) (drop 16 m) else []
+rows_if (Some kind) m = if kind == MULTIPART_REPLY then rows_by (multipart_type m) (drop 16 m) else []
 
 unfoldable pub reply_rows : List ℕ → List ℕ
 reply_rows m = rows_if (number_in "type" 0 tables.header m) m

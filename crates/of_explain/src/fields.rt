@@ -5,6 +5,7 @@ ghost use Rattle.of_explain.specs.Fields.{and_name, and_number, are_short, field
 use crate::names::{Names, push_name};
 use crate::notes::push_with_number;
 use byteorder::{BigEndian, ByteOrder};
+use of_wire::limits::OFPP_ANY;
 use std::alloc::{AllocError, Global};
 
 /// How a field is printed.
@@ -84,8 +85,8 @@ fn push_unless_any(out: &mut Vec<u8>, word: &[u8], number: Option<u64>) -> Resul
     ensures { OnOk result (out.new.items ≡ out.old.items ++ unless_any word.now number) }
 {
     match number {
-        None | Some(0xffff_ffff) => Ok(()),
-        Some(number) => push_with_number(out, word, number),
+        Some(number) if number != u64::from(OFPP_ANY) => push_with_number(out, word, number),
+        _ => Ok(()),
     }
 }
 

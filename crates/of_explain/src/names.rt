@@ -1,9 +1,12 @@
 //! The names that the standard gives to numbers.
-ghost use Rattle.std.specs.Prelude.{◌≡◌, ◌++◌, decimal, map, slice_get, OnOk};
+ghost use Rattle.std.specs.Prelude.{◌≡◌, ◌++◌, decimal, OnOk};
 ghost use Rattle.std.specs.Option.{option_map};
-ghost use Rattle.of_explain.specs.Names.{names_in, name_in, named};
+ghost use Rattle.of_wire.specs.Parts.{nth_part};
+ghost use Rattle.of_explain.specs.Names.{name_for, name_in, named};
 
 use itoa::Buffer;
+use of_formats::message_name;
+use of_wire::part_at;
 use std::alloc::AllocError;
 
 /// What is named.
@@ -31,111 +34,56 @@ pub enum Names {
     Roles,
 }
 
-const TYPES: &[&str] = &[
-    "HELLO",
-    "ERROR",
-    "ECHO_REQUEST",
-    "ECHO_REPLY",
-    "EXPERIMENTER",
-    "FEATURES_REQUEST",
-    "FEATURES_REPLY",
-    "GET_CONFIG_REQUEST",
-    "GET_CONFIG_REPLY",
-    "SET_CONFIG",
-    "PACKET_IN",
-    "FLOW_REMOVED",
-    "PORT_STATUS",
-    "PACKET_OUT",
-    "FLOW_MOD",
-    "GROUP_MOD",
-    "PORT_MOD",
-    "TABLE_MOD",
-    "MULTIPART_REQUEST",
-    "MULTIPART_REPLY",
-    "BARRIER_REQUEST",
-    "BARRIER_REPLY",
-    "QUEUE_GET_CONFIG_REQUEST",
-    "QUEUE_GET_CONFIG_REPLY",
-    "ROLE_REQUEST",
-    "ROLE_REPLY",
-    "GET_ASYNC_REQUEST",
-    "GET_ASYNC_REPLY",
-    "SET_ASYNC",
-    "METER_MOD",
-];
+// Names from number 0 on, a space between two.
+const ERROR_TYPES: [u8; 307] = *b"\
+    OFPET_HELLO_FAILED OFPET_BAD_REQUEST OFPET_BAD_ACTION OFPET_BAD_INSTRUCTION OFPET_BAD_MATCH \
+    OFPET_FLOW_MOD_FAILED OFPET_GROUP_MOD_FAILED OFPET_PORT_MOD_FAILED OFPET_TABLE_MOD_FAILED \
+    OFPET_QUEUE_OP_FAILED OFPET_SWITCH_CONFIG_FAILED OFPET_ROLE_REQUEST_FAILED \
+    OFPET_METER_MOD_FAILED OFPET_TABLE_FEATURES_FAILED";
 
-const ERROR_TYPES: &[&str] = &[
-    "OFPET_HELLO_FAILED",
-    "OFPET_BAD_REQUEST",
-    "OFPET_BAD_ACTION",
-    "OFPET_BAD_INSTRUCTION",
-    "OFPET_BAD_MATCH",
-    "OFPET_FLOW_MOD_FAILED",
-    "OFPET_GROUP_MOD_FAILED",
-    "OFPET_PORT_MOD_FAILED",
-    "OFPET_TABLE_MOD_FAILED",
-    "OFPET_QUEUE_OP_FAILED",
-    "OFPET_SWITCH_CONFIG_FAILED",
-    "OFPET_ROLE_REQUEST_FAILED",
-    "OFPET_METER_MOD_FAILED",
-    "OFPET_TABLE_FEATURES_FAILED",
-];
+const PACKET_IN_REASONS: [u8; 27] = *b"NO_MATCH ACTION INVALID_TTL";
 
-const PACKET_IN_REASONS: &[&str] = &["NO_MATCH", "ACTION", "INVALID_TTL"];
+const FLOW_REMOVED_REASONS: [u8; 45] = *b"IDLE_TIMEOUT HARD_TIMEOUT DELETE GROUP_DELETE";
 
-const FLOW_REMOVED_REASONS: &[&str] = &["IDLE_TIMEOUT", "HARD_TIMEOUT", "DELETE", "GROUP_DELETE"];
+const PORT_STATUS_REASONS: [u8; 17] = *b"ADD DELETE MODIFY";
 
-const PORT_STATUS_REASONS: &[&str] = &["ADD", "DELETE", "MODIFY"];
+const FLOW_COMMANDS: [u8; 45] = *b"ADD MODIFY MODIFY_STRICT DELETE DELETE_STRICT";
 
-const FLOW_COMMANDS: &[&str] = &["ADD", "MODIFY", "MODIFY_STRICT", "DELETE", "DELETE_STRICT"];
+const GROUP_COMMANDS: [u8; 17] = *b"ADD MODIFY DELETE";
 
-const GROUP_COMMANDS: &[&str] = &["ADD", "MODIFY", "DELETE"];
+const GROUP_TYPES: [u8; 22] = *b"ALL SELECT INDIRECT FF";
 
-const GROUP_TYPES: &[&str] = &["ALL", "SELECT", "INDIRECT", "FF"];
+const MULTIPARTS: [u8; 133] = *b"\
+    DESC FLOW AGGREGATE TABLE PORT_STATS QUEUE GROUP GROUP_DESC GROUP_FEATURES METER \
+    METER_CONFIG METER_FEATURES TABLE_FEATURES PORT_DESC";
 
-const MULTIPARTS: &[&str] = &[
-    "DESC",
-    "FLOW",
-    "AGGREGATE",
-    "TABLE",
-    "PORT_STATS",
-    "QUEUE",
-    "GROUP",
-    "GROUP_DESC",
-    "GROUP_FEATURES",
-    "METER",
-    "METER_CONFIG",
-    "METER_FEATURES",
-    "TABLE_FEATURES",
-    "PORT_DESC",
-];
+const ROLES: [u8; 27] = *b"NOCHANGE EQUAL MASTER SLAVE";
 
-const ROLES: &[&str] = &["NOCHANGE", "EQUAL", "MASTER", "SLAVE"];
+// The word with that number, from 0 on; None if there are not so many.
+fn word_at(words: &'static [u8], number: u64) -> Option<&'static [u8]>
+    ensures { option_map (λ word. word.now) result ≡ nth_part 32 number words.now }
+{
+    part_at(words, b' ', number as usize)
+}
 
 impl Names {
-    // The names, from number 0 on.
-    fn list(self) -> &'static [&'static str]
-        ensures { map (λ name. name.now) result.now ≡ names_in self }
+    // The name of a number; None where it has none.
+    #[tactic(auto, unfolding(crate::specs::Names::name_for))]
+    fn name(self, number: u64) -> Option<&'static [u8]>
+        ensures { option_map (λ name. name.now) result ≡ name_for self number }
     {
         match self {
-            Names::Types => TYPES,
-            Names::ErrorTypes => ERROR_TYPES,
-            Names::PacketInReasons => PACKET_IN_REASONS,
-            Names::FlowRemovedReasons => FLOW_REMOVED_REASONS,
-            Names::PortStatusReasons => PORT_STATUS_REASONS,
-            Names::FlowCommands => FLOW_COMMANDS,
-            Names::GroupCommands => GROUP_COMMANDS,
-            Names::GroupTypes => GROUP_TYPES,
-            Names::Multiparts => MULTIPARTS,
-            Names::Roles => ROLES,
+            Names::Types => message_name(number),
+            Names::ErrorTypes => word_at(&ERROR_TYPES, number),
+            Names::PacketInReasons => word_at(&PACKET_IN_REASONS, number),
+            Names::FlowRemovedReasons => word_at(&FLOW_REMOVED_REASONS, number),
+            Names::PortStatusReasons => word_at(&PORT_STATUS_REASONS, number),
+            Names::FlowCommands => word_at(&FLOW_COMMANDS, number),
+            Names::GroupCommands => word_at(&GROUP_COMMANDS, number),
+            Names::GroupTypes => word_at(&GROUP_TYPES, number),
+            Names::Multiparts => word_at(&MULTIPARTS, number),
+            Names::Roles => word_at(&ROLES, number),
         }
-    }
-
-    // The name of a number; None where it has none.
-    fn name(self, number: u64) -> Option<&'static str>
-        ensures { option_map (λ name. name.now) result ≡ slice_get (names_in self) number }
-    {
-        self.list().get(number as usize).copied()
     }
 }
 
@@ -148,12 +96,12 @@ fn push_decimal(out: &mut Vec<u8>, number: u64) -> Result<(), AllocError>
 }
 
 /// Appends a name, or the number where there is none.
-pub fn push_named(out: &mut Vec<u8>, name: Option<&str>, number: u64) -> Result<(), AllocError>
+pub fn push_named(out: &mut Vec<u8>, name: Option<&[u8]>, number: u64) -> Result<(), AllocError>
     ensures { OnOk result (out.new.items ≡ out.old.items ++ named (option_map (λ n. n.now) name.entry) number) }
 {
     match name {
         None => push_decimal(out, number),
-        Some(name) => out.extend_from_slice(name.as_bytes()),
+        Some(name) => out.extend_from_slice(name),
     }
 }
 

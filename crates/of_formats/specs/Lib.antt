@@ -1,3 +1,4 @@
 pub mod Structs
 pub mod Reading
 pub mod Tables
+pub mod Messages

@@ -1,7 +1,6 @@
 -- THE STRUCTS (OpenFlow 1.3.5; the section stands before each), the fields under the names of the standard. What is ignored in a message that is read is padding here too.
-use Prim.Native.String.{String}
-use Rattle.std.specs.Prelude.{ℕ, Bool, true, false, List, [], ◌∷◌, ◌++◌}
-use Rattle.of_formats.specs.Structs.{Slot, Struct, byte, number, plain, pad, u8, u16, u32, u64}
+use Rattle.std.specs.Prelude.{ℕ, [], ◌∷◌, ◌++◌}
+use Rattle.of_formats.specs.Structs.{Struct, number, plain, pad, u8, u16, u32, u64}
 
 -- 7.1, struct ofp_header
 abbrev pub header : Struct
@@ -163,64 +162,3 @@ hello_elem = u16 "type" ∷ u16 "length" ∷ []
 
 abbrev pub hello_elem_versionbitmap : Struct
 hello_elem_versionbitmap = hello_elem ++ u32 "bitmaps" ∷ []
-
--- THE MESSAGES (7.1, enum ofp_type)
-
--- whether this switch reads it, sends it, does both, or neither
-pub data Way : Type 0 where
-  read : Way
-  sent : Way
-  both : Way
-  neither : Way
-
--- what follows the struct: nothing, anything, or a match, which has 8 bytes at least
-pub data Rest : Type 0 where
-  nothing : Rest
-  anything : Rest
-  matched : Rest
-
--- its type and its name, its struct after the header, what follows, and whether it changes the switch or sends a packet, which a slave may not (6.3.4)
-pub record MessageFormat : Type 0 where
-  pub type : ℕ
-  pub name : String
-  pub fixed : Struct
-  pub rest : Rest
-  pub way : Way
-  pub changes : Bool
-
-abbrev pub message : ℕ → String → Struct → Rest → Way → Bool → MessageFormat
-message type name fixed rest way changes = record { type = type; name = name; fixed = fixed; rest = rest; way = way; changes = changes }
-
-abbrev pub messages : List MessageFormat
-messages =
-    message 0 "HELLO" [] anything both false
-    ∷ message 1 "ERROR" error_msg anything both false
-    ∷ message 2 "ECHO_REQUEST" [] anything read false
-    ∷ message 3 "ECHO_REPLY" [] anything both false
-    ∷ message 4 "EXPERIMENTER" [] anything neither false
-    ∷ message 5 "FEATURES_REQUEST" [] nothing read false
-    ∷ message 6 "FEATURES_REPLY" switch_features nothing sent false
-    ∷ message 7 "GET_CONFIG_REQUEST" [] nothing read false
-    ∷ message 8 "GET_CONFIG_REPLY" switch_config nothing sent false
-    ∷ message 9 "SET_CONFIG" switch_config nothing read false
-    ∷ message 10 "PACKET_IN" packet_in matched sent false
-    ∷ message 11 "FLOW_REMOVED" flow_removed matched sent false
-    ∷ message 12 "PORT_STATUS" port_status nothing sent false
-    ∷ message 13 "PACKET_OUT" packet_out anything read true
-    ∷ message 14 "FLOW_MOD" flow_mod matched read true
-    ∷ message 15 "GROUP_MOD" group_mod anything read true
-    ∷ message 16 "PORT_MOD" port_mod nothing read true
-    ∷ message 17 "TABLE_MOD" table_mod nothing read true
-    ∷ message 18 "MULTIPART_REQUEST" multipart anything read false
-    ∷ message 19 "MULTIPART_REPLY" multipart anything sent false
-    ∷ message 20 "BARRIER_REQUEST" [] nothing read false
-    ∷ message 21 "BARRIER_REPLY" [] nothing sent false
-    ∷ message 22 "QUEUE_GET_CONFIG_REQUEST" [] anything neither false
-    ∷ message 23 "QUEUE_GET_CONFIG_REPLY" [] anything neither false
-    ∷ message 24 "ROLE_REQUEST" role nothing read false
-    ∷ message 25 "ROLE_REPLY" role nothing sent false
-    ∷ message 26 "GET_ASYNC_REQUEST" [] nothing read false
-    ∷ message 27 "GET_ASYNC_REPLY" async_config nothing sent false
-    ∷ message 28 "SET_ASYNC" async_config nothing read false
-    ∷ message 29 "METER_MOD" [] anything neither true
-    ∷ []

@@ -35,7 +35,7 @@ use Rattle.of_groups.specs.Buckets.{are_fit, is_fit}
 use Rattle.of_text.proofs.TextLemmas.{all_both}
 use Rattle.of_messages.specs.declared.message.FlowMod.{FlowMod}
 use Rattle.of_messages.specs.declared.message.FlowModCommand.{FlowModCommand}
-use Rattle.of_messages.specs.declared.message.FlowModCommand.TheVariants.{Add, Modify, ModifyStrict, Delete, DeleteStrict}
+use Rattle.of_messages.specs.declared.message.FlowModCommand.TheVariants.{Add, Modify, Delete}
 use Rattle.of_messages.specs.declared.group_mod.NewGroup.{NewGroup}
 use Rattle.of_messages.specs.Written.{command_number, flow_mod_bytes, flow_mod_fixed_part, flow_mod_numbers, message}
 use Rattle.of_groups.specs.Groups.{kind_number}
@@ -175,10 +175,10 @@ message_bytes kind xid body k h = both (struct_bytes tables.header (4 ∷ kind �
 
 command_byte : (c : FlowModCommand) → command_number c < 256
 command_byte Add = omega arith
-command_byte Modify = omega arith
-command_byte ModifyStrict = omega arith
-command_byte Delete = omega arith
-command_byte DeleteStrict = omega arith
+command_byte (Modify false) = omega arith
+command_byte (Modify true) = omega arith
+command_byte (Delete false) = omega arith
+command_byte (Delete true) = omega arith
 
 front_bytes : (m : FlowMod) → m.table < 256 → Bytes (flow_mod_fixed_part m)
 unfolding flow_mod_fixed_part

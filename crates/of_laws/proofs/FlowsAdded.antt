@@ -114,11 +114,10 @@ not_refused : (gs : List TextGroup) (ts : Tables) (f : TextFlow) → f.head.tabl
     → first_of (flow_mod_refusals (add_of f) ts (groups_at 0 gs) none_held) ≡ None
 not_refused gs ts f low flags there room =
     let named : names_absent_group (groups_at 0 gs) (instructions_of f) ≡ false = steps_named gs f.steps ∙ there in
-    let high : nat_le 16 f.head.table ≡ false = grind (arith, nat_tests) in
     let check : has_flag f.head.flags 2 ≡ false = unchecked f.head.flags flags in
     let some : nat_le 4096 (length (table_at f.head.table ts).flows) ≡ false = grind (arith, nat_tests) in
     let full : is_full (flow_of (add_of f)) (table_at f.head.table ts).flows ≡ false = and_right (not (list_any (is_same (flow_of (add_of f))) (table_at f.head.table ts).flows)) _ some in
-    rw (named, high, check, full) refl
+    rw (named, check, full) refl
 
 message_size : (xid : ℕ) (f : TextFlow) (table : ℕ) → IsSent table f → length (flow_mod_fixed_part (add_of f) ++ (canonical f.fields ++ canonical_instructions (instructions_of f))) ≤ 4296
 message_size xid f table s =

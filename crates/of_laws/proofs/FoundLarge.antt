@@ -1,5 +1,5 @@
 -- What was read as a PACKET_OUT, a FLOW_MOD or a GROUP_MOD is in its places, and after them.
-use Rattle.std.proofs.Common.{◌≡◌, ◌≤◌, ◌<◌, ◌+◌, ℕ, Bool, true, false, not, eqb, ltb, cond, List, [], ◌∷◌, ◌++◌, length, take, drop, Some, None, Result, Ok, Err, refl, sym, subst, ◌∙◌, arith, inl, inr}
+use Rattle.std.proofs.Common.{◌≡◌, ◌≤◌, ◌<◌, ◌+◌, ℕ, zero, suc, Bool, true, false, not, eqb, ltb, cond, List, [], ◌∷◌, ◌++◌, length, take, drop, Some, None, Result, Ok, Err, refl, sym, ap, subst, ◌∙◌, arith, inl, inr}
 use Rattle.std.specs.Prelude.{slice_index, ◌&&◌, ◌||◌, is_none}
 use Rattle.std.proofs.lemmas.Bool.{eqb-true, eqb-false, ltb-false, not-false}
 use Rattle.std.proofs.lemmas.Bool.Decides.{nat_tests}
@@ -23,7 +23,7 @@ use Rattle.of_messages.specs.declared.group_mod.GroupMod.TheVariants as group
 use Rattle.of_messages.specs.declared.group_mod.NewGroup.{NewGroup}
 use Rattle.of_messages.specs.declared.message.FlowMod.{FlowMod}
 use Rattle.of_messages.specs.declared.message.FlowModCommand.{FlowModCommand}
-use Rattle.of_messages.specs.declared.message.FlowModCommand.TheVariants.{Add, Modify, ModifyStrict, Delete, DeleteStrict}
+use Rattle.of_messages.specs.declared.message.FlowModCommand.TheVariants.{Add, Modify, Delete}
 use Rattle.of_messages.specs.declared.message.PacketData.{PacketData}
 use Rattle.of_messages.specs.declared.message.PacketData.TheVariants.{Buffered, Frame}
 use Rattle.of_messages.specs.declared.message.PacketOut.{PacketOut}
@@ -104,11 +104,12 @@ packet_out_found p m fits long h =
 -- ---- FLOW_MOD
 
 command_known : (n : ℕ) (c : FlowModCommand) → command_of n ≡ Some c → n ≡ command_number c
-command_known n Add h = grind (arith, nat_tests)
-command_known n Modify h = grind (arith, nat_tests)
-command_known n ModifyStrict h = grind (arith, nat_tests)
-command_known n Delete h = grind (arith, nat_tests)
-command_known n DeleteStrict h = grind (arith, nat_tests)
+command_known zero c h = let e : Add ≡ c = cc in ap command_number e
+command_known (suc zero) c h = let e : Modify false ≡ c = cc in ap command_number e
+command_known (suc (suc zero)) c h = let e : Modify true ≡ c = cc in ap command_number e
+command_known (suc (suc (suc zero))) c h = let e : Delete false ≡ c = cc in ap command_number e
+command_known (suc (suc (suc (suc zero)))) c h = let e : Delete true ≡ c = cc in ap command_number e
+command_known (suc (suc (suc (suc (suc n))))) c h = absurd cc
 
 low_table : (t : ℕ) (any : Bool) → (ltb 15 t && not (false && any)) ≡ false → t < 16
 low_table t any h = by_low (ltb 15 t) refl h
@@ -126,17 +127,13 @@ any_table t h = by_low (ltb 15 t) refl h
 
 table_found : (c : FlowModCommand) (t : ℕ) → is_bad_table t c ≡ false → MayName (deletes c) t
 table_found Add t h = low_table t (eqb t 255) h
-table_found Modify t h = low_table t (eqb t 255) h
-table_found ModifyStrict t h = low_table t (eqb t 255) h
-table_found Delete t h = any_table t h
-table_found DeleteStrict t h = any_table t h
+table_found (Modify strict) t h = low_table t (eqb t 255) h
+table_found (Delete strict) t h = any_table t h
 
 instructions_for_found : (f : FlowMod) (c : FlowModCommand) (bytes : List ℕ) → instructions_for c f.table bytes ≡ Ok f.instructions → HasInstructions f (deletes c) bytes
 instructions_for_found f Add bytes h = instructions_found f.table bytes f.instructions h
-instructions_for_found f Modify bytes h = instructions_found f.table bytes f.instructions h
-instructions_for_found f ModifyStrict bytes h = instructions_found f.table bytes f.instructions h
-instructions_for_found f Delete bytes h = sym (same_ok h)
-instructions_for_found f DeleteStrict bytes h = sym (same_ok h)
+instructions_for_found f (Modify strict) bytes h = instructions_found f.table bytes f.instructions h
+instructions_for_found f (Delete strict) bytes h = sym (same_ok h)
 
 pub record FlowModSays (f : FlowMod) (m : List ℕ) : Type 0 where
   pub says : Says 8 (flow_mod_cells f) m

@@ -15,7 +15,7 @@ use Rattle.of_messages.specs.declared.multipart.FlowStatsRequest.{FlowStatsReque
 use Rattle.of_messages.specs.declared.multipart.MultipartRequest.{MultipartRequest}
 use Rattle.of_messages.specs.declared.multipart.MultipartRequest.TheVariants.{Description, Flow, Aggregate, Table, PortStats, Group, GroupDescription, GroupFeatures, PortDescription}
 use Rattle.of_messages.specs.Configs.{names_table}
-use Rattle.of_messages.specs.Heads.{is_bad_size}
+use Rattle.of_formats.specs.Messages.{is_bad_size}
 use Rattle.of_messages.specs.Multiparts.{kind_of, kind_in, size_asked, multipart_refusals, multipart_by, flow_stats_of, one_or_all, number_in, multipart_of}
 use Rattle.of_formats.proofs.Binding.{bound, passed, same_ok}
 use Rattle.of_laws.specs.Requests.{BeginsMatch, IsOne, IsValidRequest, NamesTable, RequestTail, flows_cells, or_all, request_cells}

@@ -17,7 +17,8 @@ use Rattle.of_messages.specs.declared.multipart.MultipartRequest.{MultipartReque
 use Rattle.of_messages.specs.declared.port_mod.PortMod.{PortMod}
 use Rattle.of_messages.specs.declared.role.RoleRequest.{RoleRequest}
 use Rattle.of_messages.specs.declared.role.Role.TheVariants as role
-use Rattle.of_messages.specs.Heads.{version_of, type_of, header_length, format_of, size_of, is_supported, is_bad_size, actions_length, head_refusals, role_refusals}
+use Rattle.of_formats.specs.Messages.{is_bad_size, message_row}
+use Rattle.of_messages.specs.Heads.{version_of, type_of, header_length, size_of, is_supported, actions_length, head_refusals, role_refusals}
 use Rattle.of_messages.specs.Messages.{body_of, message_from, message_of, message_by, flow_mod_of, packet_out_of}
 use Rattle.of_messages.specs.AsyncConfigs.{async_masks_of}
 use Rattle.of_messages.specs.Configs.{set_config_of, table_mod_of}
@@ -87,7 +88,7 @@ is_bad get_async_request size = not (eqb size 8)
 is_bad set_async size = not (eqb size 32)
 
 bad_known : (k : Kind) (size : ℕ) → is_bad_size (size_of (type_number k)) size ≡ is_bad k size
-unfolding format_of
+unfolding message_row
 bad_known hello size = refl
 bad_known error size = refl
 bad_known echo_request size = refl
@@ -107,7 +108,7 @@ bad_known get_async_request size = refl
 bad_known set_async size = refl
 
 is_known : (k : Kind) → is_supported (type_number k) ≡ true
-unfolding format_of
+unfolding message_row
 is_known hello = refl
 is_known error = refl
 is_known echo_request = refl
@@ -315,7 +316,7 @@ kind_number n get_async_request h = grind (arith, nat_tests)
 kind_number n set_async h = grind (arith, nat_tests)
 
 kind_none : (n : ℕ) → kind_of n ≡ None → is_supported n ≡ false
-unfolding kind_of format_of
+unfolding kind_of message_row
 kind_none n h = grind (arith, nat_tests)
 
 -- what a message says that is not refused, by its kind

@@ -20,7 +20,7 @@ use Rattle.of_messages.specs.declared.group_mod.GroupMod.TheVariants as group
 use Rattle.of_messages.specs.declared.group_mod.NewGroup.{NewGroup}
 use Rattle.of_messages.specs.declared.message.FlowMod.{FlowMod}
 use Rattle.of_messages.specs.declared.message.FlowModCommand.{FlowModCommand}
-use Rattle.of_messages.specs.declared.message.FlowModCommand.TheVariants.{Add, Modify, ModifyStrict, Delete, DeleteStrict}
+use Rattle.of_messages.specs.declared.message.FlowModCommand.TheVariants.{Add, Modify, Delete}
 use Rattle.of_messages.specs.declared.message.PacketData.{PacketData}
 use Rattle.of_messages.specs.declared.message.PacketData.TheVariants.{Buffered, Frame}
 use Rattle.of_messages.specs.declared.message.PacketOut.{PacketOut}
@@ -101,10 +101,10 @@ packet_out_only p m buffer port t valid =
 
 command_again : (c : FlowModCommand) → command_of (command_number c) ≡ Some c
 command_again Add = refl
-command_again Modify = refl
-command_again ModifyStrict = refl
-command_again Delete = refl
-command_again DeleteStrict = refl
+command_again (Modify false) = refl
+command_again (Modify true) = refl
+command_again (Delete false) = refl
+command_again (Delete true) = refl
 
 adds : (t : ℕ) → t < 16 → ltb 15 t ≡ false
 adds t lt = le-ltb _ _ (omega arith)
@@ -115,10 +115,8 @@ deleted t (inr is) = rw is refl
 
 table_fine : (c : FlowModCommand) (t : ℕ) → MayName (deletes c) t → is_bad_table t c ≡ false
 table_fine Add t h = let low = adds t h in rw low refl
-table_fine Modify t h = let low = adds t h in rw low refl
-table_fine ModifyStrict t h = let low = adds t h in rw low refl
-table_fine Delete t h = deleted t h
-table_fine DeleteStrict t h = deleted t h
+table_fine (Modify strict) t h = let low = adds t h in rw low refl
+table_fine (Delete strict) t h = deleted t h
 
 command_read : (c : FlowModCommand) (table flags : ℕ) → MayName (deletes c) table → flags < 32 → command_said (command_number c) table flags ≡ Ok c
 unfolding command_said
@@ -130,10 +128,8 @@ command_read c table flags may lt =
 
 instructions_only : (f : FlowMod) (c : FlowModCommand) (bytes : List ℕ) → HasInstructions f (deletes c) bytes → instructions_for c f.table bytes ≡ Ok f.instructions
 instructions_only f Add bytes h = is_computed f.table bytes (Ok f.instructions) h tt
-instructions_only f Modify bytes h = is_computed f.table bytes (Ok f.instructions) h tt
-instructions_only f ModifyStrict bytes h = is_computed f.table bytes (Ok f.instructions) h tt
-instructions_only f Delete bytes h = ap Ok (sym h)
-instructions_only f DeleteStrict bytes h = ap Ok (sym h)
+instructions_only f (Modify strict) bytes h = is_computed f.table bytes (Ok f.instructions) h tt
+instructions_only f (Delete strict) bytes h = ap Ok (sym h)
 
 numbers_are : (f : FlowMod) (m : List ℕ) → Says 8 (flow_mod_cells f) m → numbers tables.flow_mod 8 m ≡ flow_mod_numbers f
 numbers_are f m s =

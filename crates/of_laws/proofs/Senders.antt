@@ -8,7 +8,8 @@ use Rattle.of_messages.specs.declared.message.Message.{Message}
 use Rattle.of_messages.specs.declared.message.Message.TheVariants.{Hello, Error, EchoRequest, EchoReply, FeaturesRequest, GetConfigRequest, SetConfig, PacketOut as IsPacketOut, FlowMod as IsFlowMod, GroupMod as IsGroupMod, PortMod as IsPortMod, TableMod as IsTableMod, Multipart, BarrierRequest, RoleRequest as IsRoleRequest, GetAsyncRequest, SetAsync}
 use Rattle.of_messages.specs.declared.role.Role.{Role}
 use Rattle.of_messages.specs.declared.role.Role.TheVariants as role
-use Rattle.of_messages.specs.Heads.{type_of, format_of, is_slave, is_change, head_refusals, role_refusals, xid_of}
+use Rattle.of_formats.specs.Messages.{message_row}
+use Rattle.of_messages.specs.Heads.{type_of, is_slave, is_change, head_refusals, role_refusals, xid_of}
 use Rattle.of_messages.specs.Messages.{body_of, message_by, message_from, message_of}
 use Rattle.of_laws.specs.Grammar.{type, changes, MaySend, Encodes}
 use Rattle.of_laws.proofs.AnyMessage.{of_controller}
@@ -36,7 +37,7 @@ first_part (r ∷ rs) qs none = by_test r.0 none (first_part rs qs)
 -- ---- the type of a message
 
 change_same : (v : Message) → is_change (type v) ≡ changes v
-unfolding format_of
+unfolding message_row
 change_same Hello = refl
 change_same Error = refl
 change_same (EchoRequest echoed) = refl

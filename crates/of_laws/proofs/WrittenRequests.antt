@@ -24,7 +24,7 @@ use Rattle.of_messages.specs.declared.group_mod.GroupMod.TheVariants as group
 use Rattle.of_messages.specs.declared.group_mod.NewGroup.{NewGroup}
 use Rattle.of_messages.specs.declared.message.FlowMod.{FlowMod}
 use Rattle.of_messages.specs.declared.message.FlowModCommand.{FlowModCommand}
-use Rattle.of_messages.specs.declared.message.FlowModCommand.TheVariants.{Add, Modify, ModifyStrict, Delete, DeleteStrict}
+use Rattle.of_messages.specs.declared.message.FlowModCommand.TheVariants.{Add, Modify, Delete}
 use Rattle.of_messages.specs.declared.message.Message.TheVariants.{FlowMod as IsFlowMod, GroupMod as IsGroupMod}
 use Rattle.of_messages.proofs.BucketsWritten.{buckets_short}
 use Rattle.of_laws.specs.Buckets.{AreBuckets, bucket_cells}
@@ -36,10 +36,8 @@ use Rattle.of_laws.proofs.Writings.{fronted, encoding, written}
 
 pub command_same : (c : FlowModCommand) → number_of_command c ≡ command_number c
 command_same Add = refl
-command_same Modify = refl
-command_same ModifyStrict = refl
-command_same Delete = refl
-command_same DeleteStrict = refl
+command_same (Modify strict) = refl
+command_same (Delete strict) = refl
 
 pub beginning_is : (m : FlowMod) (tail : List ℕ) → flow_mod_fixed_part m ++ tail ≡ encoding (flow_mod_cells m) ++ tail
 unfolding flow_mod_fixed_part
@@ -52,10 +50,8 @@ length-front m tail = omega arith
 -- the two DELETE commands have none
 has_instructions : (m : FlowMod) (c : FlowModCommand) → are_kept m.instructions ≡ true → are_for m.table m.instructions ≡ true → (deletes c ≡ true → m.instructions ≡ []) → HasInstructions m (deletes c) (canonical_instructions m.instructions)
 has_instructions m Add kept fit none = instructions_encoded m.table m.instructions kept fit
-has_instructions m Modify kept fit none = instructions_encoded m.table m.instructions kept fit
-has_instructions m ModifyStrict kept fit none = instructions_encoded m.table m.instructions kept fit
-has_instructions m Delete kept fit none = none refl
-has_instructions m DeleteStrict kept fit none = none refl
+has_instructions m (Modify strict) kept fit none = instructions_encoded m.table m.instructions kept fit
+has_instructions m (Delete strict) kept fit none = none refl
 
 pub tail_is : (m : FlowMod) → IsMatch m.fields → are_kept m.instructions ≡ true → are_for m.table m.instructions ≡ true → (deletes m.command ≡ true → m.instructions ≡ []) → MatchThenInstructions m (canonical m.fields ++ canonical_instructions m.instructions)
 tail_is m match kept fit none =

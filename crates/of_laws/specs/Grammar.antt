@@ -1,5 +1,5 @@
 -- THE GRAMMAR: which bytes encode which message of a controller (OpenFlow 1.3.5, 7).
-use Rattle.std.specs.Prelude.{◌≡◌, ◌≤◌, ◌<◌, ℕ, bit_and, ◌⊎◌, ⊤, Bool, true, false, List, [], ◌∷◌, ◌++◌, length, take, drop, Option, Some, None}
+use Rattle.std.specs.Prelude.{◌≡◌, ◌≤◌, ◌<◌, ℕ, bit_and, ◌⊎◌, ⊤, Bool, true, false, List, [], ◌∷◌, ◌++◌, length, take, drop, Option, Some, None, if◌then◌else◌}
 use Rattle.of_wire.specs.declared.limits.TheConstants.{OFP_NO_BUFFER, OFPG_ALL, OFPG_MAX, OFPP_CONTROLLER, OFPP_MAX}
 use Rattle.of_oxm.specs.MatchGrammar.{EncodesMatch}
 use Rattle.of_actions.specs.Actions.{AreActions}
@@ -7,13 +7,14 @@ use Rattle.of_actions.specs.FlowCheck.{all_go_with}
 use Rattle.of_actions.specs.Instructions.{EncodesInstructions}
 use Rattle.of_groups.specs.declared.group.GroupKind.{GroupKind}
 use Rattle.of_groups.specs.declared.group.GroupKind.TheVariants.{All, Indirect, FastFailover}
+use Rattle.of_messages.specs.Heads.{changes_by}
 use Rattle.of_messages.specs.declared.async_masks.AsyncMasks.{AsyncMasks}
 use Rattle.of_messages.specs.declared.group_mod.GroupMod.{GroupMod}
 use Rattle.of_messages.specs.declared.group_mod.GroupMod.TheVariants as group
 use Rattle.of_messages.specs.declared.group_mod.NewGroup.{NewGroup}
 use Rattle.of_messages.specs.declared.message.FlowMod.{FlowMod}
 use Rattle.of_messages.specs.declared.message.FlowModCommand.{FlowModCommand}
-use Rattle.of_messages.specs.declared.message.FlowModCommand.TheVariants.{Add, Modify, ModifyStrict, Delete, DeleteStrict}
+use Rattle.of_messages.specs.declared.message.FlowModCommand.TheVariants.{Add, Modify, Delete}
 use Rattle.of_messages.specs.declared.message.Message.{Message}
 use Rattle.of_messages.specs.declared.message.Message.TheVariants.{Hello, Error, EchoRequest, EchoReply, FeaturesRequest, GetConfigRequest, SetConfig, PacketOut as IsPacketOut, FlowMod as IsFlowMod, GroupMod as IsGroupMod, PortMod as IsPortMod, TableMod as IsTableMod, Multipart, BarrierRequest, RoleRequest as IsRoleRequest, GetAsyncRequest, SetAsync}
 use Rattle.of_messages.specs.declared.message.PacketData.{PacketData}
@@ -23,6 +24,8 @@ use Rattle.of_messages.specs.declared.role.Role.{Role}
 use Rattle.of_messages.specs.declared.role.Role.TheVariants as role
 use Rattle.of_messages.specs.declared.role.RoleRequest.{RoleRequest}
 use Rattle.of_messages.specs.declared.role.RoleRequest.TheVariants.{NoChange, Equal, Master, Slave}
+use Rattle.of_formats.specs.declared.messages.TheConstants.{BARRIER_REQUEST, ECHO_REPLY, ECHO_REQUEST, ERROR, FEATURES_REQUEST, FLOW_MOD, GET_ASYNC_REQUEST, GET_CONFIG_REQUEST, GROUP_MOD, HELLO, MULTIPART_REQUEST, PACKET_OUT, PORT_MOD, ROLE_REQUEST, SET_ASYNC, SET_CONFIG, TABLE_MOD}
+use Rattle.of_formats.specs.Messages.{message_row}
 use Rattle.of_laws.specs.Buckets.{AreBuckets}
 use Rattle.of_laws.specs.StructCells.{cells_of, without}
 use Rattle.of_formats.specs.Tables as tables
@@ -33,23 +36,23 @@ use Rattle.of_laws.specs.Requests.{NamesTable, or_all, request_cells, RequestTai
 
 -- the types of messages, OFPT_*
 abbrev pub type : Message → ℕ
-type Hello = 0
-type Error = 1
-type (EchoRequest echoed) = 2
-type EchoReply = 3
-type FeaturesRequest = 5
-type GetConfigRequest = 7
-type (SetConfig config) = 9
-type (IsPacketOut m) = 13
-type (IsFlowMod m) = 14
-type (IsGroupMod m) = 15
-type (IsPortMod m) = 16
-type (IsTableMod m) = 17
-type (Multipart request) = 18
-type BarrierRequest = 20
-type (IsRoleRequest request) = 24
-type GetAsyncRequest = 26
-type (SetAsync masks) = 28
+type Hello = HELLO
+type Error = ERROR
+type (EchoRequest echoed) = ECHO_REQUEST
+type EchoReply = ECHO_REPLY
+type FeaturesRequest = FEATURES_REQUEST
+type GetConfigRequest = GET_CONFIG_REQUEST
+type (SetConfig config) = SET_CONFIG
+type (IsPacketOut m) = PACKET_OUT
+type (IsFlowMod m) = FLOW_MOD
+type (IsGroupMod m) = GROUP_MOD
+type (IsPortMod m) = PORT_MOD
+type (IsTableMod m) = TABLE_MOD
+type (Multipart request) = MULTIPART_REQUEST
+type BarrierRequest = BARRIER_REQUEST
+type (IsRoleRequest request) = ROLE_REQUEST
+type GetAsyncRequest = GET_ASYNC_REQUEST
+type (SetAsync masks) = SET_ASYNC
 
 -- a HELLO may be of any version (6.3.1), all others are of version 4
 abbrev pub version : Message → Cell
@@ -92,10 +95,8 @@ IsValidPacketOut m = IsIngress m.in_port × IsValidData m.packet
 -- OFPFC_*
 abbrev pub command_number : FlowModCommand → ℕ
 command_number Add = 0
-command_number Modify = 1
-command_number ModifyStrict = 2
-command_number Delete = 3
-command_number DeleteStrict = 4
+command_number (Modify strict) = if strict then 2 else 1
+command_number (Delete strict) = if strict then 4 else 3
 
 abbrev pub flow_mod_numbers : FlowMod → List ℕ
 flow_mod_numbers m =
@@ -105,8 +106,7 @@ abbrev pub flow_mod_cells : FlowMod → List Cell
 flow_mod_cells m = cells_of tables.flow_mod (flow_mod_numbers m) []
 
 abbrev pub deletes : FlowModCommand → Bool
-deletes Delete = true
-deletes DeleteStrict = true
+deletes (Delete strict) = true
 deletes other = false
 
 -- the two DELETE commands have no instructions, whatever follows
@@ -233,12 +233,7 @@ pub record Encodes (xid : ℕ) (m : Message) (bytes : List ℕ) : Type 0 where
 
 -- WHO MAY SEND IT (6.3.4): a slave may not change the switch or send a packet, else OFPBRC_IS_SLAVE
 abbrev pub changes : Message → Bool
-changes (IsPacketOut m) = true
-changes (IsFlowMod m) = true
-changes (IsGroupMod m) = true
-changes (IsPortMod m) = true
-changes (IsTableMod m) = true
-changes other = false
+changes m = changes_by (message_row (type m))
 
 abbrev pub MaySend : Role → Message → Type 0
 MaySend role.Slave m = changes m ≡ false

@@ -1,7 +1,7 @@
 -- What a flow of a text has in common with the FLOW_MOD that adds it.
 use Rattle.std.specs.Prelude.{◌≡◌, ℕ, ◌++◌, ◌^◌, ◌<◌, nat_lt, Bool, true, bit_and, ◌⊎◌, List, ◌∷◌, length, Option, Some, None, Result, Ok, Err}
 use Rattle.std.specs.List.{AllByRecursion}
-use Rattle.of_wire.specs.declared.limits.TheConstants.{OFPG_MAX}
+use Rattle.of_wire.specs.declared.limits.TheConstants.{ENTRY_FLAGS, FLOW_MOD_FLAGS, OFPG_MAX}
 use Rattle.of_oxm.specs.Canonical.{canonical}
 use Rattle.of_oxm.specs.NormalForm.{IsAscending}
 use Rattle.of_oxm.specs.declared.match_field.MatchField.{MatchField}
@@ -48,7 +48,7 @@ pub record IsSaid (f : Flow) : Type 0 where
   pub steps : AllByRecursion StepFits f.steps
   pub in_order : is_ascending run_place (instructions_of f) ≡ true
   pub short : length (canonical f.fields ++ canonical_instructions (instructions_of f)) < 65488
-  pub flags : (bit_and f.head.flags 25 ≡ f.head.flags) ⊎ (31 < f.head.flags)
+  pub flags : (bit_and f.head.flags ENTRY_FLAGS ≡ f.head.flags) ⊎ (FLOW_MOD_FLAGS < f.head.flags)
 
 -- ---- groups
 

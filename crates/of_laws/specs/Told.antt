@@ -14,6 +14,7 @@ use Rattle.of_messages.specs.declared.port_mod.PortStatusReason.{PortStatusReaso
 use Rattle.of_messages.specs.declared.port_mod.PortStatusReason.TheVariants as status
 use Rattle.of_messages.specs.declared.role.Role.{Role}
 use Rattle.of_messages.specs.declared.role.Role.TheVariants as role
+use Rattle.of_formats.specs.declared.messages.TheConstants.{BARRIER_REPLY, ECHO_REPLY, ERROR, FEATURES_REPLY, FLOW_REMOVED, GET_ASYNC_REPLY, GET_CONFIG_REPLY, HELLO, PACKET_IN, PORT_STATUS, ROLE_REPLY}
 use Rattle.of_laws.specs.StructCells.{cells_of}
 use Rattle.of_formats.specs.Tables as tables
 use Rattle.of_laws.specs.Cells.{Cell, pad, Begins}
@@ -35,17 +36,17 @@ pub data Told : Type 0 where
 
 -- OFPT_*
 abbrev pub switch_message_type : Told → ℕ
-switch_message_type (hello bitmap) = 0
-switch_message_type (error code failed) = 1
-switch_message_type (echo_reply echoed) = 3
-switch_message_type (features_reply dpid) = 6
-switch_message_type (config_reply config) = 8
-switch_message_type (packet_in p «data») = 10
-switch_message_type (flow_removed r fields) = 11
-switch_message_type (port_status reason port) = 12
-switch_message_type barrier_reply = 21
-switch_message_type (role_reply role generation) = 25
-switch_message_type (async_reply masks) = 27
+switch_message_type (hello bitmap) = HELLO
+switch_message_type (error code failed) = ERROR
+switch_message_type (echo_reply echoed) = ECHO_REPLY
+switch_message_type (features_reply dpid) = FEATURES_REPLY
+switch_message_type (config_reply config) = GET_CONFIG_REPLY
+switch_message_type (packet_in p «data») = PACKET_IN
+switch_message_type (flow_removed r fields) = FLOW_REMOVED
+switch_message_type (port_status reason port) = PORT_STATUS
+switch_message_type barrier_reply = BARRIER_REPLY
+switch_message_type (role_reply role generation) = ROLE_REPLY
+switch_message_type (async_reply masks) = GET_ASYNC_REPLY
 
 -- OFPPR_* (7.4.3), OFPCR_ROLE_* (7.3.9)
 abbrev pub port_reason : PortStatusReason → ℕ

@@ -56,10 +56,10 @@ fn echo_numbers(alloc: Global, body: &[u8]) -> Result<Vec<u64>, AllocError> {
 fn command_number(command: FlowModCommand) -> u64 {
     match command {
         FlowModCommand::Add => 0,
-        FlowModCommand::Modify => 1,
-        FlowModCommand::ModifyStrict => 2,
-        FlowModCommand::Delete => 3,
-        FlowModCommand::DeleteStrict => 4,
+        FlowModCommand::Modify { strict: false } => 1,
+        FlowModCommand::Modify { strict: true } => 2,
+        FlowModCommand::Delete { strict: false } => 3,
+        FlowModCommand::Delete { strict: true } => 4,
     }
 }
 

@@ -13,7 +13,8 @@ use Rattle.of_messages.specs.declared.message.Message.TheVariants.{GroupMod as I
 use Rattle.of_messages.specs.declared.group_mod.GroupMod.TheVariants.{Add}
 use Rattle.of_messages.specs.declared.group_mod.NewGroup.{NewGroup}
 use Rattle.of_messages.specs.GroupMods.{command_of, group_mod_of, group_of, kind_of}
-use Rattle.of_messages.specs.Heads.{version_of, type_of, header_length, head_refusals, format_of}
+use Rattle.of_messages.specs.Heads.{version_of, type_of, header_length, head_refusals}
+use Rattle.of_formats.specs.Messages.{message_row}
 use Rattle.of_messages.specs.Messages.{body_of, message_from, message_of}
 use Rattle.of_groups.specs.Groups.{kind_number}
 use Rattle.of_messages.specs.CanonicalGroups.{canonical_buckets, group_add_fixed_part, group_add_bytes, as_written, has_numbers}
@@ -50,7 +51,7 @@ says xid g number short =
     }
 
 head_passes : (g : NewGroup) (m : List ℕ) → Says g m → first_of (head_refusals m) ≡ None
-unfolding format_of
+unfolding message_row
 head_passes g m h =
     let long = h.long in
     let eight : ltb (length m) 8 ≡ false = le-ltb _ _ (omega arith) in

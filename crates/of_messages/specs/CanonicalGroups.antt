@@ -6,6 +6,7 @@ use Rattle.of_groups.specs.declared.bucket.Bucket.{Bucket}
 use Rattle.of_groups.specs.Buckets.{fresh}
 use Rattle.of_groups.specs.Groups.{kind_number}
 use Rattle.of_messages.specs.declared.group_mod.NewGroup.{NewGroup}
+use Rattle.of_formats.specs.declared.messages.TheConstants.{GROUP_MOD}
 use Rattle.of_formats.specs.Structs.{written}
 use Rattle.of_formats.specs.Tables as tables
 use Rattle.of_messages.specs.Written.{message}
@@ -23,7 +24,7 @@ unfoldable pub group_add_fixed_part : NewGroup → List ℕ
 group_add_fixed_part g = written tables.group_mod (0 ∷ kind_number g.kind ∷ g.id ∷ [])
 
 abbrev pub group_add_bytes : ℕ → NewGroup → List ℕ
-group_add_bytes xid g = message 15 xid (group_add_fixed_part g ++ canonical_buckets g.buckets)
+group_add_bytes xid g = message GROUP_MOD xid (group_add_fixed_part g ++ canonical_buckets g.buckets)
 
 -- the group as it is read again: counters are not written
 abbrev pub as_written : NewGroup → NewGroup

@@ -1,6 +1,6 @@
 -- What the bytes of a message say (OpenFlow 1.3.5, 7.1 and 7.3), or the first refusal in the written order (7.4.4).
-use Rattle.std.specs.Prelude.{ℕ, ◌+◌, ◌==◌, nat_lt, nat_le, Bool, true, false, not, ◌&&◌, ◌||◌, List, [], ◌∷◌, ◌++◌, take, drop, slice_index, Option, Some, None, is_none, Result, Ok, Err, if◌then◌else◌}
-use Rattle.of_wire.specs.declared.limits.TheConstants.{OFPTT_ALL, OFP_NO_BUFFER, TABLES, OFPP_CONTROLLER}
+use Rattle.std.specs.Prelude.{ℕ, ◌+◌, ◌==◌, nat_lt, nat_le, Bool, true, false, not, ◌&&◌, ◌||◌, List, [], ◌∷◌, ◌++◌, take, drop, slice_get, Option, Some, None, is_none, Result, Ok, Err, if◌then◌else◌}
+use Rattle.of_wire.specs.declared.limits.TheConstants.{FLOW_MOD_FLAGS, OFPTT_ALL, OFP_NO_BUFFER, TABLES, OFPP_CONTROLLER}
 use Rattle.of_wire.specs.declared.codes.TheConstants.{OFPBAC_MATCH_INCONSISTENT, OFPBRC_BAD_LEN, OFPBRC_BAD_PACKET, OFPBRC_BAD_PORT, OFPBRC_BAD_TYPE, OFPFMFC_BAD_COMMAND, OFPFMFC_BAD_FLAGS, OFPFMFC_BAD_TABLE_ID}
 use Rattle.of_wire.specs.declared.code.Code.{Code}
 use Rattle.of_wire.specs.Refusals.{first_of}
@@ -15,8 +15,9 @@ use Rattle.of_messages.specs.declared.message.Message.{Message}
 use Rattle.of_messages.specs.declared.message.Message.TheVariants.{Hello, Error, EchoRequest, EchoReply, FeaturesRequest, GetConfigRequest, SetConfig, PacketOut as IsPacketOut, FlowMod as IsFlowMod, GroupMod as IsGroupMod, PortMod as IsPortMod, TableMod as IsTableMod, Multipart, BarrierRequest, RoleRequest as IsRoleRequest, GetAsyncRequest, SetAsync}
 use Rattle.of_messages.specs.declared.role.Role.{Role}
 use Rattle.of_messages.specs.declared.role.Role.TheVariants as role
-use Rattle.of_messages.specs.Heads.{hello, error, echo_request, echo_reply, features_request, get_config_request, set_config, packet_out, flow_mod, group_mod, port_mod, table_mod, multipart_request, barrier_request, role_request, get_async_request, set_async, actions_length, head_refusals, role_refusals}
+use Rattle.of_messages.specs.Heads.{head_refusals, role_refusals}
 pub use Rattle.of_messages.specs.Heads.{version_of, type_of, header_length, xid_of}
+use Rattle.of_formats.specs.declared.messages.TheConstants.{BARRIER_REQUEST, ECHO_REPLY, ECHO_REQUEST, ERROR, FEATURES_REQUEST, FLOW_MOD, GET_ASYNC_REQUEST, GET_CONFIG_REQUEST, GROUP_MOD, HELLO, MULTIPART_REQUEST, PACKET_OUT, PORT_MOD, ROLE_REQUEST, SET_ASYNC, SET_CONFIG, TABLE_MOD}
 use Rattle.of_formats.specs.Reading.{◌>>=◌, unless, known}
 use Rattle.of_formats.specs.Structs.{numbers, size}
 use Rattle.of_formats.specs.Tables as tables
@@ -31,23 +32,17 @@ use Rattle.of_messages.specs.declared.message.PacketData.{PacketData}
 use Rattle.of_messages.specs.declared.message.PacketData.TheVariants.{Buffered, Frame}
 use Rattle.of_messages.specs.declared.message.FlowMod.{FlowMod}
 use Rattle.of_messages.specs.declared.message.FlowModCommand.{FlowModCommand}
-use Rattle.of_messages.specs.declared.message.FlowModCommand.TheVariants.{Add, Modify, ModifyStrict, Delete, DeleteStrict}
+use Rattle.of_messages.specs.declared.message.FlowModCommand.TheVariants.{Delete}
+use Rattle.of_messages.specs.declared.message.TheConstants.{COMMANDS}
 
 -- FLOW_MOD (7.3.4.1)
 
--- the command that a byte names
+-- the command that a byte names (OFPFC_*)
 abbrev pub command_of : ℕ → Option FlowModCommand
-command_of byte =
-    if byte == 0 then Some Add
-    else (if byte == 1 then Some Modify
-    else (if byte == 2 then Some ModifyStrict
-    else (if byte == 3 then Some Delete
-    else (if byte == 4 then Some DeleteStrict
-    else None))))
+command_of byte = slice_get COMMANDS byte
 
 abbrev pub is_delete : FlowModCommand → Bool
-is_delete Delete = true
-is_delete DeleteStrict = true
+is_delete (Delete strict) = true
 is_delete other = false
 
 -- the last table is 15; 255 is all tables, which only the two DELETE commands may name
@@ -58,7 +53,7 @@ is_bad_table table command = nat_le TABLES table && not (is_delete command && ta
 unfoldable pub command_said : ℕ → ℕ → ℕ → Result FlowModCommand Code
 command_said c table flags = do
   command ← known (command_of c) OFPFMFC_BAD_COMMAND
-  good ← unless ((is_bad_table table command, OFPFMFC_BAD_TABLE_ID) ∷ (nat_lt 31 flags, OFPFMFC_BAD_FLAGS) ∷ [])
+  good ← unless ((is_bad_table table command, OFPFMFC_BAD_TABLE_ID) ∷ (nat_lt FLOW_MOD_FLAGS flags, OFPFMFC_BAD_FLAGS) ∷ [])
   Ok command
 
 -- the two DELETE commands have no instructions, whatever follows the match
@@ -122,23 +117,23 @@ packet_out_of m = packet_out_by (numbers tables.packet_out 8 m) (drop (8 + size 
 -- by its type; another type is always refused, so the last line never applies
 unfoldable pub body_of : List ℕ → Result Message Code
 body_of m =
-    if type_of m == hello then Ok Hello
-    else if type_of m == error then Ok Error
-    else if type_of m == echo_request then Ok (EchoRequest (drop 8 m))
-    else if type_of m == echo_reply then Ok EchoReply
-    else if type_of m == features_request then Ok FeaturesRequest
-    else if type_of m == get_config_request then Ok GetConfigRequest
-    else if type_of m == set_config then set_config_of m >>= (λ v. Ok (SetConfig v))
-    else if type_of m == packet_out then packet_out_of m >>= (λ v. Ok (IsPacketOut v))
-    else if type_of m == flow_mod then flow_mod_of m >>= (λ v. Ok (IsFlowMod v))
-    else if type_of m == group_mod then group_mod_of m >>= (λ v. Ok (IsGroupMod v))
-    else if type_of m == port_mod then port_mod_of m >>= (λ v. Ok (IsPortMod v))
-    else if type_of m == table_mod then table_mod_of m >>= (λ v. Ok (IsTableMod v))
-    else if type_of m == multipart_request then multipart_of m >>= (λ v. Ok (Multipart v))
-    else if type_of m == barrier_request then Ok BarrierRequest
-    else if type_of m == role_request then role_request_of m >>= (λ v. Ok (IsRoleRequest v))
-    else if type_of m == get_async_request then Ok GetAsyncRequest
-    else if type_of m == set_async then Ok (SetAsync (async_masks_of m))
+    if type_of m == HELLO then Ok Hello
+    else if type_of m == ERROR then Ok Error
+    else if type_of m == ECHO_REQUEST then Ok (EchoRequest (drop 8 m))
+    else if type_of m == ECHO_REPLY then Ok EchoReply
+    else if type_of m == FEATURES_REQUEST then Ok FeaturesRequest
+    else if type_of m == GET_CONFIG_REQUEST then Ok GetConfigRequest
+    else if type_of m == SET_CONFIG then set_config_of m >>= (λ v. Ok (SetConfig v))
+    else if type_of m == PACKET_OUT then packet_out_of m >>= (λ v. Ok (IsPacketOut v))
+    else if type_of m == FLOW_MOD then flow_mod_of m >>= (λ v. Ok (IsFlowMod v))
+    else if type_of m == GROUP_MOD then group_mod_of m >>= (λ v. Ok (IsGroupMod v))
+    else if type_of m == PORT_MOD then port_mod_of m >>= (λ v. Ok (IsPortMod v))
+    else if type_of m == TABLE_MOD then table_mod_of m >>= (λ v. Ok (IsTableMod v))
+    else if type_of m == MULTIPART_REQUEST then multipart_of m >>= (λ v. Ok (Multipart v))
+    else if type_of m == BARRIER_REQUEST then Ok BarrierRequest
+    else if type_of m == ROLE_REQUEST then role_request_of m >>= (λ v. Ok (IsRoleRequest v))
+    else if type_of m == GET_ASYNC_REQUEST then Ok GetAsyncRequest
+    else if type_of m == SET_ASYNC then Ok (SetAsync (async_masks_of m))
     else Err OFPBRC_BAD_TYPE
 
 abbrev pub message_by : List ℕ → Option Code → Result Message Code

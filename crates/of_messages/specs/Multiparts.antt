@@ -5,8 +5,8 @@ use Rattle.of_wire.specs.declared.codes.TheConstants.{OFPBRC_BAD_LEN, OFPBRC_BAD
 use Rattle.of_wire.specs.declared.code.Code.{Code}
 use Rattle.of_wire.specs.Refusals.{first_of}
 use Rattle.of_oxm.specs.MatchReading.{match_of}
-use Rattle.of_messages.specs.declared.head.Size.{Size}
-use Rattle.of_messages.specs.declared.head.Size.TheVariants.{Exact, Least}
+use Rattle.of_formats.specs.declared.messages.Size.{Size}
+use Rattle.of_formats.specs.declared.messages.Size.TheVariants.{Exact, Least}
 use Rattle.of_messages.specs.declared.multipart.FlowStatsRequest.{FlowStatsRequest}
 use Rattle.of_messages.specs.declared.multipart.MultipartKind.{MultipartKind}
 use Rattle.of_messages.specs.declared.multipart.MultipartKind.TheVariants as kind
@@ -15,7 +15,7 @@ use Rattle.of_messages.specs.declared.multipart.MultipartRequest.TheVariants.{De
 use Rattle.of_formats.specs.Reading.{◌>>=◌, unless}
 use Rattle.of_formats.specs.Structs.{numbers, size}
 use Rattle.of_formats.specs.Tables as tables
-use Rattle.of_messages.specs.Heads.{is_bad_size}
+use Rattle.of_formats.specs.Messages.{is_bad_size}
 use Rattle.of_messages.specs.Configs.{names_table}
 
 -- what a number asks for

@@ -7,6 +7,7 @@ use Rattle.of_oxm.specs.Canonical.{canonical}
 use Rattle.of_layers.specs.declared.field.Field.TheVariants.{InPort, Metadata}
 use Rattle.of_actions.specs.CanonicalInstructions.{canonical_instructions}
 use Rattle.of_wire.specs.Reasons.{flow_removed_number, packet_in_number}
+use Rattle.of_formats.specs.declared.messages.TheConstants.{BARRIER_REPLY, ECHO_REPLY, ERROR, FEATURES_REPLY, FLOW_MOD, FLOW_REMOVED, GET_ASYNC_REPLY, GET_CONFIG_REPLY, HELLO, PACKET_IN, PORT_STATUS, ROLE_REPLY}
 use Rattle.of_formats.specs.Structs.{written}
 use Rattle.of_formats.specs.Tables as tables
 use Rattle.of_messages.specs.Heads.{version_of, header_length}
@@ -17,7 +18,7 @@ use Rattle.of_wire.specs.declared.limits.TheConstants.{BUFFERS}
 use Rattle.of_messages.specs.declared.role.Role.{Role}
 use Rattle.of_messages.specs.declared.message.FlowMod.{FlowMod}
 use Rattle.of_messages.specs.declared.message.FlowModCommand.{FlowModCommand}
-use Rattle.of_messages.specs.declared.message.FlowModCommand.TheVariants.{Add, Modify, ModifyStrict, Delete, DeleteStrict}
+use Rattle.of_messages.specs.declared.message.FlowModCommand.TheVariants.{Add, Modify, Delete}
 use Rattle.of_messages.specs.declared.message.PacketIn.{PacketIn}
 use Rattle.of_messages.specs.declared.port_mod.PortDescription.{PortDescription}
 use Rattle.of_messages.specs.declared.port_mod.PortStatusReason.{PortStatusReason}
@@ -38,38 +39,38 @@ IsMessage bytes = (8 ≤ length bytes) × (length bytes ≤ 65535) × (version_o
 
 -- the HELLO of this switch: one element, the bitmap of versions, in which bit 4 is set (7.5.1)
 abbrev pub hello_bytes : List ℕ
-hello_bytes = message 0 0 (written tables.hello_elem_versionbitmap (1 ∷ 8 ∷ 16 ∷ []))
+hello_bytes = message HELLO 0 (written tables.hello_elem_versionbitmap (1 ∷ 8 ∷ 16 ∷ []))
 
 -- 7.4.4
 abbrev pub error_bytes : ℕ → Code → List ℕ → List ℕ
-error_bytes xid code failed = message 1 xid (written tables.error_msg (code.kind ∷ code.code ∷ []) ++ failed)
+error_bytes xid code failed = message ERROR xid (written tables.error_msg (code.kind ∷ code.code ∷ []) ++ failed)
 
 -- 7.5.3
 abbrev pub echo_reply_bytes : ℕ → List ℕ → List ℕ
-echo_reply_bytes xid «data» = message 3 xid «data»
+echo_reply_bytes xid «data» = message ECHO_REPLY xid «data»
 
 -- 7.3.8
 abbrev pub barrier_reply_bytes : ℕ → List ℕ
-barrier_reply_bytes xid = message 21 xid []
+barrier_reply_bytes xid = message BARRIER_REPLY xid []
 
 -- the datapath id; 256 buffers, 16 tables, no auxiliary connection, and the capabilities OFPC_FLOW_STATS, TABLE_STATS, PORT_STATS and GROUP_STATS (7.3.1)
 unfoldable pub features_body : ℕ → List ℕ
 features_body dpid = written tables.switch_features (dpid ∷ BUFFERS ∷ 16 ∷ 0 ∷ 15 ∷ [])
 
 abbrev pub features_reply_bytes : ℕ → ℕ → List ℕ
-features_reply_bytes xid dpid = message 6 xid (features_body dpid)
+features_reply_bytes xid dpid = message FEATURES_REPLY xid (features_body dpid)
 
 -- no flags (7.3.2)
 abbrev pub config_reply_bytes : ℕ → SwitchConfig → List ℕ
-config_reply_bytes xid config = message 8 xid (written tables.switch_config (0 ∷ config.miss_send_len ∷ []))
+config_reply_bytes xid config = message GET_CONFIG_REPLY xid (written tables.switch_config (0 ∷ config.miss_send_len ∷ []))
 
 -- 7.3.9
 abbrev pub role_reply_bytes : ℕ → Role → Option ℕ → List ℕ
-role_reply_bytes xid role generation = message 25 xid (written tables.role (role_number role ∷ generation_number generation ∷ []))
+role_reply_bytes xid role generation = message ROLE_REPLY xid (written tables.role (role_number role ∷ generation_number generation ∷ []))
 
 abbrev pub async_reply_bytes : ℕ → AsyncMasks → List ℕ
 async_reply_bytes xid m =
-    message 27 xid (written tables.async_config
+    message GET_ASYNC_REPLY xid (written tables.async_config
     (m.packet_in.master ∷ m.packet_in.slave ∷ m.port_status.master ∷ m.port_status.slave ∷ m.flow_removed.master ∷ m.flow_removed.slave ∷ []))
 
 -- FLOW_REMOVED (7.4.2)
@@ -82,7 +83,7 @@ flow_removed_fixed_part r =
     ∷ r.idle_timeout ∷ r.hard_timeout ∷ r.packets ∷ r.bytes ∷ [])
 
 abbrev pub flow_removed_bytes : ℕ → FlowRemoved → List MatchField → List ℕ
-flow_removed_bytes xid removed fields = message 11 xid (flow_removed_fixed_part removed ++ canonical fields)
+flow_removed_bytes xid removed fields = message FLOW_REMOVED xid (flow_removed_fixed_part removed ++ canonical fields)
 
 -- PACKET_IN (7.4.1)
 
@@ -98,16 +99,14 @@ packet_in_fixed_part p = written tables.packet_in (p.buffer ∷ p.total_len ∷ 
 
 -- the data are the first bytes of a frame of p.total_len: all of them, or of a held one as many as the switch tells
 abbrev pub packet_in_bytes : ℕ → PacketIn → List ℕ → List ℕ
-packet_in_bytes xid p «data» = message 10 xid (packet_in_fixed_part p ++ (canonical (packet_fields p.in_port p.metadata) ++ (replicate 2 0 ++ «data»)))
+packet_in_bytes xid p «data» = message PACKET_IN xid (packet_in_fixed_part p ++ (canonical (packet_fields p.in_port p.metadata) ++ (replicate 2 0 ++ «data»)))
 
 -- FLOW_MOD (7.3.4.1), as a controller sends it
 
 abbrev pub command_number : FlowModCommand → ℕ
 command_number Add = 0
-command_number Modify = 1
-command_number ModifyStrict = 2
-command_number Delete = 3
-command_number DeleteStrict = 4
+command_number (Modify strict) = if strict then 2 else 1
+command_number (Delete strict) = if strict then 4 else 3
 
 abbrev pub flow_mod_numbers : FlowMod → List ℕ
 flow_mod_numbers m =
@@ -119,7 +118,7 @@ unfoldable pub flow_mod_fixed_part : FlowMod → List ℕ
 flow_mod_fixed_part m = written tables.flow_mod (flow_mod_numbers m)
 
 abbrev pub flow_mod_bytes : ℕ → FlowMod → List ℕ
-flow_mod_bytes xid m = message 14 xid (flow_mod_fixed_part m ++ (canonical m.fields ++ canonical_instructions m.instructions))
+flow_mod_bytes xid m = message FLOW_MOD xid (flow_mod_fixed_part m ++ (canonical m.fields ++ canonical_instructions m.instructions))
 
 -- PORT_STATUS (7.4.3)
 
@@ -141,4 +140,4 @@ abbrev pub port_bytes : PortDescription → List ℕ
 port_bytes p = port_names p ++ port_bits p
 
 abbrev pub port_status_bytes : ℕ → PortStatusReason → PortDescription → List ℕ
-port_status_bytes xid reason p = message 12 xid ((status_number reason ∷ replicate 7 0) ++ port_bytes p)
+port_status_bytes xid reason p = message PORT_STATUS xid ((status_number reason ∷ replicate 7 0) ++ port_bytes p)

@@ -8,6 +8,7 @@ use crate::message_bytes::MessageBytes;
 use crate::reading::rest_from;
 use crate::writing::put_header;
 use byteorder::{BigEndian, ByteOrder};
+use of_formats::messages::GET_ASYNC_REPLY;
 use of_wire::{Bytes, put_u32};
 use std::alloc::{AllocError, Global};
 
@@ -68,7 +69,7 @@ pub fn write_async_reply(
     ensures { IfOk result (λ bytes. bytes ≡ async_reply_bytes xid masks) }
 {
     let mut out = Vec::with_capacity(alloc, SIZE)?;
-    put_header(&mut out, 27, SIZE, xid)?;
+    put_header(&mut out, GET_ASYNC_REPLY, SIZE, xid)?;
     put_role_masks(&mut out, masks.packet_in)?;
     put_role_masks(&mut out, masks.port_status)?;
     put_role_masks(&mut out, masks.flow_removed)?;

@@ -8,6 +8,7 @@ use crate::message_bytes::MessageBytes;
 use crate::reading::rest_from;
 use crate::writing::put_header;
 use byteorder::{BigEndian, ByteOrder};
+use of_formats::messages::GET_CONFIG_REPLY;
 use of_wire::codes::{OFPSCFC_BAD_FLAGS, OFPTMFC_BAD_TABLE};
 use of_wire::limits::{OFPTT_ALL, TABLES};
 use of_wire::{Bytes, ReadError, put_u16};
@@ -70,7 +71,7 @@ pub fn write_config_reply(
     ensures { IfOk result (λ bytes. bytes ≡ config_reply_bytes xid config) }
 {
     let mut out = Vec::with_capacity(alloc, SIZE)?;
-    put_header(&mut out, 8, SIZE, xid)?;
+    put_header(&mut out, GET_CONFIG_REPLY, SIZE, xid)?;
     put_u16(&mut out, 0)?;
     put_u16(&mut out, config.miss_send_len)?;
     Ok(MessageBytes::new(Bytes::new(out)))

@@ -4,6 +4,7 @@ ghost use Rattle.of_messages.specs.Written.{features_body, features_reply_bytes}
 
 use crate::message_bytes::MessageBytes;
 use crate::writing::put_header;
+use of_formats::messages::FEATURES_REPLY;
 use of_wire::limits::{BUFFERS, TABLES};
 use of_wire::{Bytes, put_u32, put_u64};
 use std::alloc::{AllocError, Global};
@@ -31,7 +32,7 @@ pub fn write_features_reply(alloc: Global, xid: u32, dpid: u64) -> Result<Messag
     ensures { IfOk result (λ bytes. bytes ≡ features_reply_bytes xid dpid) }
 {
     let mut out = Vec::with_capacity(alloc, SIZE)?;
-    put_header(&mut out, 6, SIZE, xid)?;
+    put_header(&mut out, FEATURES_REPLY, SIZE, xid)?;
     put_features(&mut out, dpid)?;
     Ok(MessageBytes::new(Bytes::new(out)))
 }

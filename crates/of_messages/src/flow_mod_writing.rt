@@ -6,6 +6,7 @@ ghost use Rattle.of_messages.specs.Written.{command_number, flow_mod_bytes, flow
 use crate::message::{FlowMod, FlowModCommand};
 use crate::writing::put_header;
 use of_actions::write_instructions;
+use of_formats::messages::FLOW_MOD;
 use of_oxm::write_match;
 use of_wire::{Bytes, put_u16, put_u32, put_u64};
 use std::alloc::{AllocError, Global};
@@ -15,10 +16,8 @@ fn number_of(command: FlowModCommand) -> u8
 {
     match command {
         FlowModCommand::Add => 0,
-        FlowModCommand::Modify => 1,
-        FlowModCommand::ModifyStrict => 2,
-        FlowModCommand::Delete => 3,
-        FlowModCommand::DeleteStrict => 4,
+        FlowModCommand::Modify { strict } => 1 + u8::from(strict),
+        FlowModCommand::Delete { strict } => 3 + u8::from(strict),
     }
 }
 
@@ -64,7 +63,12 @@ pub fn write_flow_mod(alloc: Global, xid: u32, m: &FlowMod) -> Result<Bytes, All
     let fields = write_match(alloc, &m.fields)?;
     let instructions = write_instructions(alloc, &m.instructions)?;
     let mut out = Vec::new(alloc);
-    put_header(&mut out, 14, 48 + fields.len() + instructions.len(), xid)?;
+    put_header(
+        &mut out,
+        FLOW_MOD,
+        48 + fields.len() + instructions.len(),
+        xid,
+    )?;
     put_front(&mut out, m)?;
     out.extend_from_slice(&fields)?;
     out.extend_from_slice(&instructions)?;

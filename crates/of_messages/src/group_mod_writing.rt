@@ -10,6 +10,7 @@ ghost use Rattle.of_messages.specs.declared.group_mod.GroupMod.TheVariants.{Add}
 use crate::group_mod::NewGroup;
 use crate::writing::put_header;
 use of_actions::write_actions;
+use of_formats::messages::GROUP_MOD;
 use of_groups::{Bucket, Buckets};
 use of_wire::{Bytes, put_u16, put_u32};
 use std::alloc::{AllocError, Global};
@@ -70,7 +71,7 @@ pub fn write_group_mod(alloc: Global, xid: u32, group: &NewGroup) -> Result<Byte
 {
     let buckets = write_buckets(alloc, &group.buckets)?;
     let mut out = Vec::new(alloc);
-    put_header(&mut out, 15, 16 + buckets.len(), xid)?;
+    put_header(&mut out, GROUP_MOD, 16 + buckets.len(), xid)?;
     put_front(&mut out, group)?;
     out.extend_from_slice(&buckets)?;
     Ok(Bytes::new(out))

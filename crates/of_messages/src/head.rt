@@ -1,95 +1,31 @@
 //! The refusals of a message before its body is read.
-ghost use Rattle.std.specs.Prelude.{◌≡◌, ◌≤◌, ◌<◌, ◌+◌, ◌++◌, length, IfSome, OnOk, MatchResult, None, Some};
+ghost use Rattle.std.specs.Prelude.{◌≡◌, ◌≤◌, ◌<◌, ◌+◌, ◌++◌, length, OnOk, MatchResult, None, Some};
+ghost use Rattle.std.specs.Option.{option_map};
 ghost use Rattle.of_wire.specs.Refusals.{first_of};
-ghost use Rattle.of_messages.specs.Heads.{HasHead, actions_length, head_refusals, is_bad_size, is_change as changes, role_refusals, size_of};
+ghost use Rattle.of_messages.specs.Heads.{HasHead, actions_length, format_of, head_refusals, is_change as changes, role_refusals, size_of};
 
 use crate::role::Role;
 use byteorder::{BigEndian, ByteOrder};
+use of_formats::messages::{EXPERIMENTER, HELLO, PACKET_OUT};
+use of_formats::{MessageRow, Size, message_row};
 use of_wire::Code;
 use of_wire::codes::{
     OFPBRC_BAD_EXPERIMENTER, OFPBRC_BAD_LEN, OFPBRC_BAD_TYPE, OFPBRC_BAD_VERSION, OFPBRC_IS_SLAVE,
 };
 
-pub const HELLO: u8 = 0;
-
-pub const ERROR: u8 = 1;
-
-pub const ECHO_REQUEST: u8 = 2;
-
-pub const ECHO_REPLY: u8 = 3;
-
-const EXPERIMENTER: u8 = 4;
-
-pub const FEATURES_REQUEST: u8 = 5;
-
-pub const GET_CONFIG_REQUEST: u8 = 7;
-
-pub const SET_CONFIG: u8 = 9;
-
-pub const PACKET_OUT: u8 = 13;
-
-pub const FLOW_MOD: u8 = 14;
-
-pub const GROUP_MOD: u8 = 15;
-
-pub const PORT_MOD: u8 = 16;
-
-pub const TABLE_MOD: u8 = 17;
-
-pub const MULTIPART_REQUEST: u8 = 18;
-
-pub const BARRIER_REQUEST: u8 = 20;
-
-pub const ROLE_REQUEST: u8 = 24;
-
-pub const GET_ASYNC_REQUEST: u8 = 26;
-
-pub const SET_ASYNC: u8 = 28;
-
-/// How many bytes a message of a type has, with its header.
-#[derive(Clone, Copy)]
-pub(crate) enum Size {
-    Exact(usize),
-    Least(usize),
-}
-
-impl Size {
-    /// Whether no such message has `size` bytes.
-    pub(crate) fn is_bad(self, size: usize) -> bool
-        ensures { result ≡ is_bad_size (Some self) size }
-    {
-        match self {
-            Size::Exact(exact) => size != exact,
-            Size::Least(least) => size < least,
-        }
-    }
+// The row of a type that the switch reads; None for another.
+fn row_read(kind: u8) -> Option<&'static MessageRow>
+    ensures { option_map (λ row. row.now) result ≡ format_of kind }
+{
+    let row = message_row(u64::from(kind))?;
+    if row.way.is_read() { Some(row) } else { None }
 }
 
 // The size of the messages of a supported type.
-#[tactic(auto, unfolding(crate::specs::Heads::format_of))]
 fn size_of_type(kind: u8) -> Option<Size>
     ensures { result ≡ size_of kind }
 {
-    match kind {
-        HELLO => Some(Size::Least(8)),
-        ERROR => Some(Size::Least(12)),
-        ECHO_REQUEST => Some(Size::Least(8)),
-        ECHO_REPLY => Some(Size::Least(8)),
-        FEATURES_REQUEST => Some(Size::Exact(8)),
-        GET_CONFIG_REQUEST => Some(Size::Exact(8)),
-        SET_CONFIG => Some(Size::Exact(12)),
-        PACKET_OUT => Some(Size::Least(24)),
-        FLOW_MOD => Some(Size::Least(56)),
-        GROUP_MOD => Some(Size::Least(16)),
-        PORT_MOD => Some(Size::Exact(40)),
-        TABLE_MOD => Some(Size::Exact(16)),
-        MULTIPART_REQUEST => Some(Size::Least(16)),
-        BARRIER_REQUEST => Some(Size::Exact(8)),
-        ROLE_REQUEST => Some(Size::Exact(24)),
-        GET_ASYNC_REQUEST => Some(Size::Exact(8)),
-        SET_ASYNC => Some(Size::Exact(32)),
-        _ => None,
-    }
+    Some(row_read(kind)?.size)
 }
 
 /// How many bytes the actions of a PACKET_OUT have.
@@ -135,14 +71,10 @@ pub fn check_head(message: &[u8]) -> Result<(), Code>
 }
 
 // Whether a message of that type would change the switch or send a packet.
-#[tactic(auto, unfolding(crate::specs::Heads::format_of))]
 fn is_change(kind: u8) -> bool
     ensures { result ≡ changes kind }
 {
-    matches!(
-        kind,
-        PACKET_OUT | FLOW_MOD | GROUP_MOD | PORT_MOD | TABLE_MOD
-    )
+    row_read(kind).is_some_and(|row| row.changes)
 }
 
 /// Refuses a message by its header, and then by the role of the controller that sends it.

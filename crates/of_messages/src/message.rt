@@ -12,37 +12,35 @@ use of_actions::{ActionList, InstructionList};
 use of_oxm::Match;
 use of_wire::{Bytes, FlowRemovedReason, PacketInReason};
 
-/// What a FLOW_MOD does (OpenFlow 1.3.5, 7.3.4.1).
+/// What a FLOW_MOD does (OpenFlow 1.3.5, 7.3.4.1). A strict command is about the entry whose match and priority are the same.
 #[derive(Clone, Copy, Debug, PartialEq, Eq)]
 pub enum FlowModCommand {
     Add,
-    Modify,
-    /// MODIFY of the entry whose match and priority are the same.
-    ModifyStrict,
-    Delete,
-    /// DELETE of the entry whose match and priority are the same.
-    DeleteStrict,
+    Modify { strict: bool },
+    Delete { strict: bool },
 }
+
+/// The commands by their numbers on the wire, from 0 on (OFPFC_*).
+pub const COMMANDS: [FlowModCommand; 5] = [
+    FlowModCommand::Add,
+    FlowModCommand::Modify { strict: false },
+    FlowModCommand::Modify { strict: true },
+    FlowModCommand::Delete { strict: false },
+    FlowModCommand::Delete { strict: true },
+];
 
 impl FlowModCommand {
     pub(crate) fn of_byte(byte: u8) -> Option<FlowModCommand>
         ensures { result ≡ command_of byte }
     {
-        match byte {
-            0 => Some(FlowModCommand::Add),
-            1 => Some(FlowModCommand::Modify),
-            2 => Some(FlowModCommand::ModifyStrict),
-            3 => Some(FlowModCommand::Delete),
-            4 => Some(FlowModCommand::DeleteStrict),
-            _ => None,
-        }
+        COMMANDS.get(usize::from(byte)).copied()
     }
 
     /// Whether it is one of the two DELETE commands.
     pub fn is_delete(self) -> bool
         ensures { result ≡ is_delete self }
     {
-        matches!(self, FlowModCommand::Delete | FlowModCommand::DeleteStrict)
+        matches!(self, FlowModCommand::Delete { .. })
     }
 }
 

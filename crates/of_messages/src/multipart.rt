@@ -7,9 +7,9 @@ ghost use Rattle.of_messages.specs.Heads.{IsSized};
 ghost use Rattle.of_messages.specs.Multiparts.{IsSoundRequest, flow_stats_of, kind_in, kind_of, multipart_of, multipart_refusals, number_in, one_or_all as asked, request_of, size_of};
 
 use crate::config::names_table;
-use crate::head::Size;
 use crate::reading::rest_from;
 use byteorder::{BigEndian, ByteOrder};
+use of_formats::Size;
 use of_oxm::{Match, read_match};
 use of_wire::codes::{
     OFPBRC_BAD_LEN, OFPBRC_BAD_MULTIPART, OFPBRC_BAD_TABLE_ID, OFPBRC_MULTIPART_BUFFER_OVERFLOW,

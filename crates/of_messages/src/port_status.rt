@@ -5,6 +5,7 @@ ghost use Rattle.of_messages.specs.Written.{port_bits, port_bytes, port_names, p
 use crate::message_bytes::MessageBytes;
 use crate::port_mod::{PortDescription, PortStatusReason};
 use crate::writing::put_header;
+use of_formats::messages::PORT_STATUS;
 use of_wire::{Bytes, put_u32};
 use std::alloc::{AllocError, Global};
 
@@ -64,7 +65,7 @@ pub fn write_port_status(
     ensures { IfOk result (λ bytes. bytes ≡ port_status_bytes xid reason port.now) }
 {
     let mut out = Vec::with_capacity(alloc, SIZE)?;
-    put_header(&mut out, 12, SIZE, xid)?;
+    put_header(&mut out, PORT_STATUS, SIZE, xid)?;
     out.extend_from_slice(&[number_of(reason), 0, 0, 0, 0, 0, 0, 0])?;
     put_names(&mut out, port)?;
     put_bits(&mut out, port)?;

@@ -10,29 +10,27 @@ ghost use Rattle.of_actions.specs.InstructionLists.{are_for};
 use crate::async_masks::read_async_masks;
 use crate::config::{read_set_config, read_table_mod};
 use crate::group_mod::read_group_mod;
-use crate::head::{
-    BARRIER_REQUEST, ECHO_REPLY, ECHO_REQUEST, ERROR, FEATURES_REQUEST, FLOW_MOD,
-    GET_ASYNC_REQUEST, GET_CONFIG_REQUEST, GROUP_MOD, HELLO, MULTIPART_REQUEST, PACKET_OUT,
-    PORT_MOD, ROLE_REQUEST, SET_ASYNC, SET_CONFIG, TABLE_MOD, actions_length_in, check_sender,
-};
+use crate::head::{actions_length_in, check_sender};
 use crate::message::{FlowMod, FlowModCommand, Message, PacketData, PacketOut};
 use crate::multipart::read_multipart;
 use crate::port_mod::read_port_mod;
 use crate::role::{Role, read_role_request};
 use byteorder::{BigEndian, ByteOrder};
 use of_actions::{InstructionList, check_flow, is_number, read_actions, read_instructions};
+use of_formats::messages::{
+    BARRIER_REQUEST, ECHO_REPLY, ECHO_REQUEST, ERROR, FEATURES_REQUEST, FLOW_MOD,
+    GET_ASYNC_REQUEST, GET_CONFIG_REQUEST, GROUP_MOD, HELLO, MULTIPART_REQUEST, PACKET_OUT,
+    PORT_MOD, ROLE_REQUEST, SET_ASYNC, SET_CONFIG, TABLE_MOD,
+};
 use of_headers::check_length;
 use of_oxm::read_match;
 use of_wire::codes::{
     OFPBRC_BAD_PACKET, OFPBRC_BAD_PORT, OFPBRC_BAD_TYPE, OFPFMFC_BAD_COMMAND, OFPFMFC_BAD_FLAGS,
     OFPFMFC_BAD_TABLE_ID,
 };
-use of_wire::limits::{OFP_NO_BUFFER, OFPP_CONTROLLER, OFPTT_ALL, TABLES};
+use of_wire::limits::{FLOW_MOD_FLAGS, OFP_NO_BUFFER, OFPP_CONTROLLER, OFPTT_ALL, TABLES};
 use of_wire::{Bytes, Code, ReadError};
 use std::alloc::Global;
-
-// The flags that are known, each a bit.
-const ALL_FLAGS: u16 = 31;
 
 // The bytes from that place on.
 pub(crate) fn rest_from(bytes: &[u8], at: usize) -> &[u8]
@@ -57,7 +55,7 @@ fn check_flow_mod(message: &[u8]) -> Result<FlowModCommand, Code>
     if table >= TABLES && !(command.is_delete() && table == OFPTT_ALL) {
         return Err(OFPFMFC_BAD_TABLE_ID);
     }
-    if BigEndian::read_u16(rest_from(message, 44)) > ALL_FLAGS {
+    if BigEndian::read_u16(rest_from(message, 44)) > FLOW_MOD_FLAGS {
         return Err(OFPFMFC_BAD_FLAGS);
     }
     Ok(command)
@@ -154,7 +152,7 @@ fn read_packet_out(alloc: Global, message: &[u8]) -> Result<PacketOut, ReadError
 }
 
 // A message whose head is not refused.
-#[tactic(auto, unfolding(crate::specs::Messages::body_of, crate::specs::Heads::format_of))]
+#[tactic(auto, unfolding(crate::specs::Messages::body_of, of_formats::specs::Messages::message_row))]
 fn read_body(alloc: Global, message: &[u8]) -> Result<Message, ReadError>
     requires { HasHead message.now }
     ensures reads { Reads result (body_of message.now) }

@@ -8,6 +8,7 @@ use crate::message_bytes::MessageBytes;
 use crate::reading::rest_from;
 use crate::writing::put_header;
 use byteorder::{BigEndian, ByteOrder};
+use of_formats::messages::ROLE_REPLY;
 use of_wire::codes::OFPRRFC_BAD_ROLE;
 use of_wire::{Bytes, ReadError, put_u32, put_u64};
 use std::alloc::{AllocError, Global};
@@ -84,7 +85,7 @@ pub fn write_role_reply(
     ensures { IfOk result (λ bytes. bytes ≡ role_reply_bytes xid role generation) }
 {
     let mut out = Vec::with_capacity(alloc, SIZE)?;
-    put_header(&mut out, 25, SIZE, xid)?;
+    put_header(&mut out, ROLE_REPLY, SIZE, xid)?;
     put_u32(&mut out, number_of(role))?;
     put_u32(&mut out, 0)?;
     put_u64(&mut out, generation_shown(generation))?;

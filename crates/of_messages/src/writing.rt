@@ -5,6 +5,7 @@ ghost use Rattle.of_oxm.specs.Canonical.{canonical};
 
 use crate::message::{FlowRemoved, PacketIn};
 use crate::message_bytes::MessageBytes;
+use of_formats::messages::{BARRIER_REPLY, ECHO_REPLY, ERROR, FLOW_REMOVED, PACKET_IN};
 use of_oxm::{Match, write_match};
 use of_wire::{Bytes, Code, put_u16, put_u32, put_u64};
 use std::alloc::{AllocError, Global};
@@ -45,7 +46,7 @@ pub fn write_error(
     ensures { IfOk result (λ bytes. bytes ≡ error_bytes xid code body.now) }
 {
     let mut out = Vec::new(alloc);
-    put_header(&mut out, 1, 12 + body.len(), xid)?;
+    put_header(&mut out, ERROR, 12 + body.len(), xid)?;
     put_u16(&mut out, code.kind)?;
     put_u16(&mut out, code.code)?;
     out.extend_from_slice(body)?;
@@ -59,7 +60,7 @@ pub fn write_echo_reply(alloc: Global, xid: u32, body: &[u8]) -> Result<MessageB
     ensures { IfOk result (λ bytes. bytes ≡ echo_reply_bytes xid body.now) }
 {
     let mut out = Vec::new(alloc);
-    put_header(&mut out, 3, 8 + body.len(), xid)?;
+    put_header(&mut out, ECHO_REPLY, 8 + body.len(), xid)?;
     out.extend_from_slice(body)?;
     Ok(MessageBytes::new(Bytes::new(out)))
 }
@@ -70,7 +71,7 @@ pub fn write_barrier_reply(alloc: Global, xid: u32) -> Result<MessageBytes, Allo
     ensures { IfOk result (λ bytes. bytes ≡ barrier_reply_bytes xid) }
 {
     let mut out = Vec::new(alloc);
-    put_header(&mut out, 21, 8, xid)?;
+    put_header(&mut out, BARRIER_REPLY, 8, xid)?;
     Ok(MessageBytes::new(Bytes::new(out)))
 }
 
@@ -101,7 +102,7 @@ pub fn write_flow_removed(
 {
     let encoding = write_match(alloc, fields)?;
     let mut out = Vec::new(alloc);
-    put_header(&mut out, 11, 48 + encoding.len(), xid)?;
+    put_header(&mut out, FLOW_REMOVED, 48 + encoding.len(), xid)?;
     put_flow_removed(&mut out, removed)?;
     out.extend_from_slice(&encoding)?;
     Ok(MessageBytes::new(Bytes::new(out)))
@@ -156,7 +157,7 @@ pub fn write_packet_in(
 {
     let length = 26 + packet_fields_size(packet.in_port, packet.metadata) + data.len();
     let mut out = Vec::with_capacity(alloc, length)?;
-    put_header(&mut out, 10, length, xid)?;
+    put_header(&mut out, PACKET_IN, length, xid)?;
     put_packet_in(&mut out, packet)?;
     put_packet_fields(&mut out, packet.in_port, packet.metadata)?;
     out.extend_from_slice(&[0, 0])?;

@@ -11,7 +11,7 @@ use Rattle.of_messages.specs.declared.group_mod.GroupMod.{GroupMod}
 use Rattle.of_messages.specs.declared.group_mod.GroupMod.TheVariants as group
 use Rattle.of_messages.specs.declared.message.FlowMod.{FlowMod}
 use Rattle.of_messages.specs.declared.message.FlowModCommand.{FlowModCommand}
-use Rattle.of_messages.specs.declared.message.FlowModCommand.TheVariants.{Add, Modify as Modifies, ModifyStrict, Delete as Deletes, DeleteStrict}
+use Rattle.of_messages.specs.declared.message.FlowModCommand.TheVariants.{Add, Modify as Modifies, Delete as Deletes}
 use Rattle.of_messages.specs.declared.message.Message.{Message}
 use Rattle.of_messages.specs.declared.message.Message.TheVariants.{EchoRequest, PacketOut as IsPacketOut, FlowMod as IsFlowMod, GroupMod as IsGroupMod, PortMod as IsPortMod, TableMod as IsTableMod, Multipart}
 use Rattle.of_messages.specs.declared.message.PacketData.{PacketData}
@@ -50,10 +50,8 @@ data_sound (Frame frame) h = ap is_none (no_fault frame h.0 h.1)
 
 command_sound : (m : FlowMod) (c : FlowModCommand) (bytes : List ℕ) → MayName (deletes c) m.table → HasInstructions m (deletes c) bytes → is_sound_command (is_delete c) m ≡ true
 command_sound m Add bytes table h = and_true _ _ (low m.table table) (encoded_for m.table bytes m.instructions h)
-command_sound m Modifies bytes table h = and_true _ _ (low m.table table) (encoded_for m.table bytes m.instructions h)
-command_sound m ModifyStrict bytes table h = and_true _ _ (low m.table table) (encoded_for m.table bytes m.instructions h)
-command_sound m Deletes bytes table h = and_true _ _ (table_named m.table table) (ap has_no_instructions h)
-command_sound m DeleteStrict bytes table h = and_true _ _ (table_named m.table table) (ap has_no_instructions h)
+command_sound m (Modifies strict) bytes table h = and_true _ _ (low m.table table) (encoded_for m.table bytes m.instructions h)
+command_sound m (Deletes strict) bytes table h = and_true _ _ (table_named m.table table) (ap has_no_instructions h)
 
 flow_mod_sound : (m : FlowMod) (tail : List ℕ) → MatchThenInstructions m tail → IsValidFlowMod m → is_sound (IsFlowMod m) ≡ true
 flow_mod_sound m tail h valid = and_true _ _ (and_true _ _ (command_sound m m.command h.instructions valid.table h.are) (lt-ltb _ _ valid.flags)) valid.fit

@@ -24,7 +24,7 @@ use Rattle.of_messages.specs.declared.group_mod.NewGroup.{NewGroup}
 use Rattle.of_messages.specs.declared.group_mod.GroupMod.TheVariants as group
 use Rattle.of_messages.specs.declared.message.FlowMod.{FlowMod}
 use Rattle.of_messages.specs.declared.message.FlowModCommand.{FlowModCommand}
-use Rattle.of_messages.specs.declared.message.FlowModCommand.TheVariants.{Add, Modify as Modifies, ModifyStrict, Delete as Deletes, DeleteStrict}
+use Rattle.of_messages.specs.declared.message.FlowModCommand.TheVariants.{Add, Modify as Modifies, Delete as Deletes}
 use Rattle.of_messages.specs.declared.message.Message.TheVariants.{PacketOut as IsPacketOut, FlowMod as IsFlowMod, GroupMod as IsGroupMod, Multipart}
 use Rattle.of_messages.specs.declared.message.PacketData.{PacketData}
 use Rattle.of_messages.specs.declared.message.PacketData.TheVariants.{Buffered, Frame}
@@ -99,10 +99,8 @@ packet_out_text m front s t u v w bytes actions frame buffer len eb el ea ef p q
 
 delete_same : (c : FlowModCommand) → is_delete c ≡ deletes c
 delete_same Add = refl
-delete_same Modifies = refl
-delete_same ModifyStrict = refl
-delete_same Deletes = refl
-delete_same DeleteStrict = refl
+delete_same (Modifies strict) = refl
+delete_same (Deletes strict) = refl
 
 none_left : (is : List Instruction) → has_no_instructions is ≡ true → is ≡ []
 none_left [] h = refl

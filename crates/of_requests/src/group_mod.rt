@@ -12,6 +12,7 @@ ghost use Rattle.of_requests.specs.Sound.{is_sound};
 ghost use Rattle.of_requests.specs.Written.{IsWritten};
 
 use crate::header::begin;
+use of_formats::messages::GROUP_MOD;
 use of_messages::{GroupMod, NewGroup, write_buckets};
 use of_wire::limits::OFPG_ALL;
 use of_wire::{Bytes, put_u16, put_u32};
@@ -30,13 +31,13 @@ fn put_group(out: &mut Vec<u8>, command: u16, group: &NewGroup) -> Result<(), Al
 // The GROUP_MOD of that command for a group.
 fn write_group(alloc: Global, xid: u32, command: u16, group: &NewGroup) -> Result<Bytes, AllocError>
     ensures text { let buckets = canonical_buckets group.now.buckets in
-        IfOk result (λ bytes. bytes ≡ header 15 (8 + (8 + length buckets)) xid ++ (canonical_cells (group_cells command group.now) ++ buckets)) }
+        IfOk result (λ bytes. bytes ≡ header GROUP_MOD (8 + (8 + length buckets)) xid ++ (canonical_cells (group_cells command group.now) ++ buckets)) }
     ensures fits { OnOk result (Fits (group_cells command group.now)) }
     ensures numbers { OnOk result (list_all has_numbers group.now.buckets ≡ true) }
     ensures fit { OnOk result (are_fit group.now.buckets ≡ true) }
 {
     let buckets = write_buckets(alloc, &group.buckets)?;
-    let mut out = begin(alloc, 15, 8 + buckets.len(), xid)?;
+    let mut out = begin(alloc, GROUP_MOD, 8 + buckets.len(), xid)?;
     put_group(&mut out, command, group)?;
     out.extend_from_slice(&buckets)?;
     Ok(Bytes::new(out))
@@ -47,7 +48,7 @@ fn write_delete(alloc: Global, xid: u32, which: Option<u32>) -> Result<Bytes, Al
     requires { is_sound (IsGroupMod (Delete which)) ≡ true }
     ensures { IfOk result (IsWritten xid (IsGroupMod (Delete which))) }
 {
-    let mut out = begin(alloc, 15, 8, xid)?;
+    let mut out = begin(alloc, GROUP_MOD, 8, xid)?;
     put_u16(&mut out, 2)?;
     put_u16(&mut out, 0)?;
     put_u32(&mut out, which.unwrap_or(OFPG_ALL))?;

@@ -10,6 +10,7 @@ ghost use Rattle.of_requests.specs.Sound.{is_sound};
 ghost use Rattle.of_requests.specs.Written.{IsWritten};
 
 use crate::header::begin;
+use of_formats::messages::MULTIPART_REQUEST;
 use of_messages::{FlowStatsRequest, MultipartRequest};
 use of_oxm::write_match;
 use of_wire::limits::{OFPG_ALL, OFPP_ANY};
@@ -27,19 +28,19 @@ fn put_type(out: &mut Vec<u8>, number: u16) -> Result<(), AllocError>
 
 // A request without a body.
 fn write_bare(alloc: Global, xid: u32, number: u16) -> Result<Bytes, AllocError>
-    ensures { IfOk result (λ bytes. bytes ≡ header 18 16 xid ++ canonical_cells (u16 number ∷ even 2 ∷ pad 4 ∷ [])) }
+    ensures { IfOk result (λ bytes. bytes ≡ header MULTIPART_REQUEST 16 xid ++ canonical_cells (u16 number ∷ even 2 ∷ pad 4 ∷ [])) }
 {
-    let mut out = begin(alloc, 18, 8, xid)?;
+    let mut out = begin(alloc, MULTIPART_REQUEST, 8, xid)?;
     put_type(&mut out, number)?;
     Ok(Bytes::new(out))
 }
 
 // A request for a port or a group.
 fn write_asked(alloc: Global, xid: u32, number: u16, asked: u32) -> Result<Bytes, AllocError>
-    ensures text { IfOk result (λ bytes. bytes ≡ header 18 24 xid ++ canonical_cells (u16 number ∷ even 2 ∷ pad 4 ∷ u32 asked ∷ pad 4 ∷ [])) }
+    ensures text { IfOk result (λ bytes. bytes ≡ header MULTIPART_REQUEST 24 xid ++ canonical_cells (u16 number ∷ even 2 ∷ pad 4 ∷ u32 asked ∷ pad 4 ∷ [])) }
     ensures fits { asked < 256 ^ 4 }
 {
-    let mut out = begin(alloc, 18, 16, xid)?;
+    let mut out = begin(alloc, MULTIPART_REQUEST, 16, xid)?;
     put_type(&mut out, number)?;
     put_u32(&mut out, asked)?;
     put_u32(&mut out, 0)?;
@@ -93,13 +94,13 @@ fn write_flows(
 ) -> Result<Bytes, AllocError>
     ensures text { let fields = canonical r.now.fields in
         let front = canonical_cells (u16 number ∷ even 2 ∷ pad 4 ∷ flows_cells r.now) in
-        IfOk result (λ bytes. bytes ≡ header 18 (8 + (40 + length fields)) xid ++ (front ++ fields)) }
+        IfOk result (λ bytes. bytes ≡ header MULTIPART_REQUEST (8 + (40 + length fields)) xid ++ (front ++ fields)) }
     ensures fits { OnOk result (Fits (flows_cells r.now)) }
     ensures fields { IsMatch r.now.fields }
 {
     r.fields.known();
     let fields = write_match(alloc, &r.fields)?;
-    let mut out = begin(alloc, 18, 40 + fields.len(), xid)?;
+    let mut out = begin(alloc, MULTIPART_REQUEST, 40 + fields.len(), xid)?;
     put_type(&mut out, number)?;
     put_flows(&mut out, r)?;
     out.extend_from_slice(&fields)?;

@@ -8,6 +8,7 @@ ghost use Rattle.of_requests.specs.Written.{IsWritten};
 
 use crate::header::begin;
 use of_actions::write_actions;
+use of_formats::messages::PACKET_OUT;
 use of_messages::{PacketData, PacketOut};
 use of_wire::limits::OFP_NO_BUFFER;
 use of_wire::{Bytes, put_u16, put_u32};
@@ -41,7 +42,7 @@ pub(crate) fn write_packet_out(alloc: Global, xid: u32, m: &PacketOut) -> Result
 {
     let actions = write_actions(alloc, &m.actions)?;
     let frame = frame_of(&m.packet);
-    let mut out = begin(alloc, 13, 16 + actions.len() + frame.len(), xid)?;
+    let mut out = begin(alloc, PACKET_OUT, 16 + actions.len() + frame.len(), xid)?;
     put_u32(&mut out, buffer(&m.packet))?;
     put_u32(&mut out, m.in_port)?;
     put_u16(&mut out, actions.len() as u16)?;

@@ -8,6 +8,7 @@ ghost use Rattle.of_requests.specs.Sound.{is_sound};
 ghost use Rattle.of_requests.specs.Written.{IsWritten, masks_cells};
 
 use crate::header::begin;
+use of_formats::messages::{PORT_MOD, ROLE_REQUEST, SET_ASYNC, SET_CONFIG, TABLE_MOD};
 use of_messages::{AsyncMasks, PortMod, RoleMasks, RoleRequest, SwitchConfig, TableMod};
 use of_wire::{Bytes, put_u16, put_u32, put_u64};
 use std::alloc::{AllocError, Global};
@@ -28,7 +29,7 @@ pub(crate) fn write_set_config(
 ) -> Result<Bytes, AllocError>
     ensures { IfOk result (IsWritten xid (SetConfig config)) }
 {
-    let mut out = begin(alloc, 9, 4, xid)?;
+    let mut out = begin(alloc, SET_CONFIG, 4, xid)?;
     put_set_config(&mut out, config)?;
     Ok(Bytes::new(out))
 }
@@ -46,7 +47,7 @@ pub(crate) fn write_table_mod(alloc: Global, xid: u32, m: TableMod) -> Result<By
     requires { is_sound (IsTableMod m) ≡ true }
     ensures { IfOk result (IsWritten xid (IsTableMod m)) }
 {
-    let mut out = begin(alloc, 17, 8, xid)?;
+    let mut out = begin(alloc, TABLE_MOD, 8, xid)?;
     put_table_mod(&mut out, m)?;
     Ok(Bytes::new(out))
 }
@@ -69,7 +70,7 @@ pub(crate) fn write_port_mod(alloc: Global, xid: u32, m: PortMod) -> Result<Byte
     requires { is_sound (IsPortMod m) ≡ true }
     ensures { IfOk result (IsWritten xid (IsPortMod m)) }
 {
-    let mut out = begin(alloc, 16, 32, xid)?;
+    let mut out = begin(alloc, PORT_MOD, 32, xid)?;
     put_port_mod(&mut out, m)?;
     Ok(Bytes::new(out))
 }
@@ -96,7 +97,7 @@ pub(crate) fn write_role_request(
     ensures { IfOk result (IsWritten xid (IsRoleRequest request)) }
 {
     let (role, generation) = role_numbers(request);
-    let mut out = begin(alloc, 24, 16, xid)?;
+    let mut out = begin(alloc, ROLE_REQUEST, 16, xid)?;
     put_u32(&mut out, role)?;
     put_u32(&mut out, 0)?;
     put_u64(&mut out, generation)?;
@@ -119,7 +120,7 @@ pub(crate) fn write_set_async(
 ) -> Result<Bytes, AllocError>
     ensures { IfOk result (IsWritten xid (SetAsync masks)) }
 {
-    let mut out = begin(alloc, 28, 24, xid)?;
+    let mut out = begin(alloc, SET_ASYNC, 24, xid)?;
     put_masks(&mut out, masks.packet_in)?;
     put_masks(&mut out, masks.port_status)?;
     put_masks(&mut out, masks.flow_removed)?;

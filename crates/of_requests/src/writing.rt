@@ -16,6 +16,10 @@ use crate::small::{
 };
 use crate::sound::is_sound;
 use crate::write_error::WriteError;
+use of_formats::messages::{
+    BARRIER_REQUEST, ECHO_REPLY, ECHO_REQUEST, ERROR, FEATURES_REQUEST, GET_ASYNC_REQUEST,
+    GET_CONFIG_REQUEST, HELLO,
+};
 use of_messages::{Message, MessageBytes};
 use of_wire::Bytes;
 use std::alloc::{AllocError, Global};
@@ -25,12 +29,12 @@ fn write_sound(alloc: Global, xid: u32, message: &Message) -> Result<Bytes, Allo
     ensures { IfOk result (IsWritten xid message.now) }
 {
     match message {
-        Message::Hello => write_with(alloc, 0, &[], xid),
-        Message::Error => write_with(alloc, 1, &[0; 4], xid),
-        Message::EchoRequest(echoed) => write_with(alloc, 2, echoed.as_slice(), xid),
-        Message::EchoReply => write_with(alloc, 3, &[], xid),
-        Message::FeaturesRequest => write_with(alloc, 5, &[], xid),
-        Message::GetConfigRequest => write_with(alloc, 7, &[], xid),
+        Message::Hello => write_with(alloc, HELLO, &[], xid),
+        Message::Error => write_with(alloc, ERROR, &[0; 4], xid),
+        Message::EchoRequest(echoed) => write_with(alloc, ECHO_REQUEST, echoed.as_slice(), xid),
+        Message::EchoReply => write_with(alloc, ECHO_REPLY, &[], xid),
+        Message::FeaturesRequest => write_with(alloc, FEATURES_REQUEST, &[], xid),
+        Message::GetConfigRequest => write_with(alloc, GET_CONFIG_REQUEST, &[], xid),
         Message::SetConfig(config) => write_set_config(alloc, xid, *config),
         Message::PacketOut(m) => write_packet_out(alloc, xid, m),
         Message::FlowMod(m) => write_sound_flow_mod(alloc, xid, m),
@@ -38,9 +42,9 @@ fn write_sound(alloc: Global, xid: u32, message: &Message) -> Result<Bytes, Allo
         Message::PortMod(m) => write_port_mod(alloc, xid, *m),
         Message::TableMod(m) => write_table_mod(alloc, xid, *m),
         Message::Multipart(request) => write_multipart(alloc, xid, request),
-        Message::BarrierRequest => write_with(alloc, 20, &[], xid),
+        Message::BarrierRequest => write_with(alloc, BARRIER_REQUEST, &[], xid),
         Message::RoleRequest(request) => write_role_request(alloc, xid, *request),
-        Message::GetAsyncRequest => write_with(alloc, 26, &[], xid),
+        Message::GetAsyncRequest => write_with(alloc, GET_ASYNC_REQUEST, &[], xid),
         Message::SetAsync(masks) => write_set_async(alloc, xid, *masks),
     }
 }

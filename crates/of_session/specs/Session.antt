@@ -3,7 +3,8 @@ use Rattle.std.specs.Prelude.{◌≡◌, ℕ, ◌==◌, ◌&&◌, Bool, true, fa
 use Rattle.of_wire.specs.declared.code.Code.{Code}
 use Rattle.of_messages.specs.declared.message.Message.{Message}
 use Rattle.of_messages.specs.declared.role.Role.{Role}
-use Rattle.of_messages.specs.Heads.{hello, type_of, xid_of}
+use Rattle.of_formats.specs.declared.messages.TheConstants.{HELLO}
+use Rattle.of_messages.specs.Heads.{type_of, xid_of}
 use Rattle.of_messages.specs.Hellos.{version_by}
 use Rattle.of_messages.specs.Messages.{message_from}
 use Rattle.of_messages.specs.Promised.{IsSoundMessage}
@@ -36,7 +37,7 @@ fed chunk c = record c { pending = c.pending ++ chunk }
 
 -- the first message is accepted if it is a HELLO that agrees to version 4
 abbrev pub is_first_hello : List ℕ → Bool
-is_first_hello m = type_of m == hello && version_by m == 4
+is_first_hello m = type_of m == HELLO && version_by m == 4
 
 abbrev pub greeted : List ℕ → Next
 greeted m = if is_first_hello m then Opened (length m) else NotHello (xid_of m)

@@ -6,13 +6,11 @@ ghost use Rattle.of_session.specs.Session.{next_of, fed, is_first_hello, judged,
 
 use crate::stream::{Beginning, HEADER, Stream};
 use byteorder::{BigEndian, ByteOrder};
+use of_formats::messages::HELLO;
 use of_messages::{Message, Role, agreed_version, read_message_as};
 use of_wire::{Code, ReadError};
 use std::alloc::{AllocError, Global};
 use std::marker::Model;
-
-/// The type of a HELLO (OpenFlow 1.3.5, 7.5.1).
-const HELLO: u8 = 0;
 
 /// The phase of a connection (OpenFlow 1.3.5, 6.3.1).
 #[derive(Clone, Copy, Debug, PartialEq, Eq)]

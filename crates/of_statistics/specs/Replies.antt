@@ -2,16 +2,17 @@
 use Rattle.std.specs.Prelude.{◌≡◌, ◌<◌, ◌≤◌, ℕ, ◌+◌, nat_le, List, [], ◌∷◌, ◌++◌, length, drop, if◌then◌else◌}
 use Rattle.std.specs.List.{All, concat, flat_map}
 use Rattle.of_formats.specs.Structs.{written}
+use Rattle.of_formats.specs.declared.messages.TheConstants.{MULTIPART_REPLY}
 use Rattle.of_formats.specs.Tables as tables
 use Rattle.of_messages.specs.Written.{header, message}
 
 -- the type of the request, flags, and the body
 unfoldable pub reply : ℕ → ℕ → ℕ → List ℕ → List ℕ
-reply xid kind flags body = message 19 xid (written tables.multipart (kind ∷ flags ∷ []) ++ body)
+reply xid kind flags body = message MULTIPART_REPLY xid (written tables.multipart (kind ∷ flags ∷ []) ++ body)
 
 -- for contracts inside this crate: the 16 bytes before the body
 unfoldable pub head_bytes : ℕ → ℕ → ℕ → ℕ → List ℕ
-head_bytes size xid kind flags = header 19 size xid ++ written tables.multipart (kind ∷ flags ∷ [])
+head_bytes size xid kind flags = header MULTIPART_REPLY size xid ++ written tables.multipart (kind ∷ flags ∷ [])
 
 -- OFPMPF_REPLY_MORE: more replies follow
 abbrev pub more : ℕ

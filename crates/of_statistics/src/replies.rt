@@ -3,6 +3,7 @@ ghost use Rattle.std.specs.Prelude.{◌≡◌, ◌≤◌, ◌++◌, drop, length
 ghost use Rattle.of_statistics.specs.Replies.{blank, closed, head_bytes, reply, with_row};
 
 use byteorder::{BigEndian, ByteOrder};
+use of_formats::messages::MULTIPART_REPLY;
 use of_messages::MessageBytes;
 use of_wire::Bytes;
 use std::alloc::{AllocError, Global};
@@ -34,7 +35,7 @@ fn head_of(length: u16, xid: u32, kind: u16, flags: u16) -> [u8; HEAD]
 {
     let mut head = [0; HEAD];
     head[0] = 4;
-    head[1] = 19;
+    head[1] = MULTIPART_REPLY;
     BigEndian::write_u16(&mut head[2..], length);
     BigEndian::write_u32(&mut head[4..], xid);
     BigEndian::write_u16(&mut head[8..], kind);

@@ -11,7 +11,7 @@ use Rattle.of_machine.specs.Rows.{Lookup, acts, entering}
 use Rattle.of_messages.specs.declared.message.PacketOut.{PacketOut}
 use Rattle.of_messages.specs.declared.message.FlowMod.{FlowMod}
 use Rattle.of_messages.specs.declared.message.FlowModCommand.{FlowModCommand}
-use Rattle.of_messages.specs.declared.message.FlowModCommand.TheVariants.{Add, Modify, ModifyStrict, Delete, DeleteStrict}
+use Rattle.of_messages.specs.declared.message.FlowModCommand.TheVariants.{Add, Modify, Delete}
 use Rattle.of_messages.specs.Messages.{is_delete}
 use Rattle.of_table.specs.Copied.{NumberedCopy, swapped_in}
 use Rattle.of_table.specs.Entries.{table_of}
@@ -57,10 +57,8 @@ command_restored Add m c before after put low table copy is =
     let kept : table_of c.copy ≡ table_at c.table (tables_of before) = rw table copy in
     let added_is : tables_of after ≡ with_table c.table new (tables_of before) = rw table is in
     restored c new before after kept added_is
-command_restored Modify m c before after put low table copy is = restored_modified c (selector_of m) m.instructions (has_flag m.flags 4) before after (named m c low table) (let kept : table_of c.copy ≡ table_at c.table (tables_of before) = rw table copy in kept) is
-command_restored ModifyStrict m c before after put low table copy is = restored_modified c (selector_of m) m.instructions (has_flag m.flags 4) before after (named m c low table) (let kept : table_of c.copy ≡ table_at c.table (tables_of before) = rw table copy in kept) is
-command_restored Delete m c before after put low table copy is = absurd cc
-command_restored DeleteStrict m c before after put low table copy is = absurd cc
+command_restored (Modify strict) m c before after put low table copy is = restored_modified c (selector_of m) m.instructions (has_flag m.flags 4) before after (named m c low table) (let kept : table_of c.copy ≡ table_at c.table (tables_of before) = rw table copy in kept) is
+command_restored (Delete strict) m c before after put low table copy is = absurd cc
 
 -- with the tables as they were, so is the switch
 pub taken_back : (m : FlowMod) (c : NumberedCopy) (k k' : Core) (effects : List Effect) (dpid : ℕ) (control : Control) (before after swapped : NumberedTables) (gs : List Group) (ps : List Port) (b : HeldFrames)

@@ -14,7 +14,7 @@ use Rattle.of_groups.specs.Chains.{chain, leads}
 use Rattle.of_groups.specs.Liveness.{is_live_within}
 use Rattle.of_messages.specs.Buckets.{bucket_at, bucket_refusals, buckets_said}
 use Rattle.of_messages.specs.GroupMods.{command_of, kind_of}
-use Rattle.of_messages.specs.Heads.{format_of}
+use Rattle.of_formats.specs.Messages.{message_row}
 use Rattle.of_messages.specs.Hellos.{elements_of, version_by}
 use Rattle.of_messages.specs.Messages.{body_of, command_said, message_from}
 use Rattle.of_messages.specs.Written.{flow_removed_fixed_part}
@@ -25,5 +25,5 @@ use Rattle.of_switch.specs.Runs.{drain}
 use Rattle.of_switch.specs.Steps.{handled}
 
 unfoldable pub switch_on_literals : ⊤
-unfolding drain handled message_from body_of format_of command_said version_by elements_of match_of instructions_of items_of field_at row_of prerequisites_met kept header_at header_refusals action_at action_refusals type_refusals actions_said in_run_order run_of until_none step copy_steps action_steps table_steps set_steps lookup_steps command_of kind_of buckets_said bucket_refusals bucket_at leads chain is_live_within flow_removed_fixed_part canonical encoding
+unfolding drain handled message_from body_of message_row command_said version_by elements_of match_of instructions_of items_of field_at row_of prerequisites_met kept header_at header_refusals action_at action_refusals type_refusals actions_said in_run_order run_of until_none step copy_steps action_steps table_steps set_steps lookup_steps command_of kind_of buckets_said bucket_refusals bucket_at leads chain is_live_within flow_removed_fixed_part canonical encoding
 switch_on_literals = tt

@@ -48,10 +48,10 @@ use of_statistics::{
 use of_table::{Cause, TableFault};
 use of_text::Config;
 use of_wire::codes::{
-    OFPBAC_BAD_OUT_GROUP, OFPBRC_BAD_PORT, OFPBRC_BUFFER_UNKNOWN, OFPFMFC_BAD_TABLE_ID,
-    OFPFMFC_OVERLAP, OFPFMFC_TABLE_FULL, OFPPMFC_BAD_HW_ADDR, OFPPMFC_BAD_PORT, OFPRRFC_STALE,
+    OFPBAC_BAD_OUT_GROUP, OFPBRC_BAD_PORT, OFPBRC_BUFFER_UNKNOWN, OFPFMFC_OVERLAP,
+    OFPFMFC_TABLE_FULL, OFPPMFC_BAD_HW_ADDR, OFPPMFC_BAD_PORT, OFPRRFC_STALE,
 };
-use of_wire::limits::OFP_NO_BUFFER;
+use of_wire::limits::{OFP_NO_BUFFER, OFPFF_RESET_COUNTS};
 use of_wire::{Bytes, Code};
 use std::alloc::{AllocError, Global};
 use std::marker::Model;
@@ -443,13 +443,11 @@ impl<L: Lookup> Core<L> {
     {
         match flow_mod.command {
             FlowModCommand::Add => self.add_flow(flow_mod),
-            FlowModCommand::Modify
-            | FlowModCommand::ModifyStrict
-            | FlowModCommand::Delete
-            | FlowModCommand::DeleteStrict => {
+            FlowModCommand::Modify { .. } => {
                 self.modify_flows(flow_mod)?;
                 Ok(Effects::new(self.alloc))
             }
+            FlowModCommand::Delete { .. } => unreachable!(),
         }
     }
 
@@ -462,6 +460,7 @@ impl<L: Lookup> Core<L> {
 
     fn add_flow(&mut self, flow_mod: FlowMod) -> Result<Effects, Fault>
         requires add { flow_mod.command ≡ FlowModCommand.Add }
+        requires table { flow_mod.table < 16 }
         requires group { naming_absent_group self.old.forwarding.groups flow_mod.instructions ≡ false }
         requires fit { are_for flow_mod.table flow_mod.instructions ≡ true }
         requires checked { all_go_with flow_mod.fields flow_mod.instructions ≡ true }
@@ -473,10 +472,10 @@ impl<L: Lookup> Core<L> {
             .add(flow_mod.table, flow_from(flow_mod))
         {
             Ok(()) => Ok(Effects::new(self.alloc)),
-            Err(TableFault::BadTable) => Err(Fault::Refused(OFPFMFC_BAD_TABLE_ID)),
             Err(TableFault::Overlap) => Err(Fault::Refused(OFPFMFC_OVERLAP)),
             Err(TableFault::Full) => Err(Fault::Refused(OFPFMFC_TABLE_FULL)),
             Err(TableFault::NoMemory) => Err(Fault::Memory),
+            Err(TableFault::BadTable) => unreachable!(),
         }
     }
 
@@ -486,10 +485,11 @@ impl<L: Lookup> Core<L> {
         requires fit { are_for flow_mod.table flow_mod.instructions ≡ true }
         requires checked { all_go_with flow_mod.fields flow_mod.instructions ≡ true }
         ensures ok { OnOk result (self.new ≡
-            with_tables (modified_in (selector_of flow_mod) flow_mod.instructions (with_flag flow_mod.flags 4) self.old.forwarding.tables) self.old) }
+            with_tables (modified_in (selector_of flow_mod) flow_mod.instructions (with_flag flow_mod.flags OFPFF_RESET_COUNTS)
+            self.old.forwarding.tables) self.old) }
         ensures err { OnErr result (self.new ≡ self.old) }
     {
-        let reset = has_flag(flow_mod.flags, 4);
+        let reset = has_flag(flow_mod.flags, OFPFF_RESET_COUNTS);
         let instructions = flow_mod.instructions.copy()?;
         let which = which_from(flow_mod);
         self.datapath.tables.modify(&which, &instructions, reset)

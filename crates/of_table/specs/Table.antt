@@ -2,7 +2,7 @@
 use Rattle.std.specs.Prelude.{ℕ, ◌+◌, ◌%◌, ◌^◌, ◌==◌, ◌&&◌, ◌++◌, Bool, false, not, List, [], ◌∷◌, length, Option, Some, None, zero, suc, filter, find, nat_le, slice_get, if◌then◌else◌}
 use Rattle.std.specs.List.{list_any}
 use Rattle.std.specs.Option.{option_map}
-use Rattle.of_wire.specs.declared.limits.TheConstants.{MOST_ENTRIES}
+use Rattle.of_wire.specs.declared.limits.TheConstants.{MOST_ENTRIES, OFPFF_NO_BYT_COUNTS, OFPFF_NO_PKT_COUNTS, OFPFF_SEND_FLOW_REM}
 use Rattle.of_layers.specs.declared.field.Field.{Field}
 use Rattle.of_oxm.specs.Relations.{overlaps_match}
 use Rattle.of_oxm.specs.SameMatch.{is_same_match}
@@ -45,9 +45,9 @@ kept_flags flags = record flags { check_overlap = false; reset_counts = false }
 abbrev pub bit : ℕ → Bool → ℕ
 bit value on = if on then value else 0
 
--- OFPFF_SEND_FLOW_REM, OFPFF_NO_PKT_COUNTS and OFPFF_NO_BYT_COUNTS: an entry keeps no other
+-- an entry keeps no other
 abbrev pub flags_number : FlowFlags → ℕ
-flags_number f = bit 1 f.send_removed + bit 8 f.no_packet_counts + bit 16 f.no_byte_counts
+flags_number f = bit OFPFF_SEND_FLOW_REM f.send_removed + bit OFPFF_NO_PKT_COUNTS f.no_packet_counts + bit OFPFF_NO_BYT_COUNTS f.no_byte_counts
 
 abbrev pub kept_flow : Flow → Flow
 kept_flow flow = record flow { flags = kept_flags flow.flags }

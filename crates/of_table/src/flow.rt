@@ -1,9 +1,10 @@
 //! Flows, as a FLOW_MOD gives them.
 ghost use Rattle.std.specs.Prelude.{◌≡◌};
-ghost use Rattle.of_table.specs.Table.{flags_number};
+ghost use Rattle.of_table.specs.Table.{bit as bit_if, flags_number};
 
 use of_actions::InstructionList;
 use of_oxm::Match;
+use of_wire::limits::{OFPFF_NO_BYT_COUNTS, OFPFF_NO_PKT_COUNTS, OFPFF_SEND_FLOW_REM};
 
 /// The flags of a flow (OpenFlow 1.3.5, 7.3.4.1).
 #[derive(Clone, Copy)]
@@ -20,15 +21,21 @@ pub struct FlowFlags {
     pub no_byte_counts: bool,
 }
 
+// A flag, or 0.
+fn bit(flag: u16, is_set: bool) -> u16
+    ensures { result ≡ bit_if flag is_set }
+{
+    if is_set { flag } else { 0 }
+}
+
 impl FlowFlags {
     /// The number of those that an entry keeps (OpenFlow 1.3.5, 7.3.4.1).
     pub fn number(self) -> u16
         ensures { result ≡ flags_number self }
     {
-        let removed = if self.send_removed { 1 } else { 0 };
-        let packets = if self.no_packet_counts { 8 } else { 0 };
-        let bytes = if self.no_byte_counts { 16 } else { 0 };
-        removed + packets + bytes
+        bit(OFPFF_SEND_FLOW_REM, self.send_removed)
+            + bit(OFPFF_NO_PKT_COUNTS, self.no_packet_counts)
+            + bit(OFPFF_NO_BYT_COUNTS, self.no_byte_counts)
     }
 }
 

@@ -1,5 +1,8 @@
 -- NUMBERS IN WORDS: hexadecimal digits, Ethernet and IPv4 addresses, ports.
-use Rattle.std.specs.Prelude.{ℕ, zero, suc, ◌+◌, ◌*◌, ◌/◌, ◌%◌, ◌^◌, ◌==◌, ◌||◌, not, nat_lt, List, [], ◌∷◌, ◌++◌, codes, decimal, if◌then◌else◌}
+use Rattle.std.specs.Prelude.{ℕ, zero, suc, ◌+◌, ◌*◌, ◌/◌, ◌%◌, ◌^◌, ◌==◌, ◌||◌, not, nat_lt, List, [], ◌∷◌, ◌++◌, decimal, Option, Some, None, find, if◌then◌else◌}
+use Rattle.of_wire.specs.Parts.{before, divided}
+use Rattle.of_values.specs.declared.ports.PortName.{PortName}
+use Rattle.of_values.specs.declared.ports.TheConstants.{PORT_NAMES}
 
 -- ---- hexadecimal digits
 
@@ -45,14 +48,9 @@ ipv4 n = decimal (byte_at 24 n) ++ dot_byte 16 n ++ dot_byte 8 n ++ dot_byte 0 n
 
 -- ---- ports (7.2.1): the reserved ones by their names
 
+abbrev pub port_word : ℕ → Option PortName → List ℕ
+port_word n None = decimal n
+port_word n (Some row) = before row.1 (divided 32 row.1)
+
 unfoldable pub port : ℕ → List ℕ
-port n =
-    if n == 0xfffffff8 then codes "in_port"
-    else if n == 0xfffffff9 then codes "table"
-    else if n == 0xfffffffa then codes "normal"
-    else if n == 0xfffffffb then codes "flood"
-    else if n == 0xfffffffc then codes "all"
-    else if n == 0xfffffffd then codes "controller"
-    else if n == 0xfffffffe then codes "local"
-    else if n == 0xffffffff then codes "any"
-    else decimal n
+port n = port_word n (find (λ row. n == row.0) PORT_NAMES)

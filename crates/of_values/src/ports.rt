@@ -3,22 +3,36 @@ ghost use Rattle.std.specs.Prelude.{◌≡◌, ◌++◌, OnOk};
 ghost use Rattle.of_values.specs.Numbers.{port};
 
 use crate::digits::push_decimal;
+use of_wire::first_part;
+use of_wire::limits::{
+    OFPP_ALL, OFPP_ANY, OFPP_CONTROLLER, OFPP_FLOOD, OFPP_IN_PORT, OFPP_LOCAL, OFPP_NORMAL,
+    OFPP_TABLE,
+};
 use std::alloc::AllocError;
+
+/// A reserved port, and its name, filled up by spaces.
+#[derive(Clone, Copy)]
+pub struct PortName(pub u32, pub [u8; 10]);
+
+/// The reserved ports (OpenFlow 1.3.5, 7.2.1).
+pub const PORT_NAMES: [PortName; 8] = [
+    PortName(OFPP_IN_PORT, *b"in_port   "),
+    PortName(OFPP_TABLE, *b"table     "),
+    PortName(OFPP_NORMAL, *b"normal    "),
+    PortName(OFPP_FLOOD, *b"flood     "),
+    PortName(OFPP_ALL, *b"all       "),
+    PortName(OFPP_CONTROLLER, *b"controller"),
+    PortName(OFPP_LOCAL, *b"local     "),
+    PortName(OFPP_ANY, *b"any       "),
+];
 
 /// Appends the number of a port, or the name of a reserved one (OpenFlow 1.3.5, 7.2.1).
 #[tactic(auto, unfolding(crate::specs::Numbers::port))]
 pub fn push_port(out: &mut Vec<u8>, number: u128) -> Result<(), AllocError>
     ensures { OnOk result (out.new.items ≡ out.old.items ++ port number) }
 {
-    match number {
-        0xffff_fff8 => out.extend_from_slice(b"in_port"),
-        0xffff_fff9 => out.extend_from_slice(b"table"),
-        0xffff_fffa => out.extend_from_slice(b"normal"),
-        0xffff_fffb => out.extend_from_slice(b"flood"),
-        0xffff_fffc => out.extend_from_slice(b"all"),
-        0xffff_fffd => out.extend_from_slice(b"controller"),
-        0xffff_fffe => out.extend_from_slice(b"local"),
-        0xffff_ffff => out.extend_from_slice(b"any"),
-        _ => push_decimal(out, number),
+    match PORT_NAMES.iter().find(|row| number == u128::from(row.0)) {
+        None => push_decimal(out, number),
+        Some(row) => out.extend_from_slice(first_part(&row.1, b' ')),
     }
 }

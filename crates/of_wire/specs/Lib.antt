@@ -3,5 +3,6 @@ pub mod Failures
 pub mod Items
 pub mod Highest
 pub mod Numbered
+pub mod Parts
 pub mod CodeNames
 pub mod Reasons

@@ -6,12 +6,14 @@ mod code;
 mod code_name;
 pub mod codes;
 pub mod limits;
+mod parts;
 mod reasons;
 mod slices;
 mod writing;
 
 pub use bytes::Bytes;
 pub use code::{Code, ReadError};
+pub use parts::{first_part, part_at};
 pub use reasons::{FlowRemovedReason, PacketInReason};
 pub use slices::{front_of, rest_from};
 pub use writing::{put_number, put_u16, put_u32, put_u64};

@@ -1,0 +1,24 @@
+-- THE PARTS OF A TEXT, which a separator divides.
+use Rattle.std.specs.Prelude.{ℕ, zero, suc, ◌+◌, ◌==◌, List, take, drop, position, Option, Some, None}
+
+-- the place of the first separator, and the bytes before it, or all
+abbrev pub divided : ℕ → List ℕ → Option ℕ
+divided separator text = position (λ byte. byte == separator) text
+
+abbrev pub before : List ℕ → Option ℕ → List ℕ
+before text None = text
+before text (Some place) = take place text
+
+-- the same of what is behind it
+abbrev pub behind : (List ℕ → Option (List ℕ)) → List ℕ → Option ℕ → Option (List ℕ)
+behind next text None = None
+behind next text (Some place) = next (drop (place + 1) text)
+
+-- the part with a number, from 0 on
+abbrev pub nth_part : ℕ → ℕ → List ℕ → Option (List ℕ)
+nth_part separator zero text = Some (before text (divided separator text))
+nth_part separator (suc n) text = behind (nth_part separator n) text (divided separator text)
+
+abbrev pub part_in : ℕ → ℕ → Option (List ℕ) → Option (List ℕ)
+part_in separator n None = None
+part_in separator n (Some text) = nth_part separator n text
