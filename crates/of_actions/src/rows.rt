@@ -23,7 +23,7 @@ pub enum Form {
 pub struct ActionRow {
     /// OFPAT_*: its type.
     pub kind: u16,
-    /// Its word in flow text, in an array that zeros fill up.
+    /// Its word in flow text, filled up by spaces.
     pub word: [u8; 12],
     /// The place of its kind in the order in which an action set is executed (OpenFlow 1.3.5, 5.10); that of a field comes on top.
     pub rank: u8,
@@ -33,7 +33,7 @@ pub struct ActionRow {
 /// OFPAT_OUTPUT.
 pub const OUTPUT: ActionRow = ActionRow {
     kind: 0,
-    word: *b"output\0\0\0\0\0\0",
+    word: *b"output      ",
     rank: 41,
     form: Form::Port,
 };
@@ -41,7 +41,7 @@ pub const OUTPUT: ActionRow = ActionRow {
 /// OFPAT_PUSH_VLAN.
 pub const PUSH_VLAN: ActionRow = ActionRow {
     kind: 17,
-    word: *b"push_vlan\0\0\0",
+    word: *b"push_vlan   ",
     rank: 1,
     form: Form::Tag,
 };
@@ -49,7 +49,7 @@ pub const PUSH_VLAN: ActionRow = ActionRow {
 /// OFPAT_POP_VLAN.
 pub const POP_VLAN: ActionRow = ActionRow {
     kind: 18,
-    word: *b"pop_vlan\0\0\0\0",
+    word: *b"pop_vlan    ",
     rank: 0,
     form: Form::Nothing,
 };
@@ -57,7 +57,7 @@ pub const POP_VLAN: ActionRow = ActionRow {
 /// OFPAT_GROUP.
 pub const GROUP: ActionRow = ActionRow {
     kind: 22,
-    word: *b"to_group\0\0\0\0",
+    word: *b"to_group    ",
     rank: 40,
     form: Form::Word,
 };
@@ -65,7 +65,7 @@ pub const GROUP: ActionRow = ActionRow {
 /// OFPAT_SET_NW_TTL.
 pub const SET_NW_TTL: ActionRow = ActionRow {
     kind: 23,
-    word: *b"set_nw_ttl\0\0",
+    word: *b"set_nw_ttl  ",
     rank: 3,
     form: Form::Byte,
 };
@@ -73,7 +73,7 @@ pub const SET_NW_TTL: ActionRow = ActionRow {
 /// OFPAT_DEC_NW_TTL.
 pub const DEC_NW_TTL: ActionRow = ActionRow {
     kind: 24,
-    word: *b"dec_nw_ttl\0\0",
+    word: *b"dec_nw_ttl  ",
     rank: 2,
     form: Form::Nothing,
 };
@@ -81,7 +81,7 @@ pub const DEC_NW_TTL: ActionRow = ActionRow {
 /// OFPAT_SET_FIELD.
 pub const SET_FIELD: ActionRow = ActionRow {
     kind: 25,
-    word: *b"set\0\0\0\0\0\0\0\0\0",
+    word: *b"set         ",
     rank: 4,
     form: Form::Field,
 };

@@ -1,7 +1,7 @@
 -- THE MESSAGES (OpenFlow 1.3.5, 7.1, enum ofp_type): the rows are a constant of the code.
 use Rattle.std.specs.Prelude.{ℕ, ◌==◌, nat_lt, Bool, true, false, not, List, [], ◌∷◌, ◌++◌, Option, Some, None, find}
 use Rattle.std.specs.Option.{option_map}
-use Rattle.of_wire.specs.Parts.{before, divided}
+use Rattle.of_wire.specs.Parts.{keyword}
 use Rattle.of_formats.specs.declared.messages.MessageRow.{MessageRow}
 use Rattle.of_formats.specs.declared.messages.Size.{Size}
 use Rattle.of_formats.specs.declared.messages.Size.TheVariants.{Exact, Least}
@@ -15,7 +15,7 @@ unfoldable pub message_row : ℕ → Option MessageRow
 message_row type = find (λ row. type == row.kind) MESSAGES
 
 abbrev pub message_name : ℕ → Option (List ℕ)
-message_name type = option_map (λ row. before row.name (divided 32 row.name)) (message_row type)
+message_name type = option_map (λ row. keyword row.name) (message_row type)
 
 abbrev pub is_read : Way → Bool
 is_read Read = true

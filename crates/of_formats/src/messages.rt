@@ -5,7 +5,7 @@ ghost use Rattle.of_formats.specs.Messages.{is_bad_size, is_read, message_name a
 
 use Size::{Exact, Least};
 use Way::{Both, Neither, Read, Sent};
-use of_wire::first_part;
+use of_wire::keyword;
 
 pub const HELLO: u8 = 0;
 
@@ -171,5 +171,5 @@ pub fn message_name(number: u64) -> Option<&'static [u8]>
     ensures { option_map (λ name. name.now) result ≡ name_of_message number }
 {
     let row = message_row(number)?;
-    Some(first_part(&row.name, b' '))
+    Some(keyword(&row.name))
 }

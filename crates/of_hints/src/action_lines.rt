@@ -2,7 +2,7 @@
 
 use crate::forms::{BYTE, HALF, NUMBER, Word, behind};
 use of_actions::{ACTIONS, ActionRow, Form};
-use of_keywords::keyword;
+use of_wire::keyword;
 use std::fmt::{self, Display, Formatter, Write};
 
 // The letters of a row's word.

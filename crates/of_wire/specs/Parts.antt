@@ -22,3 +22,7 @@ nth_part separator (suc n) text = behind (nth_part separator n) text (divided se
 abbrev pub part_in : ℕ → ℕ → Option (List ℕ) → Option (List ℕ)
 part_in separator n None = None
 part_in separator n (Some text) = nth_part separator n text
+
+-- the word in a row of a table, which spaces fill up
+abbrev pub keyword : List ℕ → List ℕ
+keyword padded = before padded (divided 32 padded)

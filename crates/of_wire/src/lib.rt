@@ -13,7 +13,7 @@ mod writing;
 
 pub use bytes::Bytes;
 pub use code::{Code, ReadError};
-pub use parts::{first_part, part_at};
+pub use parts::{keyword, part_at};
 pub use reasons::{FlowRemovedReason, PacketInReason};
 pub use slices::{front_of, rest_from};
 pub use writing::{put_number, put_u16, put_u32, put_u64};

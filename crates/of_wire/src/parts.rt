@@ -1,7 +1,7 @@
 //! Parts of texts.
 ghost use Rattle.std.specs.Prelude.{◌≡◌, ◌<◌, length, IfSome};
 ghost use Rattle.std.specs.Option.{option_map};
-ghost use Rattle.of_wire.specs.Parts.{before, divided, nth_part};
+ghost use Rattle.of_wire.specs.Parts.{before, divided, keyword, nth_part};
 
 // The place of the first separator.
 fn place_of(separator: u8, text: &[u8]) -> Option<usize>
@@ -22,8 +22,8 @@ fn front_at(text: &[u8], place: Option<usize>) -> &[u8]
     }
 }
 
-/// The part before the first separator, or all.
-pub fn first_part(text: &[u8], separator: u8) -> &[u8]
+// The part before the first separator, or all.
+fn first_part(text: &[u8], separator: u8) -> &[u8]
     ensures { result.now ≡ before text.now (divided separator text.now) }
 {
     front_at(text, place_of(separator, text))
@@ -40,4 +40,12 @@ pub fn part_at(text: &[u8], separator: u8, number: usize) -> Option<&[u8]>
         None => None,
         Some(place) => part_at(&text[place + 1..], separator, number - 1),
     }
+}
+
+/// The word in a row of a table, which spaces fill up. (A definition can compute on a constant that holds arrays, but not on one that
+/// holds references.)
+pub fn keyword(padded: &[u8]) -> &[u8]
+    ensures { result.now ≡ keyword padded.now }
+{
+    first_part(padded, b' ')
 }
