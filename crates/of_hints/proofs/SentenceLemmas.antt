@@ -45,11 +45,8 @@ field_said e = (refl, (refl, (refl, tt)))
 action_said : (a : Action) → AreSaid (action_refusals a)
 action_said (actions.Output port max_len) = (refl, tt)
 action_said (actions.PushVlan type) = (refl, tt)
-action_said actions.PopVlan = tt
-action_said (actions.Group group) = tt
-action_said (actions.SetNwTtl ttl) = tt
-action_said actions.DecNwTtl = tt
 action_said (actions.SetField f value) = (refl, (refl, tt))
+action_said other = tt
 
 list_said : (xs : List Action) → AreSaid (list_refusals xs)
 unfolding list_refusals

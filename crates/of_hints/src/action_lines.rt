@@ -6,7 +6,7 @@ use of_wire::keyword;
 use std::fmt::{self, Display, Formatter, Write};
 
 // The letters of a row's word.
-fn write_word(f: &mut Formatter<'_>, word: &[u8]) -> fmt::Result {
+fn write_word<W: Write>(f: &mut Formatter<W>, word: &[u8]) -> fmt::Result {
     for letter in keyword(word) {
         f.write_char(char::from(*letter))?;
     }
@@ -18,7 +18,7 @@ fn write_word(f: &mut Formatter<'_>, word: &[u8]) -> fmt::Result {
 pub struct ActionWords;
 
 impl Display for ActionWords {
-    fn fmt(&self, f: &mut Formatter<'_>) -> fmt::Result {
+    fn fmt<W: Write>(&self, f: &mut Formatter<W>) -> fmt::Result {
         for row in &ACTIONS {
             f.write_str(", ")?;
             write_word(f, &row.word)?;
@@ -35,7 +35,7 @@ pub struct ActionUsage {
 }
 
 impl Display for ActionUsage {
-    fn fmt(&self, f: &mut Formatter<'_>) -> fmt::Result {
+    fn fmt<W: Write>(&self, f: &mut Formatter<W>) -> fmt::Result {
         write_word(f, &self.word)?;
         f.write_str(self.others)
     }
@@ -50,10 +50,8 @@ pub fn usage_of(row: ActionRow) -> ActionUsage {
         Form::Port => " PORT MAX",
         Form::Field => " NAME VALUE",
     };
-    ActionUsage {
-        word: row.word,
-        others,
-    }
+    let word = row.word;
+    ActionUsage { word, others }
 }
 
 /// The words after that of an action of this form.

@@ -177,7 +177,7 @@ one packet_out a rest fits whole none at = by_row (row_of (type_at rest)) none a
         let e = is_said (type_at rest) s a at in
         record {
           front = subst (λ (t : ℕ). Begins (u16 t ∷ said_cells (said a).1) rest (drop (len_at rest) rest)) (sym e.kind)
-          (subst (λ (u : Argument). Begins (u16 (type_at rest) ∷ said_cells u) rest (drop (len_at rest) rest)) (sym e.says) this.front);
+              (subst (λ (u : Argument). Begins (u16 (type_at rest) ∷ said_cells u) rest (drop (len_at rest) rest)) (sym e.says) this.front);
           served = ap (is_allowed packet_out) e.says ∙ this.served;
         }
 
@@ -265,11 +265,11 @@ passes packet_out a rest y served =
       some = p.some;
       eights = p.eights;
       none = ap (λ (o : Option ActionRow). first_of (option_map_or (λ (r : ActionRow). form_refusals r.form packet_out rest) o ((true, unknown_type (type_at rest)) ∷ []))) row
-      ∙ ap (λ (form : Form). first_of (form_refusals form packet_out rest)) (form_is a) ∙ p.none;
+          ∙ ap (λ (form : Form). first_of (form_refusals form packet_out rest)) (form_is a) ∙ p.none;
       at = ap (λ (o : Option ActionRow). option_and_then (action_saying (type_at rest)) (option_and_then (λ (r : ActionRow). argument_of r.form rest) o)) row
-      ∙ ap (λ (form : Form). option_and_then (action_saying (type_at rest)) (argument_of form rest)) (form_is a)
-      ∙ ap (option_and_then (action_saying (type_at rest))) p.at
-      ∙ ap (λ (t : ℕ). action_saying t (said a).1) y.0 ∙ said_again a;
+          ∙ ap (λ (form : Form). option_and_then (action_saying (type_at rest)) (argument_of form rest)) (form_is a)
+          ∙ ap (option_and_then (action_saying (type_at rest))) p.at
+          ∙ ap (λ (t : ℕ). action_saying t (said a).1) y.0 ∙ said_again a;
     }
 
 none_refused : (packet_out : Bool) (seen : List Action) (rest : List ℕ) (n : ℕ) → length seen ≤ 63 → len_at rest ≡ n → 8 ≤ n → n % 8 ≡ 0 → n ≤ length rest → first_of (type_refusals packet_out rest) ≡ None → first_of (action_refusals packet_out seen rest) ≡ None

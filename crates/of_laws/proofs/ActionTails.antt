@@ -10,6 +10,8 @@ use Rattle.of_wire.specs.declared.codes.TheConstants.{OFPBAC_BAD_SET_TYPE}
 use Rattle.of_wire.specs.Refusals.{first_of}
 use Rattle.of_wire.specs.Items.{TakesBytes}
 use Rattle.of_wire.proofs.FirstLemmas.{none_applies, first_false}
+use Rattle.byteorder.specs.Endian.{big_number}
+use Rattle.of_formats.specs.Tables as tables
 use Rattle.of_layers.specs.declared.field.Field.{Field}
 use Rattle.of_layers.specs.declared.field.Field.TheVariants.{EthDst}
 use Rattle.of_layers.proofs.TestLemmas.{and_true}
@@ -21,7 +23,7 @@ use Rattle.of_actions.specs.declared.rows.ActionRow.{ActionRow}
 use Rattle.of_actions.specs.declared.rows.Form.{Form}
 use Rattle.of_actions.specs.declared.rows.Form.TheVariants as forms
 use Rattle.of_actions.specs.declared.rows.TheConstants.{ACTIONS}
-use Rattle.of_actions.specs.Beginnings.{type_at, len_at}
+use Rattle.of_actions.specs.Beginnings.{argument_at, type_at, len_at}
 use Rattle.of_actions.specs.Rows.{row_of, said, action_saying}
 use Rattle.of_actions.specs.SetField.{set_field_at, set_value_at, set_refusals, known_set_refusals}
 use Rattle.of_actions.specs.Actions.{actions_of, action_refusals, argument_of, form_refusals, type_refusals, unknown_type, action_at, actions_said, AreActions}
@@ -45,7 +47,7 @@ actions_take packet_out seen bytes some none =
 
 -- ---- rows and what they say
 
-pub form_of : Argument → Form
+abbrev pub form_of : Argument → Form
 form_of Nothing = forms.Nothing
 form_of (Byte n) = forms.Byte
 form_of (Tag type) = forms.Tag
@@ -76,14 +78,18 @@ row_again other = refl
 
 row_has : (type : ℕ) (rows : List ActionRow) (r : ActionRow) → find (λ r. eqb r.kind type) rows ≡ Some r → list_all has_sample rows ≡ true → is_some (action_saying type (sample r.form)) ≡ true
 row_has type [] r h all = absurd cc
-row_has type (x ∷ rows) r h all = by_test (eqb x.kind type) refl h
+row_has type (x ∷ rows) r h all = by_test (eqb x.kind type) refl h (λ e. row_has type rows r e parts.1)
   where
-    by_test : (b : Bool) → eqb x.kind type ≡ b → cond b (Some x) (find (λ r. eqb r.kind type) rows) ≡ Some r → is_some (action_saying type (sample r.form)) ≡ true
-    by_test true is e =
+    parts : (has_sample x ≡ true) × (list_all has_sample rows ≡ true)
+    parts = and_true (has_sample x) (list_all has_sample rows) all
+
+    by_test : (b : Bool) → eqb x.kind type ≡ b → cond b (Some x) (find (λ r. eqb r.kind type) rows) ≡ Some r
+        → (find (λ r. eqb r.kind type) rows ≡ Some r → is_some (action_saying type (sample r.form)) ≡ true) → is_some (action_saying type (sample r.form)) ≡ true
+    by_test true is e others =
         let same : x ≡ r = cc in
         subst (λ (y : ActionRow). is_some (action_saying type (sample y.form)) ≡ true) same
-        (subst (λ (t : ℕ). is_some (action_saying t (sample x.form)) ≡ true) (eqb-true x.kind type is) (and_true (has_sample x) (list_all has_sample rows) all).0)
-    by_test false is e = row_has type rows r e (and_true (has_sample x) (list_all has_sample rows) all).1
+        (subst (λ (t : ℕ). is_some (action_saying t (sample x.form)) ≡ true) (eqb-true x.kind type is) parts.0)
+    by_test false is e others = others e
 
 -- whatever its numbers are
 said_has : (type : ℕ) (s : Argument) → is_some (action_saying type (sample (form_of s))) ≡ true → is_some (action_saying type s) ≡ true
@@ -101,7 +107,11 @@ form_has packet_out forms.Field type rest h = by_field (set_field_at rest)
     by_field : (o : Option Field) → Has (option_map_or (known_set_refusals rest) o ((true, OFPBAC_BAD_SET_TYPE) ∷ [])) (option_and_then (action_saying type) (option_map (λ (f : Field). FieldValue f (set_value_at f rest)) o))
     by_field None = record { has = λ none. absurd cc }
     by_field (Some f) = record { has = λ none. said_has type (FieldValue f (set_value_at f rest)) h }
-form_has packet_out other type rest h = record { has = λ none. said_has type _ h }
+form_has packet_out forms.Nothing type rest h = record { has = λ none. said_has type Nothing h }
+form_has packet_out forms.Byte type rest h = record { has = λ none. said_has type (Byte (argument_at tables.action_nw_ttl rest)) h }
+form_has packet_out forms.Tag type rest h = record { has = λ none. said_has type (Tag (argument_at tables.action_push rest)) h }
+form_has packet_out forms.Word type rest h = record { has = λ none. said_has type (Word (argument_at tables.action_group rest)) h }
+form_has packet_out forms.Port type rest h = record { has = λ none. said_has type (Port (big_number 4 (drop 4 rest)) (big_number 2 (drop 8 rest))) h }
 
 some_type : (packet_out : Bool) (rest : List ℕ) → Has (type_refusals packet_out rest) (action_at rest)
 unfolding type_refusals action_at

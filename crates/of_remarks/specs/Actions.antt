@@ -5,7 +5,7 @@ use Rattle.of_layers.specs.declared.field.Field.{Field}
 use Rattle.of_layers.specs.declared.field.Field.TheVariants.{InPort}
 use Rattle.of_oxm.specs.declared.match_field.MatchField.{MatchField}
 use Rattle.of_actions.specs.declared.action.Action.{Action}
-use Rattle.of_actions.specs.declared.action.Action.TheVariants.{Output, PushVlan, PopVlan, Group, SetNwTtl, DecNwTtl, SetField}
+use Rattle.of_actions.specs.declared.action.Action.TheVariants.{Output, Group, DecNwTtl}
 use Rattle.of_actions.specs.PortNumbers.{is_number}
 use Rattle.of_text.specs.Flows.{Step, Apply, Clear, Write, Metadata, Goto, Flow}
 

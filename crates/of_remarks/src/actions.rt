@@ -72,11 +72,10 @@ pub fn some_output_to(flow: &FlowText, port: u32) -> bool
 fn may_send(action: &Action) -> bool
     ensures { result ≡ may_be_sent action.now }
 {
-    match action {
-        Action::Output { .. } | Action::Group(_) | Action::DecNwTtl => true,
-        Action::PushVlan(_) | Action::PopVlan | Action::SetNwTtl(_) | Action::SetField { .. } =>
-            false,
-    }
+    matches!(
+        action,
+        Action::Output { .. } | Action::Group(_) | Action::DecNwTtl
+    )
 }
 
 /// How many actions follow the last after which the packet may be sent.

@@ -1,9 +1,10 @@
 -- GROUP, GROUP_DESC and GROUP_FEATURES (OpenFlow 1.3.5, 7.3.5.9, 7.3.5.10 and 7.3.5.11): what groups count, what they are, and which there can be.
-use Rattle.std.specs.Prelude.{ℕ, ◌+◌, ◌*◌, ◌^◌, List, [], ◌∷◌, ◌++◌, length, map, sum, take, Option, Some, None}
-use Rattle.std.specs.List.{count_by, flat_map}
+use Rattle.std.specs.Prelude.{ℕ, ◌+◌, ◌*◌, ◌^◌, ◌%◌, bit_or, List, [], ◌∷◌, ◌++◌, length, map, take, Option, Some, None}
+use Rattle.std.specs.List.{count_by, flat_map, fold}
 use Rattle.std.specs.Option.{option_to_list}
 use Rattle.of_formats.specs.Structs.{size, written}
 use Rattle.of_formats.specs.Tables as structs
+use Rattle.of_actions.specs.declared.rows.ActionRow.{ActionRow}
 use Rattle.of_actions.specs.declared.rows.TheConstants.{ACTIONS}
 use Rattle.of_messages.specs.CanonicalGroups.{canonical_buckets}
 use Rattle.of_groups.specs.declared.bucket.Bucket.{Bucket}
@@ -78,8 +79,11 @@ abbrev pub group_capabilities : ℕ
 group_capabilities = 0x0c
 
 -- a bit for the type of each action
+abbrev pub with_bit : ℕ → ActionRow → ℕ
+with_bit bits r = bit_or bits (2 ^ (r.kind % 32))
+
 abbrev pub group_actions : ℕ
-group_actions = sum (map (λ r. 2 ^ r.kind) ACTIONS)
+group_actions = fold with_bit 0 ACTIONS
 
 -- of ALL, SELECT, INDIRECT and FAST-FAILOVER: how many groups there can be, and which actions; there is no SELECT
 unfoldable pub group_features : List ℕ

@@ -3,12 +3,12 @@ ghost use Rattle.std.specs.Prelude.{◌≡◌, ◌<◌, ◌≤◌, ◌+◌, ◌*
 ghost use Rattle.std.specs.List.{flat_map};
 ghost use Rattle.of_table.specs.Tables.{tables_of};
 ghost use Rattle.of_statistics.specs.Replies.{with_row, with_rows};
-ghost use Rattle.of_statistics.specs.Groups.{bucket_row, group_actions, group_bytes, group_description, group_description_bytes, group_features, group_features_bytes, group_fixed_part, group_row, group_rows, row_among};
+ghost use Rattle.of_statistics.specs.Groups.{bucket_row, group_actions, group_bytes, group_description, group_description_bytes, group_features, group_features_bytes, group_fixed_part, group_row, group_rows, row_among, with_bit};
 
 use crate::references::references;
 use crate::replies::{Replies, begun, sealed};
 use crate::writing::put_duration;
-use of_actions::ACTIONS;
+use of_actions::{ACTIONS, ActionRow};
 use of_classifier::Lookup;
 use of_groups::{Bucket, Group, Groups};
 use of_messages::{MessageBytes, write_buckets};
@@ -178,15 +178,20 @@ pub fn group_description_replies(
     out.close()
 }
 
+fn with_type(bits: u32, row: ActionRow) -> u32
+    ensures { result ≡ with_bit bits row }
+{
+    bits | 1u32.wrapping_shl(u32::from(row.kind))
+}
+
 // A bit for the type of each action.
 fn action_bits() -> u32
     ensures { result ≡ group_actions }
 {
-    ACTIONS.iter().fold(0, |bits: u32, row| {
-        bits | 1u32.wrapping_shl(u32::from(row.kind))
-    })
+    ACTIONS.iter().fold(0, |bits, row| with_type(bits, *row))
 }
 
+#[tactic(auto, unfolding(crate::specs::Groups::group_features))]
 fn put_features(out: &mut Vec<u8>) -> Result<(), AllocError>
     ensures { OnOk result (out.new.items ≡ out.old.items ++ group_features) }
 {
