@@ -1,10 +1,11 @@
 -- Frames that are held, and the messages that name them.
-use Rattle.std.proofs.Common.{◌≡◌, ℕ, ◌<◌, ◌==◌, false, List, [], ◌∷◌, Option, Some, None, refl, sym, ap, ◌∙◌, arith}
+use Rattle.std.proofs.Common.{◌≡◌, ℕ, ◌<◌, ◌==◌, Bool, true, false, cond, List, [], ◌∷◌, Option, Some, None, refl, sym, ap, ◌∙◌, arith}
 use Rattle.std.proofs.lemmas.Bool.Decides.{nat_tests}
 use Rattle.of_buffers.specs.Buffers.{Held, HeldFrames}
 use Rattle.of_groups.specs.declared.group.Group.{Group}
 use Rattle.of_ports.specs.declared.port.Port.{Port}
 use Rattle.std.specs.List.{list_any}
+use Rattle.std.specs.Prelude.{nat_le}
 use Rattle.of_wire.specs.Refusals.{first_of}
 use Rattle.of_actions.specs.declared.action.Action.{Action}
 use Rattle.of_machine.specs.Rows.{Lookup, acts, entering}
@@ -15,8 +16,10 @@ use Rattle.of_messages.specs.declared.message.FlowModCommand.TheVariants.{Add, M
 use Rattle.of_messages.specs.Messages.{is_delete}
 use Rattle.of_table.specs.Copied.{NumberedCopy, swapped_in}
 use Rattle.of_table.specs.Entries.{table_of}
-use Rattle.of_table.specs.Table.{Table, added}
-use Rattle.of_table.specs.Tables.{NumberedTables, table_at, tables_of, with_table}
+use Rattle.of_table.specs.declared.flow.Flow.{Flow}
+use Rattle.of_table.specs.declared.table_fault.TableFault.TheVariants.{BadTable, Overlap, Full}
+use Rattle.of_table.specs.Table.{Table, add_fault, added, is_full, is_overlapped}
+use Rattle.of_table.specs.Tables.{NumberedTables, Tables, table_at, tables_fault, tables_of, with_table}
 use Rattle.of_table.proofs.CopiedLemmas.{restored, restored_modified}
 use Rattle.of_datapath.specs.declared.control.AsyncConfig.{AsyncConfig}
 use Rattle.of_datapath.specs.declared.control.Control.{Control}
@@ -47,6 +50,18 @@ begun_is id k h found heard bytes ingress d effects f there hears whole port run
 -- the selection of a MODIFY names its table
 named : (m : FlowMod) (c : NumberedCopy) → m.table < 16 → c.table ≡ m.table → unless_any 255 m.table ≡ Some c.table
 named m c low table = let other : (m.table == 255) ≡ false = grind (arith, nat_tests) in rw (other, table) refl
+
+-- a table that exists is not refused
+pub no_bad_table : (k : ℕ) (flow : Flow) (ts : Tables) → k < 16 → Some BadTable ≡ tables_fault k flow ts → ⊥
+no_bad_table k flow ts low e =
+    let inside : nat_le 16 k ≡ false = grind (arith, nat_tests) in
+    let other : Some BadTable ≡ add_fault flow (table_at k ts).flows = rw inside at e in
+    by_tests (is_overlapped flow (table_at k ts).flows) (is_full flow (table_at k ts).flows) other
+  where
+    by_tests : (b c : Bool) → Some BadTable ≡ cond b (Some Overlap) (cond c (Some Full) None) → ⊥
+    by_tests true c e = absurd cc
+    by_tests false true e = absurd cc
+    by_tests false false e = absurd cc
 
 -- a copy of a table takes an ADD and a MODIFY back
 command_restored : (command : FlowModCommand) (m : FlowMod) (c : NumberedCopy) (before after : NumberedTables) → is_delete command ≡ false → m.table < 16 → c.table ≡ m.table

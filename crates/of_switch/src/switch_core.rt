@@ -458,6 +458,7 @@ impl<L: Lookup> Core<L> {
         names_absent_group(instructions.as_slice(), &self.datapath.groups)
     }
 
+    #[tactic(auto, using(crate::proofs::HeldHandling::no_bad_table))]
     fn add_flow(&mut self, flow_mod: FlowMod) -> Result<Effects, Fault>
         requires add { flow_mod.command ≡ FlowModCommand.Add }
         requires table { flow_mod.table < 16 }

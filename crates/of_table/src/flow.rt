@@ -1,5 +1,5 @@
 //! Flows, as a FLOW_MOD gives them.
-ghost use Rattle.std.specs.Prelude.{◌≡◌};
+ghost use Rattle.std.specs.Prelude.{◌≡◌, ◌≤◌};
 ghost use Rattle.of_table.specs.Table.{bit as bit_if, flags_number};
 
 use of_actions::InstructionList;
@@ -23,7 +23,8 @@ pub struct FlowFlags {
 
 // A flag, or 0.
 fn bit(flag: u16, is_set: bool) -> u16
-    ensures { result ≡ bit_if flag is_set }
+    ensures value { result ≡ bit_if flag is_set }
+    ensures most { result ≤ flag }
 {
     if is_set { flag } else { 0 }
 }
