@@ -1,6 +1,6 @@
 -- NUMBERS IN WORDS: hexadecimal digits, Ethernet and IPv4 addresses, ports.
 use Rattle.std.specs.Prelude.{ℕ, zero, suc, ◌+◌, ◌*◌, ◌/◌, ◌%◌, ◌^◌, ◌==◌, ◌||◌, not, nat_lt, List, [], ◌∷◌, ◌++◌, decimal, Option, Some, None, find, if◌then◌else◌}
-use Rattle.of_wire.specs.Parts.{before, divided}
+use Rattle.of_wire.specs.Parts.{keyword}
 use Rattle.of_values.specs.declared.ports.PortName.{PortName}
 use Rattle.of_values.specs.declared.ports.TheConstants.{PORT_NAMES}
 
@@ -50,7 +50,7 @@ ipv4 n = decimal (byte_at 24 n) ++ dot_byte 16 n ++ dot_byte 8 n ++ dot_byte 0 n
 
 abbrev pub port_word : ℕ → Option PortName → List ℕ
 port_word n None = decimal n
-port_word n (Some row) = before row.1 (divided 32 row.1)
+port_word n (Some row) = keyword row.1
 
 unfoldable pub port : ℕ → List ℕ
 port n = port_word n (find (λ row. n == row.0) PORT_NAMES)

@@ -3,7 +3,7 @@ ghost use Rattle.std.specs.Prelude.{◌≡◌, ◌++◌, OnOk};
 ghost use Rattle.of_values.specs.Numbers.{port};
 
 use crate::digits::push_decimal;
-use of_wire::first_part;
+use of_wire::keyword;
 use of_wire::limits::{
     OFPP_ALL, OFPP_ANY, OFPP_CONTROLLER, OFPP_FLOOD, OFPP_IN_PORT, OFPP_LOCAL, OFPP_NORMAL,
     OFPP_TABLE,
@@ -33,6 +33,6 @@ pub fn push_port(out: &mut Vec<u8>, number: u128) -> Result<(), AllocError>
 {
     match PORT_NAMES.iter().find(|row| number == u128::from(row.0)) {
         None => push_decimal(out, number),
-        Some(row) => out.extend_from_slice(first_part(&row.1, b' ')),
+        Some(row) => out.extend_from_slice(keyword(&row.1)),
     }
 }
