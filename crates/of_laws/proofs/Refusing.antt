@@ -1,16 +1,15 @@
 -- What is written of a flow or a group of a text is refused with the text's code.
-use Rattle.std.proofs.Common.{◌≡◌, ℕ, ◌+◌, ◌-◌, ◌<◌, ◌≤◌, zero, suc, Bool, true, false, not, eqb, leb, ltb, cond, List, [], ◌∷◌, ◌++◌, length, take, drop, Option, Some, None, Result, Ok, Err, refl, sym, ap, ◌∙◌, arith, append_assoc, zero-add}
+use Rattle.std.proofs.Common.{◌≡◌, ℕ, ◌+◌, ◌-◌, ◌<◌, ◌≤◌, zero, suc, Bool, true, false, not, eqb, ltb, cond, List, [], ◌∷◌, ◌++◌, length, take, drop, Option, Some, None, Result, Ok, Err, refl, sym, ap, ◌∙◌, arith, append_assoc, zero-add}
 use Rattle.std.specs.Prelude.{◌&&◌, ◌||◌, IfSome, bit_and, replicate}
 use Rattle.std.specs.Option.{option_map}
 use Rattle.std.specs.List.{AllByRecursion, flat_map}
-use Rattle.std.proofs.lemmas.Bool.{eqb-true, le-leb, le-ltb, lt-ltb, ltb-false, ltb-true, ne_eqb, not-false}
+use Rattle.std.proofs.lemmas.Bool.{eqb-true, le-ltb, lt-ltb, ltb-false, ltb-true, ne_eqb, not-false}
 use Rattle.std.proofs.lemmas.List.{append-nil, drop_at, length-append, length-replicate}
 use Rattle.of_wire.specs.declared.code.Code.{Code}
 use Rattle.of_wire.specs.Items.{Items, item_then, items_of, outcome}
 use Rattle.of_wire.specs.Refusals.{first_of, refusal}
 use Rattle.of_wire.proofs.FirstLemmas.{none_applies}
-use Rattle.of_layers.specs.Fields.{is_maskable, is_settable, number_of, ones_of}
-use Rattle.of_layers.specs.Reading.{is_tag_type}
+use Rattle.of_layers.specs.Fields.{is_maskable, number_of, ones_of}
 use Rattle.of_layers.specs.declared.field.Field.{Field}
 use Rattle.of_oxm.specs.Canonical.{canonical, written_len}
 use Rattle.of_oxm.specs.MatchFieldWire.{is_among, match_field_of, encoding}
@@ -23,12 +22,10 @@ use Rattle.of_oxm.proofs.MatchFieldLemmas.{field_again}
 use Rattle.of_oxm.proofs.Normal.{among_append, under_ones}
 use Rattle.of_oxm.proofs.Written.{kept_encoded, written_fits}
 use Rattle.of_actions.specs.declared.action.Action.{Action}
-use Rattle.of_actions.specs.declared.action.Action.TheVariants.{Output, PushVlan, PopVlan, Group, SetNwTtl, DecNwTtl, SetField}
+use Rattle.of_actions.specs.declared.action.Action.TheVariants.{SetField}
 use Rattle.of_actions.specs.Actions.{actions_of, actions_said}
 use Rattle.of_actions.specs.Actions as wire
 use Rattle.of_actions.specs.CanonicalActions.{canonical_action, canonical_actions, canonical_set_field}
-use Rattle.of_actions.specs.PortNumbers.{is_port}
-use Rattle.of_actions.specs.Supported.{is_supported}
 use Rattle.of_actions.proofs.ActionsAgain.{action_again}
 use Rattle.of_text.specs.Refusals.{action_refusals, field_refusals, list_refusals, match_refusals, or_else}
 use Rattle.of_text.specs.Rows.{ActionFits, FieldFits, IsMask as RowMask}
