@@ -167,9 +167,9 @@ fn canonical_text(rt: HostRuntime) -> Result<(), Fail> {
 fn names_of_errors(rt: HostRuntime) {
     let rows = [
         (0, 0, Some("OFPHFC_INCOMPATIBLE".as_bytes())),
-        (1, 10, Some(b"OFPBRC_IS_SLAVE")),
-        (4, 9, Some(b"OFPBMC_BAD_PREREQ")),
-        (13, 5, Some(b"OFPTFFC_EPERM")),
+        (1, 10, Some("OFPBRC_IS_SLAVE".as_bytes())),
+        (4, 9, Some("OFPBMC_BAD_PREREQ".as_bytes())),
+        (13, 5, Some("OFPTFFC_EPERM".as_bytes())),
         (4, 12, None),
         (14, 0, None),
     ];

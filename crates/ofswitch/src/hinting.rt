@@ -134,6 +134,7 @@ pub fn say_hint(rt: &HostRuntime, seen: &Seen, ended: &Ended) {
 /// Says the name of an error, and what it means for a line.
 pub fn say_refusal(rt: &HostRuntime, code: Code) {
     if let Some(name) = code.name() {
+        let name = std::str::from_utf8(name).unwrap_or("?");
         let _ = eprintln!(rt; "{name}");
     }
     if let Some(sentence) = refusal_sentence(code) {
