@@ -14,7 +14,7 @@ use Rattle.of_frames.specs.Given.{number, or_zero}
 use Rattle.of_frames.specs.Packets.{frame_given}
 use Rattle.of_frames.proofs.KeyLemmas.{numbers_are}
 use Rattle.of_oxm.specs.declared.match_field.MatchField.{MatchField}
-use Rattle.of_ovs_words.specs.FieldWords.{text_of, word_for}
+use Rattle.of_ovs_words.specs.FieldWords.{text_for}
 use Rattle.of_ovs_words.specs.Outcomes.{◌>>=◌}
 use Rattle.of_ovs_words.specs.Words.{words_from}
 use Rattle.of_frame_words.specs.declared.why.NoFrame.{NoFrame}
@@ -54,8 +54,8 @@ received_is key said shape tagging frame k s t e =
 pub checked_ok : (settings : List MatchField) (r : ReceivedFrame) (map : Field → Option ℕ) → map ≡ map_of r → None ≡ missed settings map → checked settings r ≡ Ok r
 checked_ok settings r map k m = ap (unless_missed settings r) (sym (m ∙ ap (missed settings) k))
 
-pub checked_stop : (settings : List MatchField) (r : ReceivedFrame) (map : Field → Option ℕ) (e : MatchField) (stop : NoFrame) → map ≡ map_of r → Some e ≡ missed settings map → IsRefusal (text_of (word_for e.field)) (why_missed settings e) stop → Stops (checked settings r) stop
-checked_stop settings r map e stop k m h = refusal_stops (checked settings r) (text_of (word_for e.field)) (why_missed settings e) stop (ap (unless_missed settings r) (sym (m ∙ ap (missed settings) k))) h
+pub checked_stop : (settings : List MatchField) (r : ReceivedFrame) (map : Field → Option ℕ) (e : MatchField) (stop : NoFrame) → map ≡ map_of r → Some e ≡ missed settings map → IsRefusal (text_for e.field) (why_missed settings e) stop → Stops (checked settings r) stop
+checked_stop settings r map e stop k m h = refusal_stops (checked settings r) (text_for e.field) (why_missed settings e) stop (ap (unless_missed settings r) (sym (m ∙ ap (missed settings) k))) h
 
 -- ---- the whole
 

@@ -20,7 +20,7 @@ use Rattle.of_oxm.specs.Prerequisites.{is_met}
 use Rattle.of_oxm.specs.Relations.{agrees, matches_map}
 use Rattle.of_ovs_words.specs.declared.why.Why.{Why as WordWhy}
 use Rattle.of_ovs_words.specs.declared.why.Why.TheVariants as words
-use Rattle.of_ovs_words.specs.FieldWords.{text_of, word_for}
+use Rattle.of_ovs_words.specs.FieldWords.{text_for}
 use Rattle.of_ovs_words.specs.Outcomes.{◌>>=◌}
 use Rattle.of_ovs_words.specs.Words.{words_from}
 use Rattle.of_frame_words.specs.declared.why.Why.{Why}
@@ -99,7 +99,7 @@ why_missed settings e = if is_met settings (prerequisite_of e.field) then Imposs
 
 abbrev pub unless_missed : List MatchField → ReceivedFrame → Option MatchField → Result ReceivedFrame WordRefusal
 unless_missed settings r None = Ok r
-unless_missed settings r (Some e) = refuse (text_of (word_for e.field)) (why_missed settings e)
+unless_missed settings r (Some e) = refuse (text_for e.field) (why_missed settings e)
 
 abbrev pub checked : List MatchField → ReceivedFrame → Result ReceivedFrame WordRefusal
 checked settings r = unless_missed settings r (missed settings (map_of r))

@@ -9,7 +9,7 @@ use crate::why::{NoFrame, refuse};
 use crate::words::add_words;
 use of_frames::frame_of;
 use of_headers::Known;
-use of_ovs_words::FieldWord;
+use of_ovs_words::text_for;
 use of_oxm::MatchField;
 use std::alloc::{AllocError, Global};
 
@@ -44,11 +44,7 @@ fn checked(alloc: Global, settings: &[MatchField], received: Received) -> Result
     let key = Known::Nothing.key(&received.frame, received.port, 0);
     match missed(settings, &key) {
         None => Ok(received),
-        Some(e) => Err(refuse(
-            alloc,
-            FieldWord::of(e.field).text(),
-            why_missed(settings, e),
-        )),
+        Some(e) => Err(refuse(alloc, text_for(e.field), why_missed(settings, e))),
     }
 }
 

@@ -16,7 +16,7 @@ use Rattle.of_text.specs.Flows.{Flow, Step, Apply, Clear, Write, Metadata, Goto}
 use Rattle.of_ovs_words.specs.declared.why.Why.{Why}
 use Rattle.of_ovs_words.specs.declared.why.Why.TheVariants as whys
 use Rattle.of_ovs_words.specs.Matches.{fields_of}
-use Rattle.of_ovs_words.specs.FieldWords.{text_of, word_for}
+use Rattle.of_ovs_words.specs.FieldWords.{text_for}
 use Rattle.of_import.specs.PartialFlows.{PartialFlow, Refusal}
 
 abbrev pub when : {A : Type 0} → Bool → A → List A
@@ -68,7 +68,7 @@ why_missing needs.Icmpv6 = whys.NeedsIcmp6
 why_missing needs.Nothing = whys.Unknown
 
 abbrev pub refused_for : Field → Refusal
-refused_for f = record { word = text_of (word_for f); why = why_missing (prerequisite_of f) }
+refused_for f = record { word = text_for f; why = why_missing (prerequisite_of f) }
 
 -- the first field whose prerequisite is not in the match
 abbrev pub first_unmet : List MatchField → Option MatchField

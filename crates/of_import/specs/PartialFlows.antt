@@ -1,7 +1,6 @@
 -- WHAT THE WORDS OF A LINE SAY OF A FLOW, one after the other (ovs-ofctl(8)).
-use Rattle.std.specs.Prelude.{ℕ, ◌^◌, ◌==◌, ◌&&◌, ◌||◌, not, nat_lt, nat_le, Bool, true, false, List, [], ◌∷◌, ◌++◌, codes, length, bit_or, Option, Some, None, Result, Ok, Err, if◌then◌else◌}
-use Rattle.std.specs.Option.{option_map_or}
-use Rattle.std.specs.Str.{bytes_eq}
+use Rattle.std.specs.Prelude.{ℕ, ◌^◌, ◌==◌, ◌&&◌, ◌||◌, not, nat_lt, Bool, true, false, List, [], ◌∷◌, ◌++◌, codes, length, bit_or, Option, Some, None, Result, Ok, Err, if◌then◌else◌}
+use Rattle.std.specs.Str.{bytes_eq, str_eq_ignore_ascii_case}
 use Rattle.of_oxm.specs.declared.match_field.MatchField.{MatchField}
 use Rattle.of_actions.specs.declared.action.Action.{Action}
 use Rattle.of_lines.specs.declared.row.FlowHead.{FlowHead}
@@ -16,17 +15,15 @@ use Rattle.of_ovs_words.specs.declared.field_word.FieldWord.{FieldWord}
 use Rattle.of_ovs_words.specs.declared.action_word.ActionWord.{ActionWord}
 use Rattle.of_ovs_words.specs.declared.action_word.Verb.{Verb}
 use Rattle.of_ovs_words.specs.declared.action_word.Verb.TheVariants as verbs
-use Rattle.of_ovs_words.specs.declared.port_word.PortWord.{PortWord}
-use Rattle.of_ovs_words.specs.declared.port_word.PortWord.TheVariants as ports
 use Rattle.of_ovs_words.specs.Words.{name_of, value_of, words_from}
 use Rattle.of_ovs_words.specs.Outcomes.{◌>>=◌, numbered}
-use Rattle.of_ovs_words.specs.HeadWords.{head_named, part_of}
-use Rattle.of_ovs_words.specs.PortWords.{port_word_named}
+use Rattle.of_ovs_words.specs.HeadWords.{head_named}
 use Rattle.of_ovs_words.specs.ProtocolWords.{protocol_named}
 use Rattle.of_ovs_words.specs.FieldWords.{field_word_named}
-use Rattle.of_ovs_words.specs.ActionWords.{action_named, verb_of}
+use Rattle.of_ovs_words.specs.ActionWords.{action_named}
 use Rattle.of_ovs_words.specs.Matches.{with_field, with_protocol}
 use Rattle.of_ovs_words.specs.Actions.{actions_in, is_word_of, with_action}
+use Rattle.of_wire.specs.declared.limits.TheConstants.{TABLES}
 use Rattle.of_import.specs.declared.mode.Mode.{Mode}
 
 -- a word that is refused, and why
@@ -74,7 +71,7 @@ with_flag h bit value = if length value == 0 then Ok (record h { flags = bit_or 
 
 -- a table that this switch has, or any if tables get other numbers
 abbrev pub table_in : Mode → List ℕ → Result ℕ Why
-table_in mode value = numbered 256 value >>= λ n. if mode.renumber || nat_le n 15 then Ok n else Err whys.Table
+table_in mode value = numbered 256 value >>= λ n. if mode.renumber || nat_lt n TABLES then Ok n else Err whys.Table
 
 unfoldable pub head_after : Mode → FlowHead → Part → List ℕ → Result FlowHead Why
 head_after mode h parts.Cookie value = numbered (2 ^ 64) value >>= λ n. Ok (record h { cookie = n })
@@ -116,13 +113,8 @@ later_table s value =
     else table_in s.mode (behind 44 value) >>= λ n. if nat_lt s.head.table n then Ok n else Err whys.Backward
 
 -- to NORMAL or LOCAL
-abbrev pub is_normal_or_local : PortWord → Bool
-is_normal_or_local ports.Normal = true
-is_normal_or_local ports.Local = true
-is_normal_or_local other = false
-
 abbrev pub is_such_port : List ℕ → Bool
-is_such_port text = option_map_or is_normal_or_local (port_word_named text) false
+is_such_port text = str_eq_ignore_ascii_case text (codes "normal") || str_eq_ignore_ascii_case text (codes "local")
 
 abbrev pub is_output : Verb → Bool
 is_output verbs.Output = true
@@ -152,7 +144,7 @@ with_instruction s other word = with_applied s word
 -- ---- words
 
 abbrev pub with_named_action : PartialFlow → Option ActionWord → List ℕ → Result PartialFlow Why
-with_named_action s (Some named) word = with_instruction s (verb_of named) word
+with_named_action s (Some named) word = with_instruction s named.verb word
 with_named_action s None word = with_applied s word
 
 abbrev pub with_flow_action : PartialFlow → List ℕ → Result PartialFlow Why
@@ -168,7 +160,7 @@ with_protocol_word s (Some word) name value = with_protocol s.settings word valu
 
 abbrev pub with_part : PartialFlow → Option HeadWord → List ℕ → List ℕ → Result PartialFlow Why
 with_part s None name value = with_protocol_word s (protocol_named name) name value
-with_part s (Some word) name value = head_after s.mode s.head (part_of word) value >>= λ head. Ok (record s { head = head })
+with_part s (Some word) name value = head_after s.mode s.head word.part value >>= λ head. Ok (record s { head = head })
 
 -- a word before the actions
 unfoldable pub with_head_word : PartialFlow → List ℕ → List ℕ → Result PartialFlow Why

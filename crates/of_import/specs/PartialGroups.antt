@@ -7,6 +7,7 @@ use Rattle.of_groups.specs.declared.group.GroupKind.{GroupKind}
 use Rattle.of_groups.specs.declared.group.GroupKind.TheVariants.{All, Indirect, FastFailover}
 use Rattle.of_lines.specs.declared.row.BucketHead.{BucketHead}
 use Rattle.of_text.specs.Groups.{TextBucket, TextGroup}
+use Rattle.of_wire.specs.declared.limits.TheConstants.{OFPG_ANY, OFPP_ANY}
 use Rattle.of_ovs_words.specs.declared.why.Why.{Why}
 use Rattle.of_ovs_words.specs.declared.why.Why.TheVariants as whys
 use Rattle.of_ovs_words.specs.Words.{name_of, value_of}
@@ -31,7 +32,7 @@ pub record PartialGroup : Type 0 where
 
 -- a bucket that watches nothing (OpenFlow 1.3.5, 7.3.4.2)
 abbrev pub new_bucket : BucketHead
-new_bucket = record { weight = 0; watch_port = 0xffffffff; watch_group = 0xffffffff }
+new_bucket = record { weight = 0; watch_port = OFPP_ANY; watch_group = OFPG_ANY }
 
 abbrev pub no_group : PartialGroup
 no_group = record { id = None; kind = None; begun = false; head = new_bucket; actions = []; dropped = false; buckets = []; faults = [] }

@@ -13,7 +13,7 @@ use crate::partial_flow::PartialFlow;
 use crate::word_fault::WordFault;
 use of_actions::{Action, Argument};
 use of_layers::Prerequisite;
-use of_ovs_words::{FieldWord, Why};
+use of_ovs_words::{Why, text_for};
 use of_oxm::{MatchField, is_met};
 use of_text::{FlowHead, FlowText, StepText};
 use std::alloc::{AllocError, Global};
@@ -202,7 +202,7 @@ pub fn refusal_of(
     }
     match first_unmet(fields) {
         Some(e) => Ok(Some(WordFault {
-            word: FieldWord::of(e.field).text().to_vec(alloc)?,
+            word: text_for(e.field).to_vec(alloc)?,
             why: why_missing(e.field.row().need),
         })),
         None => Ok(None),

@@ -8,11 +8,12 @@ use crate::mode::Mode;
 use crate::word_fault::WordFault;
 use of_actions::Action;
 use of_ovs_words::{
-    ActionWord, FieldWord, HeadWord, Part, PortWord, ProtocolWord, Stop, Verb, Why, name_of,
-    numbered, push_action, push_actions, set_field, set_protocol, value_of,
+    ActionWord, FieldWord, HeadWord, Part, ProtocolWord, Stop, Verb, Why, name_of, numbered,
+    push_action, push_actions, set_field, set_protocol, value_of,
 };
 use of_oxm::MatchField;
 use of_text::{FlowHead, cut, is};
+use of_wire::limits::TABLES;
 use std::alloc::{AllocError, Global};
 
 /// What the words of a line say of a flow, so far.
@@ -65,7 +66,7 @@ fn table_in(mode: Mode, value: &[u8]) -> Result<u8, Why>
     ensures { result ≡ table_of mode value.now }
 {
     let table = numbered(0x100, value)? as u8;
-    if mode.renumber || table <= 15 {
+    if mode.renumber || table < TABLES {
         Ok(table)
     } else {
         Err(Why::Table)
@@ -137,10 +138,7 @@ fn alone(value: &[u8]) -> Result<(), Why>
 fn is_such_port(text: &[u8]) -> bool
     ensures { result ≡ is_such_port_name text.now }
 {
-    match PortWord::named(text) {
-        Some(word) => matches!(word, PortWord::Normal | PortWord::Local),
-        None => false,
-    }
+    text.eq_ignore_ascii_case(b"normal") || text.eq_ignore_ascii_case(b"local")
 }
 
 // Whether the word sends packets to NORMAL or LOCAL.
@@ -151,7 +149,7 @@ fn may_be_left(word: &[u8]) -> bool
         return true;
     }
     match ActionWord::named(name_of(word)) {
-        Some(named) => matches!(named.verb(), Verb::Output) && is_such_port(value_of(word)),
+        Some(named) => matches!(named.verb, Verb::Output) && is_such_port(value_of(word)),
         None => false,
     }
 }
@@ -319,7 +317,7 @@ impl PartialFlow {
         ensures same { IfErr result (IfRefused (view_partial_flow self.new ≡ view_partial_flow self.old)) }
     {
         match ActionWord::named(name_of(word)) {
-            Some(named) => self.add_instruction(alloc, named.verb(), word),
+            Some(named) => self.add_instruction(alloc, named.verb, word),
             None => self.add_applied(alloc, word),
         }
     }
@@ -332,7 +330,7 @@ impl PartialFlow {
         ensures same { IfErr result (IfRefused (view_partial_flow self.new ≡ view_partial_flow self.old)) }
     {
         if let Some(word) = HeadWord::named(name) {
-            self.head = head_with(self.mode, self.head, word.part(), value)?;
+            self.head = head_with(self.mode, self.head, word.part, value)?;
             Ok(())
         } else if let Some(word) = ProtocolWord::named(name) {
             set_protocol(&mut self.settings, word, value)

@@ -15,6 +15,7 @@ use of_actions::Action;
 use of_groups::GroupKind;
 use of_ovs_words::{Stop, Why, name_of, numbered, port_in, push_action, value_of};
 use of_text::{BucketHead, BucketText, GroupHead, GroupText, is};
+use of_wire::limits::{OFPG_ANY, OFPP_ANY};
 use std::alloc::{AllocError, Global};
 
 /// What the words of a line say of a group, so far.
@@ -36,8 +37,8 @@ pub struct PartialGroup {
 // A bucket that watches nothing.
 const NEW_BUCKET: BucketHead = BucketHead {
     weight: 0,
-    watch_port: 0xffff_ffff,
-    watch_group: 0xffff_ffff,
+    watch_port: OFPP_ANY,
+    watch_group: OFPG_ANY,
 };
 
 /// Whether it is a command of a file for add-groups, other than `add`.

@@ -5,6 +5,7 @@ use Rattle.std.specs.List.{fold}
 use Rattle.std.specs.Str.{bytes_eq}
 use Rattle.of_layers.specs.declared.field.Field.{Field}
 use Rattle.of_layers.specs.declared.field.Field.TheVariants.{VlanVid}
+use Rattle.of_layers.specs.Reading.{is_tag_type}
 use Rattle.of_oxm.specs.declared.match_field.MatchField.{MatchField}
 use Rattle.of_actions.specs.declared.action.Action.{Action}
 use Rattle.of_actions.specs.declared.action.Action.TheVariants as actions
@@ -12,25 +13,24 @@ use Rattle.of_ovs_words.specs.declared.why.Why.{Why}
 use Rattle.of_ovs_words.specs.declared.why.Why.TheVariants as whys
 use Rattle.of_ovs_words.specs.declared.field_word.FieldWord.{FieldWord}
 use Rattle.of_ovs_words.specs.declared.field_word.Form.{Form}
+use Rattle.of_ovs_words.specs.declared.field_word.Target.{Target}
 use Rattle.of_ovs_words.specs.declared.field_word.Form.TheVariants.{Vlan}
 use Rattle.of_ovs_words.specs.declared.action_word.ActionWord.{ActionWord}
 use Rattle.of_ovs_words.specs.declared.action_word.Verb.{Verb}
 use Rattle.of_ovs_words.specs.declared.action_word.Verb.TheVariants.{Output, Controller, Group, Drop, PushVlan, PopVlan, SetField, Mod, Tag, DecTtl, SetTtl}
 use Rattle.of_lines.specs.Lines.{before, behind}
+use Rattle.of_wire.specs.declared.limits.TheConstants.{OFPCML_NO_BUFFER, OFPP_CONTROLLER}
 use Rattle.of_ovs_words.specs.Words.{name_of, value_of, words_from}
 use Rattle.of_ovs_words.specs.Numbers.{number_in}
 use Rattle.of_ovs_words.specs.Outcomes.{◌>>=◌, given, numbered, one, through}
 use Rattle.of_ovs_words.specs.Ports.{port_in}
-use Rattle.of_ovs_words.specs.FieldWords.{field_word_named, target_of, form_of}
+use Rattle.of_ovs_words.specs.FieldWords.{field_word_named}
 use Rattle.of_ovs_words.specs.Settings.{field_for, fitting_in, last_of}
-use Rattle.of_ovs_words.specs.ActionWords.{action_named, verb_of}
+use Rattle.of_ovs_words.specs.ActionWords.{action_named}
 
-abbrev pub controller : ℕ
-controller = 0xffff_fffd
-
--- a whole packet for the controller, OFPCML_NO_BUFFER (OpenFlow 1.3.5, 7.2.5)
+-- a whole packet for the controller (OpenFlow 1.3.5, 7.2.5)
 abbrev pub output_to : ℕ → Action
-output_to port = actions.Output port (if port == controller then 65535 else 0)
+output_to port = actions.Output port (if port == OFPP_CONTROLLER then OFPCML_NO_BUFFER else 0)
 
 -- a word of controller(max_len=128,id=0,reason=action): only the length may differ from what a controller of OpenFlow 1.3 gets
 unfoldable pub with_key : ℕ → List ℕ → Result ℕ Why
@@ -43,16 +43,13 @@ with_key len word =
 -- CONTROLLER, CONTROLLER:128 or controller(max_len=128)
 abbrev pub length_by : Option ℕ → List ℕ → Result ℕ Why
 length_by (Some n) value = Ok n
-length_by None value = through with_key 65535 (words_from 0 value)
+length_by None value = through with_key OFPCML_NO_BUFFER (words_from 0 value)
 
 abbrev pub length_in : List ℕ → Result ℕ Why
 length_in value = length_by (number_in 65536 value) value
 
 abbrev pub controller_in : List ℕ → Result Action Why
-controller_in value = length_in value >>= λ n. Ok (actions.Output controller n)
-
-abbrev pub is_tag_type : ℕ → Bool
-is_tag_type n = n == 0x8100 || n == 0x88a8
+controller_in value = length_in value >>= λ n. Ok (actions.Output OFPP_CONTROLLER n)
 
 abbrev pub push_vlan_in : List ℕ → Result Action Why
 push_vlan_in value = numbered 65536 value >>= λ n. if is_tag_type n then Ok (actions.PushVlan n) else Err whys.Value
@@ -65,15 +62,15 @@ is_vlan other = false
 abbrev pub new_value : Form → Field → List ℕ → Result ℕ Why
 new_value form f value = fitting_in form f value >>= λ n. if is_vlan form && n == 0 then Err whys.Value else Ok n
 
-abbrev pub set_by : List MatchField → FieldWord → List ℕ → Result Action Why
-set_by settings word value = do
-  f ← given whys.Protocol (field_for (target_of word) settings)
-  n ← new_value (form_of word) f value
+abbrev pub set_by : List MatchField → Target → Form → List ℕ → Result Action Why
+set_by settings target form value = do
+  f ← given whys.Protocol (field_for target settings)
+  n ← new_value form f value
   Ok (actions.SetField f n)
 
 abbrev pub set_named : List MatchField → List ℕ → Option FieldWord → Result Action Why
 set_named settings value None = Err whys.Unknown
-set_named settings value (Some word) = set_by settings word value
+set_named settings value (Some word) = set_by settings word.target word.form value
 
 -- VALUE->FIELD
 abbrev pub set_field_in : List MatchField → List ℕ → Result Action Why
@@ -112,8 +109,8 @@ verb_action settings Drop value = alone value None
 verb_action settings PushVlan value = some (push_vlan_in value)
 verb_action settings PopVlan value = alone value (Some actions.PopVlan)
 verb_action settings SetField value = some (set_field_in settings value)
-verb_action settings (Mod word) value = some (set_by settings word value)
-verb_action settings (Tag word) value = some (set_by settings word value)
+verb_action settings (Mod target form) value = some (set_by settings target form value)
+verb_action settings (Tag target form) value = some (set_by settings target form value)
 verb_action settings DecTtl value = alone value (Some actions.DecNwTtl)
 verb_action settings SetTtl value = some (ttl_in value)
 verb_action settings other value = Err whys.Unknown
@@ -123,7 +120,7 @@ abbrev pub sent_to : List ℕ → Result (Option Action) Why
 sent_to word = some (output_in whys.Unknown word)
 
 abbrev pub named_action : List MatchField → Option ActionWord → List ℕ → Result (Option Action) Why
-named_action settings (Some verb) word = verb_action settings (verb_of verb) (value_of word)
+named_action settings (Some named) word = verb_action settings named.verb (value_of word)
 named_action settings None word = sent_to word
 
 abbrev pub action_in : List MatchField → List ℕ → Result (Option Action) Why
@@ -146,7 +143,7 @@ abbrev pub tag_count : List MatchField → List Action → List Action → ℕ
 tag_count settings earlier done = fold tags_after (fold tags_after (if is_matched settings then 1 else 0) earlier) done
 
 abbrev pub is_tag : Verb → Bool
-is_tag (Tag f) = true
+is_tag (Tag target form) = true
 is_tag other = false
 
 abbrev pub is_drop : Verb → Bool
@@ -155,7 +152,7 @@ is_drop other = false
 
 -- the word is one of such a verb
 abbrev pub is_word_of : (Verb → Bool) → List ℕ → Bool
-is_word_of test word = option_map_or (λ named. test (verb_of named)) (action_named (name_of word)) false
+is_word_of test word = option_map_or (λ named. test named.verb) (action_named (name_of word)) false
 
 abbrev pub tags : List ℕ → Bool
 tags word = is_word_of is_tag word

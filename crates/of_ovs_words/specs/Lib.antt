@@ -4,11 +4,11 @@ pub mod Values
 pub mod Outcomes
 pub mod PortWords
 pub mod Ports
-pub mod FieldWords
 pub mod ProtocolWords
 pub mod HeadWords
 pub mod ActionWords
 pub mod Settings
+pub mod FieldWords
 pub mod Tci
 pub mod Matches
 pub mod Stops

@@ -13,8 +13,6 @@ use Rattle.of_ovs_words.specs.declared.field_word.FieldWord.{FieldWord}
 use Rattle.of_ovs_words.specs.declared.field_word.Form.{Form}
 use Rattle.of_ovs_words.specs.declared.field_word.Form.TheVariants.{Tci}
 use Rattle.of_ovs_words.specs.Outcomes.{◌>>=◌, given, one}
-use Rattle.of_ovs_words.specs.ProtocolWords.{ethertype_of, protocol_of}
-use Rattle.of_ovs_words.specs.FieldWords.{target_of, form_of}
 use Rattle.of_ovs_words.specs.Settings.{exact, field_for, setting_in, last_of, under}
 use Rattle.of_ovs_words.specs.Tci.{tci_settings}
 
@@ -23,7 +21,7 @@ protocol_settings None = []
 protocol_settings (Some n) = exact fields.IpProto n ∷ []
 
 abbrev pub with_protocol : List MatchField → ProtocolWord → List ℕ → Result (List MatchField) Why
-with_protocol settings word value = if length value == 0 then Ok (settings ++ exact fields.EthType (ethertype_of word) ∷ [] ++ protocol_settings (protocol_of word)) else Err whys.Unknown
+with_protocol settings word value = if length value == 0 then Ok (settings ++ exact fields.EthType word.ethertype ∷ [] ++ protocol_settings word.protocol) else Err whys.Unknown
 
 -- VLAN_PCP says that there is a tag, whatever was said of its number (OpenFlow 1.3.5, 7.2.3.7)
 abbrev pub tagged : Option MatchField → Option MatchField
@@ -35,8 +33,8 @@ tag_with f settings = if number_of f == number_of fields.VlanPcp then one (tagge
 
 abbrev pub with_setting : List MatchField → FieldWord → List ℕ → Result (List MatchField) Why
 with_setting settings word value = do
-  f ← given whys.Protocol (field_for (target_of word) settings)
-  e ← setting_in (form_of word) f value
+  f ← given whys.Protocol (field_for word.target settings)
+  e ← setting_in word.form f value
   Ok (settings ++ tag_with f settings ++ one e)
 
 abbrev pub with_tci : List MatchField → List ℕ → Result (List MatchField) Why
@@ -47,7 +45,7 @@ is_tci Tci = true
 is_tci other = false
 
 unfoldable pub with_field : List MatchField → FieldWord → List ℕ → Result (List MatchField) Why
-with_field settings word value = if is_tci (form_of word) then with_tci settings value else with_setting settings word value
+with_field settings word value = if is_tci word.form then with_tci settings value else with_setting settings word value
 
 -- the fields of a match: of each the last setting, in ascending order of number
 abbrev pub fields_of : List MatchField → List MatchField

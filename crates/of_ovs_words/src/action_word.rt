@@ -1,8 +1,10 @@
 //! The words for actions and instructions (ovs-actions(7)).
 ghost use Rattle.std.specs.Prelude.{◌≡◌};
-ghost use Rattle.of_ovs_words.specs.ActionWords.{action_named, text_of, verb_of};
+ghost use Rattle.of_ovs_words.specs.ActionWords.{action_named};
 
-use crate::field_word::FieldWord;
+use crate::field_word::{Form, Target};
+use crate::keywords::{is_keyword_in_any_case, padded};
+use of_layers::Field;
 
 /// What a word for an action or an instruction does.
 #[derive(Clone, Copy)]
@@ -19,10 +21,10 @@ pub enum Verb {
     PopVlan,
     /// OFPAT_SET_FIELD of a field that its value names.
     SetField,
-    /// OFPAT_SET_FIELD of this field.
-    Mod(FieldWord),
+    /// OFPAT_SET_FIELD of this field, whose value is written in this form.
+    Mod(Target, Form),
     /// The same in a VLAN tag, which is pushed if there is none.
-    Tag(FieldWord),
+    Tag(Target, Form),
     /// OFPAT_DEC_NW_TTL.
     DecTtl,
     /// OFPAT_SET_NW_TTL.
@@ -39,154 +41,75 @@ pub enum Verb {
     Resubmit,
 }
 
-/// A word for an action or an instruction.
+/// A word for an action or an instruction: its text, which zeros fill up, and what it does.
 #[derive(Clone, Copy)]
-pub enum ActionWord {
-    Output,
-    Controller,
-    Group,
-    Drop,
-    PushVlan,
-    PopVlan,
-    StripVlan,
-    SetField,
-    ModDlSrc,
-    ModDlDst,
-    ModNwSrc,
-    ModNwDst,
-    ModNwTos,
-    ModNwEcn,
-    ModTpSrc,
-    ModTpDst,
-    SetVlanVid,
-    SetVlanPcp,
-    ModVlanVid,
-    ModVlanPcp,
-    DecTtl,
-    ModNwTtl,
-    SetNwTtl,
-    WriteActions,
-    ClearActions,
-    WriteMetadata,
-    GotoTable,
-    Resubmit,
+pub struct ActionWord {
+    pub text: [u8; 16],
+    pub verb: Verb,
 }
 
+macro_rules! action {
+    ($text:expr, $verb:ident) => {
+        ActionWord {
+            text: padded!($text),
+            verb: Verb::$verb,
+        }
+    };
+    ($text:expr, $verb:ident, Exact($field:ident), $form:ident) => {
+        ActionWord {
+            text: padded!($text),
+            verb: Verb::$verb(Target::Exact(Field::$field), Form::$form),
+        }
+    };
+    ($text:expr, $verb:ident, $target:ident, $form:ident) => {
+        ActionWord {
+            text: padded!($text),
+            verb: Verb::$verb(Target::$target, Form::$form),
+        }
+    };
+}
+
+/// Each word once.
+pub const ACTION_WORDS: [ActionWord; 28] = [
+    action!(b"output", Output),
+    action!(b"controller", Controller),
+    action!(b"group", Group),
+    action!(b"drop", Drop),
+    action!(b"push_vlan", PushVlan),
+    action!(b"pop_vlan", PopVlan),
+    action!(b"strip_vlan", PopVlan),
+    action!(b"set_field", SetField),
+    action!(b"mod_dl_src", Mod, Exact(EthSrc), Mac),
+    action!(b"mod_dl_dst", Mod, Exact(EthDst), Mac),
+    action!(b"mod_nw_src", Mod, NetworkSource, Ipv4),
+    action!(b"mod_nw_dst", Mod, NetworkDestination, Ipv4),
+    action!(b"mod_nw_tos", Mod, Exact(IpDscp), Tos),
+    action!(b"mod_nw_ecn", Mod, Exact(IpEcn), Number),
+    action!(b"mod_tp_src", Mod, TransportSource, Number),
+    action!(b"mod_tp_dst", Mod, TransportDestination, Number),
+    action!(b"set_vlan_vid", Mod, Exact(VlanVid), Vlan),
+    action!(b"set_vlan_pcp", Mod, Exact(VlanPcp), Number),
+    action!(b"mod_vlan_vid", Tag, Exact(VlanVid), Vlan),
+    action!(b"mod_vlan_pcp", Tag, Exact(VlanPcp), Number),
+    action!(b"dec_ttl", DecTtl),
+    action!(b"mod_nw_ttl", SetTtl),
+    action!(b"set_nw_ttl", SetTtl),
+    action!(b"write_actions", Write),
+    action!(b"clear_actions", Clear),
+    action!(b"write_metadata", Metadata),
+    action!(b"goto_table", Goto),
+    action!(b"resubmit", Resubmit),
+];
+
 impl ActionWord {
-    /// Each once.
-    pub const ALL: [ActionWord; 28] = [
-        ActionWord::Output,
-        ActionWord::Controller,
-        ActionWord::Group,
-        ActionWord::Drop,
-        ActionWord::PushVlan,
-        ActionWord::PopVlan,
-        ActionWord::StripVlan,
-        ActionWord::SetField,
-        ActionWord::ModDlSrc,
-        ActionWord::ModDlDst,
-        ActionWord::ModNwSrc,
-        ActionWord::ModNwDst,
-        ActionWord::ModNwTos,
-        ActionWord::ModNwEcn,
-        ActionWord::ModTpSrc,
-        ActionWord::ModTpDst,
-        ActionWord::SetVlanVid,
-        ActionWord::SetVlanPcp,
-        ActionWord::ModVlanVid,
-        ActionWord::ModVlanPcp,
-        ActionWord::DecTtl,
-        ActionWord::ModNwTtl,
-        ActionWord::SetNwTtl,
-        ActionWord::WriteActions,
-        ActionWord::ClearActions,
-        ActionWord::WriteMetadata,
-        ActionWord::GotoTable,
-        ActionWord::Resubmit,
-    ];
-
-    /// Its text.
-    #[tactic(auto, unfolding(crate::specs::ActionWords::row_of))]
-    pub fn text(self) -> &'static [u8]
-        ensures { result.now ≡ text_of self }
-    {
-        match self {
-            ActionWord::Output => b"output",
-            ActionWord::Controller => b"controller",
-            ActionWord::Group => b"group",
-            ActionWord::Drop => b"drop",
-            ActionWord::PushVlan => b"push_vlan",
-            ActionWord::PopVlan => b"pop_vlan",
-            ActionWord::StripVlan => b"strip_vlan",
-            ActionWord::SetField => b"set_field",
-            ActionWord::ModDlSrc => b"mod_dl_src",
-            ActionWord::ModDlDst => b"mod_dl_dst",
-            ActionWord::ModNwSrc => b"mod_nw_src",
-            ActionWord::ModNwDst => b"mod_nw_dst",
-            ActionWord::ModNwTos => b"mod_nw_tos",
-            ActionWord::ModNwEcn => b"mod_nw_ecn",
-            ActionWord::ModTpSrc => b"mod_tp_src",
-            ActionWord::ModTpDst => b"mod_tp_dst",
-            ActionWord::SetVlanVid => b"set_vlan_vid",
-            ActionWord::SetVlanPcp => b"set_vlan_pcp",
-            ActionWord::ModVlanVid => b"mod_vlan_vid",
-            ActionWord::ModVlanPcp => b"mod_vlan_pcp",
-            ActionWord::DecTtl => b"dec_ttl",
-            ActionWord::ModNwTtl => b"mod_nw_ttl",
-            ActionWord::SetNwTtl => b"set_nw_ttl",
-            ActionWord::WriteActions => b"write_actions",
-            ActionWord::ClearActions => b"clear_actions",
-            ActionWord::WriteMetadata => b"write_metadata",
-            ActionWord::GotoTable => b"goto_table",
-            ActionWord::Resubmit => b"resubmit",
-        }
-    }
-
-    /// What it does.
-    #[tactic(auto, unfolding(crate::specs::ActionWords::row_of))]
-    pub fn verb(self) -> Verb
-        ensures { result ≡ verb_of self }
-    {
-        match self {
-            ActionWord::Output => Verb::Output,
-            ActionWord::Controller => Verb::Controller,
-            ActionWord::Group => Verb::Group,
-            ActionWord::Drop => Verb::Drop,
-            ActionWord::PushVlan => Verb::PushVlan,
-            ActionWord::PopVlan => Verb::PopVlan,
-            ActionWord::StripVlan => Verb::PopVlan,
-            ActionWord::SetField => Verb::SetField,
-            ActionWord::ModDlSrc => Verb::Mod(FieldWord::DlSrc),
-            ActionWord::ModDlDst => Verb::Mod(FieldWord::DlDst),
-            ActionWord::ModNwSrc => Verb::Mod(FieldWord::NwSrc),
-            ActionWord::ModNwDst => Verb::Mod(FieldWord::NwDst),
-            ActionWord::ModNwTos => Verb::Mod(FieldWord::NwTos),
-            ActionWord::ModNwEcn => Verb::Mod(FieldWord::NwEcn),
-            ActionWord::ModTpSrc => Verb::Mod(FieldWord::TpSrc),
-            ActionWord::ModTpDst => Verb::Mod(FieldWord::TpDst),
-            ActionWord::SetVlanVid => Verb::Mod(FieldWord::DlVlan),
-            ActionWord::SetVlanPcp => Verb::Mod(FieldWord::DlVlanPcp),
-            ActionWord::ModVlanVid => Verb::Tag(FieldWord::DlVlan),
-            ActionWord::ModVlanPcp => Verb::Tag(FieldWord::DlVlanPcp),
-            ActionWord::DecTtl => Verb::DecTtl,
-            ActionWord::ModNwTtl => Verb::SetTtl,
-            ActionWord::SetNwTtl => Verb::SetTtl,
-            ActionWord::WriteActions => Verb::Write,
-            ActionWord::ClearActions => Verb::Clear,
-            ActionWord::WriteMetadata => Verb::Metadata,
-            ActionWord::GotoTable => Verb::Goto,
-            ActionWord::Resubmit => Verb::Resubmit,
-        }
-    }
-
     /// The word of this text, in any case.
     #[tactic(auto, unfolding(crate::specs::ActionWords::action_named))]
     pub fn named(text: &[u8]) -> Option<ActionWord>
         ensures { result ≡ action_named text.now }
     {
-        ActionWord::ALL
+        ACTION_WORDS
             .iter()
             .copied()
-            .find(|word| word.text().eq_ignore_ascii_case(text))
+            .find(|word| is_keyword_in_any_case(&word.text, text))
     }
 }

@@ -6,9 +6,10 @@ ghost use Rattle.of_ovs_words.specs.Outcomes.{through};
 ghost use Rattle.of_ovs_words.specs.Words.{words_from};
 ghost use Rattle.of_ovs_words.specs.Stops.{IfRefused, Stops};
 ghost use Rattle.of_ovs_words.specs.declared.stop.Stop.TheVariants.{NoMemory};
+ghost use Rattle.of_wire.specs.declared.limits.TheConstants.{OFPCML_NO_BUFFER};
 
 use crate::action_word::{ActionWord, Verb};
-use crate::field_word::{FieldWord, Form};
+use crate::field_word::{FieldWord, Form, Target};
 use crate::lists::push_one;
 use crate::numbers::{number_in, numbered};
 use crate::port::port_in;
@@ -20,7 +21,7 @@ use of_actions::Action;
 use of_layers::Field;
 use of_lines::{cut, is};
 use of_oxm::MatchField;
-use of_wire::limits::OFPP_CONTROLLER;
+use of_wire::limits::{OFPCML_NO_BUFFER, OFPP_CONTROLLER};
 use std::alloc::AllocError;
 
 // A word of controller(max_len=128,id=0,reason=action), after this length.
@@ -42,9 +43,9 @@ fn with_key(len: u16, word: &[u8]) -> Result<u16, Why>
 }
 
 fn length_by_keys(words: &[u8]) -> Result<u16, Why>
-    ensures { result ≡ through with_key_of 65535 (words_from 0 words.now) }
+    ensures { result ≡ through with_key_of OFPCML_NO_BUFFER (words_from 0 words.now) }
 {
-    let mut len = 0xffff;
+    let mut len = OFPCML_NO_BUFFER;
     let mut rest = words;
     while !rest.is_empty() {
         let (word, after) = cut_word(rest);
@@ -100,11 +101,11 @@ fn new_value(form: Form, field: Field, value: &[u8]) -> Result<u128, Why>
     Ok(number)
 }
 
-fn set_by(settings: &[MatchField], word: FieldWord, value: &[u8]) -> Result<Action, Why>
-    ensures { result ≡ set_of settings.now word value.now }
+fn set_by(settings: &[MatchField], target: Target, form: Form, value: &[u8]) -> Result<Action, Why>
+    ensures { result ≡ set_of settings.now target form value.now }
 {
-    let field = field_for(word.target(), settings).ok_or(Why::Protocol)?;
-    let value = new_value(word.form(), field, value)?;
+    let field = field_for(target, settings).ok_or(Why::Protocol)?;
+    let value = new_value(form, field, value)?;
     Ok(Action::SetField { field, value })
 }
 
@@ -115,7 +116,7 @@ fn set_field_in(settings: &[MatchField], value: &[u8]) -> Result<Action, Why>
     let (value, arrow) = cut(value, b'-');
     let name = if arrow.is_empty() { arrow } else { &arrow[1..] };
     match FieldWord::named(name) {
-        Some(word) => set_by(settings, word, value),
+        Some(word) => set_by(settings, word.target, word.form, value),
         None => Err(Why::Unknown),
     }
 }
@@ -131,14 +132,18 @@ fn alone(value: &[u8], action: Option<Action>) -> Result<Option<Action>, Why>
     }
 }
 
-// To a port, or why the word is none; of a whole packet for the controller, OFPCML_NO_BUFFER.
+// To a port, or why the word is none; a whole packet for the controller.
 fn output_in(otherwise: Why, word: &[u8]) -> Result<Action, Why>
     ensures { result ≡ sent_to otherwise word.now }
 {
     let port = port_in(otherwise, word)?;
     Ok(Action::Output {
         port,
-        max_len: if port == OFPP_CONTROLLER { 0xffff } else { 0 },
+        max_len: if port == OFPP_CONTROLLER {
+            OFPCML_NO_BUFFER
+        } else {
+            0
+        },
     })
 }
 
@@ -173,7 +178,9 @@ fn verb_action(settings: &[MatchField], verb: Verb, value: &[u8]) -> Result<Opti
         Verb::PushVlan => push_vlan_in(value).map(Some),
         Verb::PopVlan => alone(value, Some(Action::PopVlan)),
         Verb::SetField => set_field_in(settings, value).map(Some),
-        Verb::Mod(word) | Verb::Tag(word) => set_by(settings, word, value).map(Some),
+        Verb::Mod(target, form) | Verb::Tag(target, form) => {
+            set_by(settings, target, form, value).map(Some)
+        }
         Verb::DecTtl => alone(value, Some(Action::DecNwTtl)),
         Verb::SetTtl => Ok(Some(Action::SetNwTtl(numbered(0x100, value)? as u8))),
         Verb::Write | Verb::Clear | Verb::Metadata | Verb::Goto | Verb::Resubmit => {
@@ -187,7 +194,7 @@ fn action_in(settings: &[MatchField], word: &[u8]) -> Result<Option<Action>, Why
     ensures { result ≡ action_of settings.now word.now }
 {
     match ActionWord::named(name_of(word)) {
-        Some(named) => verb_action(settings, named.verb(), value_of(word)),
+        Some(named) => verb_action(settings, named.verb, value_of(word)),
         None => output_in(Why::Unknown, word).map(Some),
     }
 }
@@ -230,7 +237,7 @@ fn tags(word: &[u8]) -> bool
     ensures { result ≡ tags_of word.now }
 {
     match ActionWord::named(name_of(word)) {
-        Some(named) => matches!(named.verb(), Verb::Tag(_)),
+        Some(named) => matches!(named.verb, Verb::Tag(_, _)),
         None => false,
     }
 }
@@ -240,7 +247,7 @@ pub fn drops(word: &[u8]) -> bool
     ensures { result ≡ drops_of word.now }
 {
     match ActionWord::named(name_of(word)) {
-        Some(named) => matches!(named.verb(), Verb::Drop),
+        Some(named) => matches!(named.verb, Verb::Drop),
         None => false,
     }
 }

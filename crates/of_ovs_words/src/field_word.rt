@@ -1,54 +1,12 @@
 //! The words for match fields (ovs-fields(7)).
 ghost use Rattle.std.specs.Prelude.{◌≡◌};
-ghost use Rattle.of_ovs_words.specs.FieldWords.{field_word_named, form_of, target_of, text_of, word_for};
+ghost use Rattle.std.specs.Option.{option_copied};
+ghost use Rattle.of_ovs_words.specs.FieldWords.{field_word_named, is_for as is_word_for, text_for as text_of, word_for as written_for};
 
+use crate::keywords::{is_keyword, padded};
+use crate::setting::field_for;
+use of_keywords::keyword;
 use of_layers::Field;
-
-/// A word for a match field.
-#[derive(Clone, Copy)]
-pub enum FieldWord {
-    InPort,
-    Metadata,
-    DlSrc,
-    EthSrc,
-    DlDst,
-    EthDst,
-    DlType,
-    EthType,
-    DlVlan,
-    VlanVid,
-    DlVlanPcp,
-    VlanPcp,
-    VlanTci,
-    NwTos,
-    IpDscp,
-    NwEcn,
-    IpEcn,
-    NwProto,
-    IpProto,
-    NwSrc,
-    IpSrc,
-    NwDst,
-    IpDst,
-    TpSrc,
-    TpDst,
-    TcpSrc,
-    TcpDst,
-    UdpSrc,
-    UdpDst,
-    IcmpType,
-    IcmpCode,
-    Icmpv6Type,
-    Icmpv6Code,
-    ArpOp,
-    ArpSpa,
-    ArpTpa,
-    ArpSha,
-    ArpTha,
-    Ipv6Src,
-    Ipv6Dst,
-    Ipv6Label,
-}
 
 /// Which field a word is for.
 #[derive(Clone, Copy)]
@@ -92,247 +50,113 @@ pub enum Form {
     Tci,
 }
 
+/// A word for a match field: its text, which zeros fill up, which field it is for, and how its value is written.
+#[derive(Clone, Copy)]
+pub struct FieldWord {
+    pub text: [u8; 16],
+    pub target: Target,
+    pub form: Form,
+}
+
+macro_rules! field {
+    ($text:expr, Exact($field:ident), $form:ident) => {
+        FieldWord {
+            text: padded!($text),
+            target: Target::Exact(Field::$field),
+            form: Form::$form,
+        }
+    };
+    ($text:expr, $target:ident, $form:ident) => {
+        FieldWord {
+            text: padded!($text),
+            target: Target::$target,
+            form: Form::$form,
+        }
+    };
+}
+
+/// Each word once. If several are for one field, the first one is written.
+pub const FIELD_WORDS: [FieldWord; 41] = [
+    field!(b"in_port", Exact(InPort), Port),
+    field!(b"metadata", Exact(Metadata), Number),
+    field!(b"dl_src", Exact(EthSrc), Mac),
+    field!(b"eth_src", Exact(EthSrc), Mac),
+    field!(b"dl_dst", Exact(EthDst), Mac),
+    field!(b"eth_dst", Exact(EthDst), Mac),
+    field!(b"dl_type", Exact(EthType), Number),
+    field!(b"eth_type", Exact(EthType), Number),
+    field!(b"dl_vlan", Exact(VlanVid), Vlan),
+    field!(b"vlan_vid", Exact(VlanVid), Number),
+    field!(b"dl_vlan_pcp", Exact(VlanPcp), Number),
+    field!(b"vlan_pcp", Exact(VlanPcp), Number),
+    field!(b"vlan_tci", Exact(VlanVid), Tci),
+    field!(b"nw_tos", Exact(IpDscp), Tos),
+    field!(b"ip_dscp", Exact(IpDscp), Number),
+    field!(b"nw_ecn", Exact(IpEcn), Number),
+    field!(b"ip_ecn", Exact(IpEcn), Number),
+    field!(b"nw_proto", Protocol, Number),
+    field!(b"ip_proto", Protocol, Number),
+    field!(b"nw_src", NetworkSource, Ipv4),
+    field!(b"ip_src", NetworkSource, Ipv4),
+    field!(b"nw_dst", NetworkDestination, Ipv4),
+    field!(b"ip_dst", NetworkDestination, Ipv4),
+    field!(b"tp_src", TransportSource, Number),
+    field!(b"tp_dst", TransportDestination, Number),
+    field!(b"tcp_src", Exact(TcpSrc), Number),
+    field!(b"tcp_dst", Exact(TcpDst), Number),
+    field!(b"udp_src", Exact(UdpSrc), Number),
+    field!(b"udp_dst", Exact(UdpDst), Number),
+    field!(b"icmp_type", IcmpType, Number),
+    field!(b"icmp_code", IcmpCode, Number),
+    field!(b"icmpv6_type", Exact(Icmpv6Type), Number),
+    field!(b"icmpv6_code", Exact(Icmpv6Code), Number),
+    field!(b"arp_op", Exact(ArpOp), Number),
+    field!(b"arp_spa", Exact(ArpSpa), Ipv4),
+    field!(b"arp_tpa", Exact(ArpTpa), Ipv4),
+    field!(b"arp_sha", Exact(ArpSha), Mac),
+    field!(b"arp_tha", Exact(ArpTha), Mac),
+    field!(b"ipv6_src", Exact(Ipv6Src), Ipv6),
+    field!(b"ipv6_dst", Exact(Ipv6Dst), Ipv6),
+    field!(b"ipv6_label", Exact(Ipv6Flabel), Number),
+];
+
 impl FieldWord {
-    /// Each once.
-    pub const ALL: [FieldWord; 41] = [
-        FieldWord::InPort,
-        FieldWord::Metadata,
-        FieldWord::DlSrc,
-        FieldWord::EthSrc,
-        FieldWord::DlDst,
-        FieldWord::EthDst,
-        FieldWord::DlType,
-        FieldWord::EthType,
-        FieldWord::DlVlan,
-        FieldWord::VlanVid,
-        FieldWord::DlVlanPcp,
-        FieldWord::VlanPcp,
-        FieldWord::VlanTci,
-        FieldWord::NwTos,
-        FieldWord::IpDscp,
-        FieldWord::NwEcn,
-        FieldWord::IpEcn,
-        FieldWord::NwProto,
-        FieldWord::IpProto,
-        FieldWord::NwSrc,
-        FieldWord::IpSrc,
-        FieldWord::NwDst,
-        FieldWord::IpDst,
-        FieldWord::TpSrc,
-        FieldWord::TpDst,
-        FieldWord::TcpSrc,
-        FieldWord::TcpDst,
-        FieldWord::UdpSrc,
-        FieldWord::UdpDst,
-        FieldWord::IcmpType,
-        FieldWord::IcmpCode,
-        FieldWord::Icmpv6Type,
-        FieldWord::Icmpv6Code,
-        FieldWord::ArpOp,
-        FieldWord::ArpSpa,
-        FieldWord::ArpTpa,
-        FieldWord::ArpSha,
-        FieldWord::ArpTha,
-        FieldWord::Ipv6Src,
-        FieldWord::Ipv6Dst,
-        FieldWord::Ipv6Label,
-    ];
-
-    /// Its text.
-    #[tactic(auto, unfolding(crate::specs::FieldWords::row_of))]
-    pub fn text(self) -> &'static [u8]
-        ensures { result.now ≡ text_of self }
-    {
-        match self {
-            FieldWord::InPort => b"in_port",
-            FieldWord::Metadata => b"metadata",
-            FieldWord::DlSrc => b"dl_src",
-            FieldWord::EthSrc => b"eth_src",
-            FieldWord::DlDst => b"dl_dst",
-            FieldWord::EthDst => b"eth_dst",
-            FieldWord::DlType => b"dl_type",
-            FieldWord::EthType => b"eth_type",
-            FieldWord::DlVlan => b"dl_vlan",
-            FieldWord::VlanVid => b"vlan_vid",
-            FieldWord::DlVlanPcp => b"dl_vlan_pcp",
-            FieldWord::VlanPcp => b"vlan_pcp",
-            FieldWord::VlanTci => b"vlan_tci",
-            FieldWord::NwTos => b"nw_tos",
-            FieldWord::IpDscp => b"ip_dscp",
-            FieldWord::NwEcn => b"nw_ecn",
-            FieldWord::IpEcn => b"ip_ecn",
-            FieldWord::NwProto => b"nw_proto",
-            FieldWord::IpProto => b"ip_proto",
-            FieldWord::NwSrc => b"nw_src",
-            FieldWord::IpSrc => b"ip_src",
-            FieldWord::NwDst => b"nw_dst",
-            FieldWord::IpDst => b"ip_dst",
-            FieldWord::TpSrc => b"tp_src",
-            FieldWord::TpDst => b"tp_dst",
-            FieldWord::TcpSrc => b"tcp_src",
-            FieldWord::TcpDst => b"tcp_dst",
-            FieldWord::UdpSrc => b"udp_src",
-            FieldWord::UdpDst => b"udp_dst",
-            FieldWord::IcmpType => b"icmp_type",
-            FieldWord::IcmpCode => b"icmp_code",
-            FieldWord::Icmpv6Type => b"icmpv6_type",
-            FieldWord::Icmpv6Code => b"icmpv6_code",
-            FieldWord::ArpOp => b"arp_op",
-            FieldWord::ArpSpa => b"arp_spa",
-            FieldWord::ArpTpa => b"arp_tpa",
-            FieldWord::ArpSha => b"arp_sha",
-            FieldWord::ArpTha => b"arp_tha",
-            FieldWord::Ipv6Src => b"ipv6_src",
-            FieldWord::Ipv6Dst => b"ipv6_dst",
-            FieldWord::Ipv6Label => b"ipv6_label",
-        }
-    }
-
-    /// The field that it is for.
-    #[tactic(auto, unfolding(crate::specs::FieldWords::row_of))]
-    pub fn target(self) -> Target
-        ensures { result ≡ target_of self }
-    {
-        match self {
-            FieldWord::InPort => Target::Exact(Field::InPort),
-            FieldWord::Metadata => Target::Exact(Field::Metadata),
-            FieldWord::DlSrc => Target::Exact(Field::EthSrc),
-            FieldWord::EthSrc => Target::Exact(Field::EthSrc),
-            FieldWord::DlDst => Target::Exact(Field::EthDst),
-            FieldWord::EthDst => Target::Exact(Field::EthDst),
-            FieldWord::DlType => Target::Exact(Field::EthType),
-            FieldWord::EthType => Target::Exact(Field::EthType),
-            FieldWord::DlVlan => Target::Exact(Field::VlanVid),
-            FieldWord::VlanVid => Target::Exact(Field::VlanVid),
-            FieldWord::DlVlanPcp => Target::Exact(Field::VlanPcp),
-            FieldWord::VlanPcp => Target::Exact(Field::VlanPcp),
-            FieldWord::VlanTci => Target::Exact(Field::VlanVid),
-            FieldWord::NwTos => Target::Exact(Field::IpDscp),
-            FieldWord::IpDscp => Target::Exact(Field::IpDscp),
-            FieldWord::NwEcn => Target::Exact(Field::IpEcn),
-            FieldWord::IpEcn => Target::Exact(Field::IpEcn),
-            FieldWord::NwProto => Target::Protocol,
-            FieldWord::IpProto => Target::Protocol,
-            FieldWord::NwSrc => Target::NetworkSource,
-            FieldWord::IpSrc => Target::NetworkSource,
-            FieldWord::NwDst => Target::NetworkDestination,
-            FieldWord::IpDst => Target::NetworkDestination,
-            FieldWord::TpSrc => Target::TransportSource,
-            FieldWord::TpDst => Target::TransportDestination,
-            FieldWord::TcpSrc => Target::Exact(Field::TcpSrc),
-            FieldWord::TcpDst => Target::Exact(Field::TcpDst),
-            FieldWord::UdpSrc => Target::Exact(Field::UdpSrc),
-            FieldWord::UdpDst => Target::Exact(Field::UdpDst),
-            FieldWord::IcmpType => Target::IcmpType,
-            FieldWord::IcmpCode => Target::IcmpCode,
-            FieldWord::Icmpv6Type => Target::Exact(Field::Icmpv6Type),
-            FieldWord::Icmpv6Code => Target::Exact(Field::Icmpv6Code),
-            FieldWord::ArpOp => Target::Exact(Field::ArpOp),
-            FieldWord::ArpSpa => Target::Exact(Field::ArpSpa),
-            FieldWord::ArpTpa => Target::Exact(Field::ArpTpa),
-            FieldWord::ArpSha => Target::Exact(Field::ArpSha),
-            FieldWord::ArpTha => Target::Exact(Field::ArpTha),
-            FieldWord::Ipv6Src => Target::Exact(Field::Ipv6Src),
-            FieldWord::Ipv6Dst => Target::Exact(Field::Ipv6Dst),
-            FieldWord::Ipv6Label => Target::Exact(Field::Ipv6Flabel),
-        }
-    }
-
-    /// How its value is written.
-    #[tactic(auto, unfolding(crate::specs::FieldWords::row_of))]
-    pub fn form(self) -> Form
-        ensures { result ≡ form_of self }
-    {
-        match self {
-            FieldWord::InPort => Form::Port,
-            FieldWord::Metadata => Form::Number,
-            FieldWord::DlSrc => Form::Mac,
-            FieldWord::EthSrc => Form::Mac,
-            FieldWord::DlDst => Form::Mac,
-            FieldWord::EthDst => Form::Mac,
-            FieldWord::DlType => Form::Number,
-            FieldWord::EthType => Form::Number,
-            FieldWord::DlVlan => Form::Vlan,
-            FieldWord::VlanVid => Form::Number,
-            FieldWord::DlVlanPcp => Form::Number,
-            FieldWord::VlanPcp => Form::Number,
-            FieldWord::VlanTci => Form::Tci,
-            FieldWord::NwTos => Form::Tos,
-            FieldWord::IpDscp => Form::Number,
-            FieldWord::NwEcn => Form::Number,
-            FieldWord::IpEcn => Form::Number,
-            FieldWord::NwProto => Form::Number,
-            FieldWord::IpProto => Form::Number,
-            FieldWord::NwSrc => Form::Ipv4,
-            FieldWord::IpSrc => Form::Ipv4,
-            FieldWord::NwDst => Form::Ipv4,
-            FieldWord::IpDst => Form::Ipv4,
-            FieldWord::TpSrc => Form::Number,
-            FieldWord::TpDst => Form::Number,
-            FieldWord::TcpSrc => Form::Number,
-            FieldWord::TcpDst => Form::Number,
-            FieldWord::UdpSrc => Form::Number,
-            FieldWord::UdpDst => Form::Number,
-            FieldWord::IcmpType => Form::Number,
-            FieldWord::IcmpCode => Form::Number,
-            FieldWord::Icmpv6Type => Form::Number,
-            FieldWord::Icmpv6Code => Form::Number,
-            FieldWord::ArpOp => Form::Number,
-            FieldWord::ArpSpa => Form::Ipv4,
-            FieldWord::ArpTpa => Form::Ipv4,
-            FieldWord::ArpSha => Form::Mac,
-            FieldWord::ArpTha => Form::Mac,
-            FieldWord::Ipv6Src => Form::Ipv6,
-            FieldWord::Ipv6Dst => Form::Ipv6,
-            FieldWord::Ipv6Label => Form::Number,
-        }
-    }
-
     /// The word of this text.
     #[tactic(auto, unfolding(crate::specs::FieldWords::field_word_named))]
     pub fn named(text: &[u8]) -> Option<FieldWord>
         ensures { result ≡ field_word_named text.now }
     {
-        FieldWord::ALL
+        FIELD_WORDS
             .iter()
             .copied()
-            .find(|word| word.text() == text)
+            .find(|word| is_keyword(&word.text, text))
     }
 
-    /// A word for a field.
-    #[tactic(auto, unfolding(crate::specs::FieldWords::word_for))]
-    pub fn of(field: Field) -> FieldWord
-        ensures { result ≡ word_for field }
+    // Whether the word is for that field, if no other setting says more.
+    fn is_for(&self, field: Field) -> bool
+        ensures { result ≡ is_word_for field self.now }
     {
-        match field {
-            Field::InPort => FieldWord::InPort,
-            Field::Metadata => FieldWord::Metadata,
-            Field::EthDst => FieldWord::DlDst,
-            Field::EthSrc => FieldWord::DlSrc,
-            Field::EthType => FieldWord::DlType,
-            Field::VlanVid => FieldWord::DlVlan,
-            Field::VlanPcp => FieldWord::DlVlanPcp,
-            Field::IpDscp => FieldWord::NwTos,
-            Field::IpEcn => FieldWord::NwEcn,
-            Field::IpProto => FieldWord::NwProto,
-            Field::Ipv4Src => FieldWord::NwSrc,
-            Field::Ipv4Dst => FieldWord::NwDst,
-            Field::TcpSrc => FieldWord::TcpSrc,
-            Field::TcpDst => FieldWord::TcpDst,
-            Field::UdpSrc => FieldWord::UdpSrc,
-            Field::UdpDst => FieldWord::UdpDst,
-            Field::Icmpv4Type => FieldWord::IcmpType,
-            Field::Icmpv4Code => FieldWord::IcmpCode,
-            Field::ArpOp => FieldWord::ArpOp,
-            Field::ArpSpa => FieldWord::ArpSpa,
-            Field::ArpTpa => FieldWord::ArpTpa,
-            Field::ArpSha => FieldWord::ArpSha,
-            Field::ArpTha => FieldWord::ArpTha,
-            Field::Ipv6Src => FieldWord::Ipv6Src,
-            Field::Ipv6Dst => FieldWord::Ipv6Dst,
-            Field::Ipv6Flabel => FieldWord::Ipv6Label,
-            Field::Icmpv6Type => FieldWord::Icmpv6Type,
-            Field::Icmpv6Code => FieldWord::Icmpv6Code,
+        match field_for(self.target, &[]) {
+            Some(exact) => exact.number() == field.number(),
+            None => false,
         }
+    }
+}
+
+// The word that is written for a field.
+#[tactic(auto, unfolding(crate::specs::FieldWords::word_for))]
+fn word_for(field: Field) -> Option<&'static FieldWord>
+    ensures { option_copied result ≡ written_for field }
+{
+    FIELD_WORDS.iter().find(|word| word.is_for(field))
+}
+
+/// The text of the word that is written for a field.
+pub fn text_for(field: Field) -> &'static [u8]
+    ensures { result.now ≡ text_of field }
+{
+    match word_for(field) {
+        Some(word) => keyword(&word.text),
+        None => &[],
     }
 }

@@ -13,7 +13,7 @@ pub fn port_in(why: Why, word: &[u8]) -> Result<u32, Why>
     match number_in(0x1_0000_0000, word) {
         Some(number) => Ok(number as u32),
         None => match PortWord::named(word) {
-            Some(word) => word.number().ok_or(Why::Unknown),
+            Some(word) => word.number.ok_or(Why::Unknown),
             None => Err(why),
         },
     }

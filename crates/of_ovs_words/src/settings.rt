@@ -39,8 +39,8 @@ pub fn set_protocol(
     if !value.is_empty() {
         return Err(Stop::Refused(Why::Unknown));
     }
-    push_exact(settings, Field::EthType, u128::from(word.ethertype()))?;
-    if let Some(number) = word.protocol() {
+    push_exact(settings, Field::EthType, u128::from(word.ethertype))?;
+    if let Some(number) = word.protocol {
         push_exact(settings, Field::IpProto, u128::from(number))?;
     }
     Ok(())
@@ -76,8 +76,8 @@ fn set_one(settings: &mut Vec<MatchField>, word: FieldWord, value: &[u8]) -> Res
     ensures stopped { IfErr result (Stops (with_setting settings.old.items word value.now)) }
     ensures same { IfErr result (IfRefused (settings.new.items ≡ settings.old.items)) }
 {
-    let field = field_for(word.target(), settings).ok_or(Why::Protocol)?;
-    let setting = setting_in(word.form(), field, value)?;
+    let field = field_for(word.target, settings).ok_or(Why::Protocol)?;
+    let setting = setting_in(word.form, field, value)?;
     push_tag(settings, field)?;
     push_one(settings, setting)?;
     Ok(())
@@ -101,7 +101,7 @@ pub fn set_field(settings: &mut Vec<MatchField>, word: FieldWord, value: &[u8]) 
     ensures stopped { IfErr result (Stops (with_field settings.old.items word value.now)) }
     ensures same { IfErr result (IfRefused (settings.new.items ≡ settings.old.items)) }
 {
-    if word.form() == Form::Tci {
+    if word.form == Form::Tci {
         set_tci(settings, value)
     } else {
         set_one(settings, word, value)
