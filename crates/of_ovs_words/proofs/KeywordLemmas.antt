@@ -5,7 +5,7 @@ use Rattle.std.proofs.lemmas.Slice.Eq.{bytes_eq-Decides}
 use Rattle.std.proofs.lemmas.Bool.{eq-eqb}
 use Rattle.std.specs.Char.{to_ascii_lowercase}
 use Rattle.std.specs.Str.{str_eq_ignore_ascii_case}
-use Rattle.of_keywords.specs.Keywords.{before, keyword}
+use Rattle.of_wire.specs.Parts.{before, keyword}
 
 -- the array goes on as far as its word
 record IsFront (padded word : List ℕ) : Type 0 where

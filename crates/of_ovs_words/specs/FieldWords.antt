@@ -2,7 +2,7 @@
 use Rattle.std.specs.Prelude.{ℕ, ◌==◌, Bool, false, List, [], Option, find}
 use Rattle.std.specs.Option.{option_map_or}
 use Rattle.std.specs.Str.{bytes_eq}
-use Rattle.of_keywords.specs.Keywords.{keyword}
+use Rattle.of_wire.specs.Parts.{keyword}
 use Rattle.of_layers.specs.declared.field.Field.{Field}
 use Rattle.of_layers.specs.Fields.{number_of}
 use Rattle.of_ovs_words.specs.declared.field_word.FieldWord.{FieldWord}

@@ -41,7 +41,7 @@ pub enum Verb {
     Resubmit,
 }
 
-/// A word for an action or an instruction: its text, which zeros fill up, and what it does.
+/// A word for an action or an instruction: its text, which spaces fill up, and what it does.
 #[derive(Clone, Copy)]
 pub struct ActionWord {
     pub text: [u8; 16],

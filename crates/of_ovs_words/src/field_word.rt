@@ -5,8 +5,8 @@ ghost use Rattle.of_ovs_words.specs.FieldWords.{field_word_named, is_for as is_w
 
 use crate::keywords::{is_keyword, padded};
 use crate::setting::field_for;
-use of_keywords::keyword;
 use of_layers::Field;
+use of_wire::keyword;
 
 /// Which field a word is for.
 #[derive(Clone, Copy)]
@@ -50,7 +50,7 @@ pub enum Form {
     Tci,
 }
 
-/// A word for a match field: its text, which zeros fill up, which field it is for, and how its value is written.
+/// A word for a match field: its text, which spaces fill up, which field it is for, and how its value is written.
 #[derive(Clone, Copy)]
 pub struct FieldWord {
     pub text: [u8; 16],

@@ -22,7 +22,7 @@ pub enum Part {
     Command,
 }
 
-/// A word for a flow beside its match and its actions: its text, which zeros fill up, and what it is of the flow.
+/// A word for a flow beside its match and its actions: its text, which spaces fill up, and what it is of the flow.
 #[derive(Clone, Copy)]
 pub struct HeadWord {
     pub text: [u8; 16],

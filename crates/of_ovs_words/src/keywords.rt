@@ -2,30 +2,30 @@
 ghost use Rattle.std.specs.Prelude.{◌≡◌, ◌≤◌, ◌<◌, ◌==◌, get_or, length, true};
 ghost use Rattle.std.specs.Char.{to_ascii_lowercase};
 ghost use Rattle.std.specs.Str.{bytes_eq, str_eq_ignore_ascii_case};
-ghost use Rattle.of_keywords.specs.Keywords.{keyword};
+ghost use Rattle.of_wire.specs.Parts.{keyword};
 
-use of_keywords::keyword;
+use of_wire::keyword;
 
-/// A word of 1 to 16 bytes as an array, which zeros fill up. The check refuses another one: it has no byte at that index.
+/// A word of 1 to 16 bytes as an array, which spaces fill up. The check refuses another one: it has no byte at that index.
 macro_rules! padded {
     ($word:expr) => {
         [
             $word[if 16 < $word.len() { $word.len() } else { 0 }],
-            if 1 < $word.len() { $word[1] } else { 0 },
-            if 2 < $word.len() { $word[2] } else { 0 },
-            if 3 < $word.len() { $word[3] } else { 0 },
-            if 4 < $word.len() { $word[4] } else { 0 },
-            if 5 < $word.len() { $word[5] } else { 0 },
-            if 6 < $word.len() { $word[6] } else { 0 },
-            if 7 < $word.len() { $word[7] } else { 0 },
-            if 8 < $word.len() { $word[8] } else { 0 },
-            if 9 < $word.len() { $word[9] } else { 0 },
-            if 10 < $word.len() { $word[10] } else { 0 },
-            if 11 < $word.len() { $word[11] } else { 0 },
-            if 12 < $word.len() { $word[12] } else { 0 },
-            if 13 < $word.len() { $word[13] } else { 0 },
-            if 14 < $word.len() { $word[14] } else { 0 },
-            if 15 < $word.len() { $word[15] } else { 0 },
+            if 1 < $word.len() { $word[1] } else { b' ' },
+            if 2 < $word.len() { $word[2] } else { b' ' },
+            if 3 < $word.len() { $word[3] } else { b' ' },
+            if 4 < $word.len() { $word[4] } else { b' ' },
+            if 5 < $word.len() { $word[5] } else { b' ' },
+            if 6 < $word.len() { $word[6] } else { b' ' },
+            if 7 < $word.len() { $word[7] } else { b' ' },
+            if 8 < $word.len() { $word[8] } else { b' ' },
+            if 9 < $word.len() { $word[9] } else { b' ' },
+            if 10 < $word.len() { $word[10] } else { b' ' },
+            if 11 < $word.len() { $word[11] } else { b' ' },
+            if 12 < $word.len() { $word[12] } else { b' ' },
+            if 13 < $word.len() { $word[13] } else { b' ' },
+            if 14 < $word.len() { $word[14] } else { b' ' },
+            if 15 < $word.len() { $word[15] } else { b' ' },
         ]
     };
 }

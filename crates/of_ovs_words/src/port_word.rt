@@ -5,7 +5,7 @@ ghost use Rattle.of_ovs_words.specs.PortWords.{port_word_named};
 use crate::keywords::{is_keyword_in_any_case, padded};
 use of_wire::limits::{OFPP_ALL, OFPP_CONTROLLER, OFPP_FLOOD, OFPP_IN_PORT};
 
-/// The name of a reserved port (OpenFlow 1.3.5, 4.5): its text, which zeros fill up, and its number, if this switch sends packets to it and a flow can
+/// The name of a reserved port (OpenFlow 1.3.5, 4.5): its text, which spaces fill up, and its number, if this switch sends packets to it and a flow can
 /// name it.
 #[derive(Clone, Copy)]
 pub struct PortWord {

@@ -4,7 +4,7 @@ ghost use Rattle.of_ovs_words.specs.ProtocolWords.{protocol_named};
 
 use crate::keywords::{is_keyword, padded};
 
-/// A word for a protocol: its text, which zeros fill up, and the ETH_TYPE and the IP_PROTO that it stands for.
+/// A word for a protocol: its text, which spaces fill up, and the ETH_TYPE and the IP_PROTO that it stands for.
 #[derive(Clone, Copy)]
 pub struct ProtocolWord {
     pub text: [u8; 16],

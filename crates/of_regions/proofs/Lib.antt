@@ -6,3 +6,5 @@ pub mod BuildingLemmas
 pub mod RuleLemmas
 pub mod DividingLemmas
 pub mod LearningLemmas
+pub mod TaggingLemmas
+pub mod WitnessLemmas

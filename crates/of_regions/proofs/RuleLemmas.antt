@@ -71,24 +71,24 @@ rule_fits s t f = elim f as (λ f. IsRule (ones_of f) (rule_in s t f)) [
 
 -- a field of which nothing is said is one of a tag
 
-said_or : (b : Bool) → cond b (Under 0 0) Absent ≡ Free → ⊥
+pub said_or : (b : Bool) → cond b (Under 0 0) Absent ≡ Free → ⊥
 said_or true e = cc
 said_or false e = cc
 
-type_said : (s : Shape) → valued EthType (type_of s) ≡ Free → ⊥
+pub type_said : (s : Shape) → valued EthType (type_of s) ≡ Free → ⊥
 unfolding row_of
 type_said s = elim s as (λ s. valued EthType (type_of s) ≡ Free → ⊥) [ shapes.Bare ↦ λ e. cc | _ ↦ λ e. cc ]
 
-protocol_said : (s : Shape) → cond (has_header s needs.Ip) (valued IpProto (protocol_of s)) Absent ≡ Free → ⊥
+pub protocol_said : (s : Shape) → cond (has_header s needs.Ip) (valued IpProto (protocol_of s)) Absent ≡ Free → ⊥
 unfolding row_of
 protocol_said s = elim s as (λ s. cond (has_header s needs.Ip) (valued IpProto (protocol_of s)) Absent ≡ Free → ⊥) [ shapes.Bare ↦ λ e. cc | _ ↦ λ e. cc ]
 
-vid_free : (t : Option Tagging) → tag_rule t VlanVid ≡ Free → t ≡ None
+pub vid_free : (t : Option Tagging) → tag_rule t VlanVid ≡ Free → t ≡ None
 vid_free None e = refl
 vid_free (Some Untagged) e = absurd cc
 vid_free (Some Tagged) e = absurd cc
 
-pcp_free : (t : Option Tagging) → tag_rule t VlanPcp ≡ Free → t ≡ None
+pub pcp_free : (t : Option Tagging) → tag_rule t VlanPcp ≡ Free → t ≡ None
 pcp_free None e = refl
 pcp_free (Some Untagged) e = absurd cc
 pcp_free (Some Tagged) e = absurd cc

@@ -1,5 +1,5 @@
 -- REGIONS OF PACKETS: the packets of one shape of which some bits are known (OpenFlow 1.3.5, 5.3 and 7.2.3.7).
-use Rattle.std.specs.Prelude.{ℕ, Option, Some, None}
+use Rattle.std.specs.Prelude.{◌≡◌, ◌⊎◌, ℕ, Option, Some, None}
 use Rattle.of_layers.specs.declared.field.Field.{Field}
 use Rattle.of_headers.specs.FieldMap.{value}
 use Rattle.of_oxm.specs.Masks.{mask_at}
@@ -24,3 +24,12 @@ HasTagging (Some t) map = IsTagging t map
 -- a frame has a tag or none
 abbrev pub SomeTagging : (Field → Option ℕ) → Type 0
 SomeTagging map = (t : Tagging) × IsTagging t map
+
+-- two parts: each packet is in one of them, and none is in both
+pub record AreParts (whole first second : Region) : Type 0 where
+  pub within : (map : Field → Option ℕ) → In first map ⊎ In second map → In whole map
+  pub all : (map : Field → Option ℕ) → SomeTagging map → In whole map → In first map ⊎ In second map
+  pub apart : (map : Field → Option ℕ) → In first map → In second map → ⊥
+
+abbrev pub IsEither : Region → Region → Region → Region → Type 0
+IsEither a b first second = ((first ≡ a) × (second ≡ b)) ⊎ ((first ≡ b) × (second ≡ a))

@@ -2,16 +2,18 @@
 ghost use Rattle.std.specs.Prelude.{◌≡◌, ◌<◌, ◌==◌, ◌⊎◌, ℕ, Option, Some, None, if◌then◌else◌, true};
 ghost use Rattle.of_layers.specs.declared.field.Field.{Field as TheField};
 ghost use Rattle.of_layers.specs.Fields.{number_of, ones_of};
-ghost use Rattle.of_headers.specs.FieldMap.{value};
+ghost use Rattle.of_layers.specs.declared.field.Field.TheVariants.{VlanVid};
+ghost use Rattle.of_headers.specs.FieldMap.{seen, value};
+ghost use Rattle.of_shapes.specs.declared.shape.Tagging.TheVariants.{Tagged, Untagged};
 ghost use Rattle.of_oxm.specs.Masks.{mask_at};
 ghost use Rattle.of_oxm.specs.NormalForm.{IsKept};
 ghost use Rattle.of_shapes.specs.Rules.{IsTagging};
 ghost use Rattle.of_regions.specs.Dividing.{AreWithout, IsBitOf};
 ghost use Rattle.of_regions.specs.Known.{is_known_by, rule_in};
 ghost use Rattle.of_regions.specs.Meeting.{IsCrossed};
-ghost use Rattle.of_regions.specs.Regions.{In, SomeTagging};
+ghost use Rattle.of_regions.specs.Regions.{AreParts, In, IsEither};
 
-use crate::meeting::bits;
+use crate::meeting::{is_apart, looked_at};
 use crate::region::Region;
 use of_headers::{Field, FieldKey};
 use of_oxm::{FieldMask, MatchField};
@@ -77,10 +79,91 @@ impl Region {
         ensures all { (map : TheField → Option ℕ) → In self map → In result.0 map ⊎ In result.1 map }
         ensures apart { (map : TheField → Option ℕ) → In result.0 map → In result.1 map → ⊥ }
     {
-        let bit = one_of(e.field, without(bits(e), mask));
+        let bit = one_of(e.field, without(looked_at(e), mask));
         (
             self.learned(e.field, mask | bit, known | bit),
             self.learned(e.field, mask | bit, known),
         )
+    }
+
+    // Those without a tag (OpenFlow 1.3.5, 7.2.3.7: VLAN_VID is OFPVID_NONE).
+    fn untagged(self) -> Region
+        requires { self.tagging ≡ None }
+        ensures within { (map : TheField → Option ℕ) → In result map → In self map }
+        ensures all { (map : TheField → Option ℕ) → IsTagging Untagged map → In self map → In result map }
+        ensures vid { (map : TheField → Option ℕ) → In result map → seen (Some 0x1fff) (map VlanVid) ≡ Some 0 }
+    {
+        Region {
+            shape: self.shape,
+            tagging: Some(Tagging::Untagged),
+            masks: FieldMask {
+                masks: self
+                    .masks
+                    .masks
+                    .with(Field::VlanVid, 0x1fff)
+                    .with(Field::VlanPcp, 0),
+            },
+            known: self.known.with(Field::VlanVid, 0),
+        }
+    }
+
+    // Those with a tag (7.2.3.7: VLAN_VID has the bit OFPVID_PRESENT).
+    fn tagged(self) -> Region
+        requires { self.tagging ≡ None }
+        ensures within { (map : TheField → Option ℕ) → In result map → In self map }
+        ensures all { (map : TheField → Option ℕ) → IsTagging Tagged map → In self map → In result map }
+        ensures vid { (map : TheField → Option ℕ) → In result map → seen (Some 0x1000) (map VlanVid) ≡ Some 0x1000 }
+    {
+        Region {
+            shape: self.shape,
+            tagging: Some(Tagging::Tagged),
+            masks: FieldMask {
+                masks: self
+                    .masks
+                    .masks
+                    .with(Field::VlanVid, 0x1000)
+                    .with(Field::VlanPcp, 0),
+            },
+            known: self
+                .known
+                .with(Field::VlanVid, 0x1000)
+                .with(Field::VlanPcp, 0),
+        }
+    }
+
+    // Two parts, or the same the other way round.
+    fn in_order(as_given: bool, first: Region, second: Region) -> (Region, Region)
+        ensures { IsEither first second result.0 result.1 }
+    {
+        if as_given {
+            (first, second)
+        } else {
+            (second, first)
+        }
+    }
+
+    // Those with a tag and those without.
+    fn by_tag(self, tagged_first: bool) -> (Region, Region)
+        requires { self.tagging ≡ None }
+        ensures { AreParts self result.0 result.1 }
+    {
+        Region::in_order(tagged_first, self.tagged(), self.untagged())
+    }
+
+    /// Two parts by the first bit that a field of a match looks at and that is not known: each packet is in one of them (if it is one
+    /// with a tag or without), and none is in both. The match agrees less with the second.
+    pub fn divided(self, e: &MatchField) -> (Region, Region)
+        requires kept { IsKept e.now }
+        requires crossed { IsCrossed self e.now }
+        ensures { AreParts self result.0 result.1 }
+    {
+        match (self.masks.masks.get(e.field), self.known.get(e.field)) {
+            (None, _) => self.by_tag(e.field != Field::VlanVid || e.value != 0),
+            (Some(_), None) => unreachable!(),
+            (Some(mask), Some(known)) => {
+                let (with, without) = self.by_bit(e, mask, known);
+                Region::in_order(is_apart(&without, e), with, without)
+            }
+        }
     }
 }

@@ -21,7 +21,7 @@ pub enum Meeting {
 }
 
 /// The bits that a field of a match looks at.
-pub fn bits(e: &MatchField) -> u128
+pub fn looked_at(e: &MatchField) -> u128
     ensures { result ≡ bits_looked_at e.now }
 {
     e.mask.unwrap_or(e.field.row().ones)
@@ -31,26 +31,21 @@ pub fn bits(e: &MatchField) -> u128
 fn is_settled(region: &Region, e: &MatchField) -> bool
     ensures { result ≡ settled e.now (mask_at region.now.masks e.now.field) (value region.now.known e.now.field) }
 {
-    match (
-        region.masks.masks.get(e.field),
-        region.known.get(e.field),
-    ) {
-        (Some(mask), Some(known)) => bits(e) & mask == bits(e) && known & bits(e) == e.value,
+    match (region.masks.masks.get(e.field), region.known.get(e.field)) {
+        (Some(mask), Some(known)) => looked_at(e) & mask == looked_at(e)
+            && known & looked_at(e) == e.value,
         _ => false,
     }
 }
 
-// Whether a field of a match agrees with none of the region.
-fn is_apart(region: &Region, e: &MatchField) -> bool
+/// Whether a field of a match agrees with none of the region.
+pub fn is_apart(region: &Region, e: &MatchField) -> bool
     ensures { result ≡ apart e.now (mask_at region.now.masks e.now.field) (value region.now.known e.now.field) }
 {
-    match (
-        region.masks.masks.get(e.field),
-        region.known.get(e.field),
-    ) {
+    match (region.masks.masks.get(e.field), region.known.get(e.field)) {
         (None, _) => false,
         (Some(_), None) => true,
-        (Some(mask), Some(known)) => !(known & bits(e) == e.value & mask),
+        (Some(mask), Some(known)) => !(known & looked_at(e) == e.value & mask),
     }
 }
 
