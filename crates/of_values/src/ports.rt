@@ -1,5 +1,6 @@
 //! Ports in words.
-ghost use Rattle.std.specs.Prelude.{◌≡◌, ◌++◌, OnOk};
+ghost use Rattle.std.specs.Prelude.{◌≡◌, ◌++◌, ◌==◌, OnOk, find};
+ghost use Rattle.of_values.specs.declared.ports.TheConstants.{PORT_NAMES};
 ghost use Rattle.of_values.specs.Numbers.{port};
 
 use crate::digits::push_decimal;
@@ -26,12 +27,22 @@ pub const PORT_NAMES: [PortName; 8] = [
     PortName(OFPP_ANY, *b"any       "),
 ];
 
+// The row of a reserved port.
+fn named_port(number: u128) -> Option<PortName>
+    ensures { result ≡ find (λ row. number == row.0) PORT_NAMES }
+{
+    PORT_NAMES
+        .iter()
+        .copied()
+        .find(|row| number == u128::from(row.0))
+}
+
 /// Appends the number of a port, or the name of a reserved one (OpenFlow 1.3.5, 7.2.1).
 #[tactic(auto, unfolding(crate::specs::Numbers::port))]
 pub fn push_port(out: &mut Vec<u8>, number: u128) -> Result<(), AllocError>
     ensures { OnOk result (out.new.items ≡ out.old.items ++ port number) }
 {
-    match PORT_NAMES.iter().find(|row| number == u128::from(row.0)) {
+    match named_port(number) {
         None => push_decimal(out, number),
         Some(row) => out.extend_from_slice(keyword(&row.1)),
     }
