@@ -42,7 +42,7 @@ fn push_row<L: Lookup>(
             push_way(alloc, out, switch, port, bytes)?;
             Ok(())
         }
-        _ => Ok(()),
+        Row::Passed | Row::Connect | Row::Lost | Row::Moment { .. } | Row::Ports(_) => Ok(()),
     }
 }
 
@@ -52,7 +52,8 @@ fn push_end(out: &mut Vec<u8>, row: Row, effects: &[Effect]) -> Result<(), Alloc
 {
     match row {
         Row::Frame { .. } => push_nothing(out, effects),
-        _ => Ok(()),
+        Row::Passed | Row::Connect | Row::Lost | Row::Chunk | Row::Moment { .. } | Row::Ports(_) =>
+            { Ok(()) }
     }
 }
 
