@@ -8,26 +8,26 @@ use crate::finding::Finding;
 use crate::search::check_entry;
 use crate::verdict::Verdict;
 use of_classifier::Lookup;
-use of_datapath::Datapath;
 use of_remarks::Remark;
+use of_switch::Switch;
 use of_wire::limits::TABLES;
 use std::alloc::{AllocError, Global};
 
 // Appends the verdicts on the entries of a table.
 fn check_table<L: Lookup>(
     alloc: Global,
-    datapath: &Datapath<L>,
+    switch: &Switch<L>,
     table: u8,
     steps: usize,
     findings: &mut Vec<Finding>,
 ) -> Result<(), AllocError>
     requires { table < 16 }
-    ensures { OnOk result (AreFindings (entries_below table datapath.now.tables) datapath.now.tables findings.old.items →
-        AreFindings (entries_below (suc table) datapath.now.tables) datapath.now.tables findings.new.items) }
+    ensures { OnOk result (AreFindings (entries_below table switch.now.core.forwarding.tables) switch.now.core.forwarding.tables findings.old.items →
+        AreFindings (entries_below (suc table) switch.now.core.forwarding.tables) switch.now.core.forwarding.tables findings.new.items) }
 {
     let mut place = 0;
-    for _entry in datapath.entries(table) {
-        let verdict = check_entry(alloc, datapath, table, place, steps)?;
+    for _entry in switch.datapath().entries(table) {
+        let verdict = check_entry(alloc, switch, table, place, steps)?;
         findings.push(Finding {
             table,
             place,
@@ -38,17 +38,17 @@ fn check_table<L: Lookup>(
     Ok(())
 }
 
-/// The verdicts on all entries of the tables of a datapath, by table, then by age, each as `check_entry` gives it (OpenFlow 1.3.5, 5.3).
+/// The verdicts on all entries of the tables of a switch, by table, then by age, each as `check_entry` gives it (OpenFlow 1.3.5, 5.3).
 pub fn check<L: Lookup>(
     alloc: Global,
-    datapath: &Datapath<L>,
+    switch: &Switch<L>,
     steps: usize,
 ) -> Result<Vec<Finding>, AllocError>
-    ensures { IfOk result (λ findings. Checks datapath.now.tables findings.items) }
+    ensures { IfOk result (λ findings. Checks switch.now.core.forwarding.tables findings.items) }
 {
     let mut findings = Vec::new(alloc);
     for table in 0..TABLES {
-        check_table(alloc, datapath, table, steps, &mut findings)?;
+        check_table(alloc, switch, table, steps, &mut findings)?;
     }
     Ok(findings)
 }

@@ -22,7 +22,7 @@ fn write_state<L: Lookup, W: Sink>(
     ensures write_fault { (ended_as result ≡ Ended.WriteFault) ↔ (0 < W.failures writer.new) }
 {
     match switch.config() {
-        Ok(config) => write_findings(alloc, switch.datapath(), &config, steps, writer),
+        Ok(config) => write_findings(alloc, switch, &config, steps, writer),
         Err(_) => Err(Ended::NoMemory),
     }
 }

@@ -7,7 +7,6 @@ ghost use Rattle.of_check.specs.Files.{IsFindings, findings_in, tables_in};
 use crate::checking::{check, some_found};
 use crate::printing::print_all;
 use of_classifier::Lookup;
-use of_datapath::Datapath;
 use of_remarks::remarks_on;
 use of_replay::{Ended, Sink, Source, read_config, write_all};
 use of_switch::{Switch, SwitchError};
@@ -26,22 +25,22 @@ fn switch_with<L: Lookup>(alloc: Global, config: &Config) -> Result<Switch<L>, S
     Ok(switch)
 }
 
-/// Writes the text of the findings on the entries of a datapath, each after at most so many steps, and of the remarks on its configuration, and
+/// Writes the text of the findings on the entries of a switch, each after at most so many steps, and of the remarks on its configuration, and
 /// returns whether something was found: an entry that never wins, or what is remarked. Nothing changes.
 ///
 /// Err is `WriteFault`, where a write failed and a prefix of the text was written; or `NoMemory`, where nothing was.
 pub fn write_findings<L: Lookup, W: Sink>(
     alloc: Global,
-    datapath: &Datapath<L>,
+    switch: &Switch<L>,
     config: &Config,
     steps: usize,
     writer: &mut W,
 ) -> Result<bool, Ended>
     requires { W.failures writer.old ≡ 0 }
-    ensures output { Writes (IsFindings result datapath.now.tables config.now) (ended_as result) (W.taken writer.old) (W.taken writer.new) }
+    ensures output { Writes (IsFindings result switch.now.core.forwarding.tables config.now) (ended_as result) (W.taken writer.old) (W.taken writer.new) }
     ensures write_fault { (ended_as result ≡ Ended.WriteFault) ↔ (0 < W.failures writer.new) }
 {
-    let Ok(findings) = check(alloc, datapath, steps) else {
+    let Ok(findings) = check(alloc, switch, steps) else {
         return Err(Ended::NoMemory);
     };
     let Ok(remarks) = remarks_on(alloc, config) else {
@@ -80,7 +79,7 @@ pub fn check_file<L: Lookup, S: Source, W: Sink>(
         Err(ended) => return Err(ended),
     };
     match switch_with::<L>(alloc, &config) {
-        Ok(switch) => write_findings(alloc, switch.datapath(), &config, steps, writer),
+        Ok(switch) => write_findings(alloc, &switch, &config, steps, writer),
         Err(_) => Err(Ended::NoMemory),
     }
 }

@@ -9,8 +9,8 @@ ghost use Rattle.of_check.specs.Verdicts.{Covers};
 use crate::look::{Meeting, goes_before, meet};
 use crate::piece::Piece;
 use of_classifier::Lookup;
-use of_datapath::Datapath;
 use of_oxm::covers;
+use of_switch::Switch;
 use of_table::Entry;
 use std::alloc::{AllocError, Global};
 
@@ -31,18 +31,18 @@ fn is_cover(entry: &Entry, at: usize, own: &Entry, place: usize) -> bool
 
 /// The oldest entry that covers the one at a place.
 pub fn first_cover<L: Lookup>(
-    datapath: &Datapath<L>,
+    switch: &Switch<L>,
     table: u8,
     place: usize,
     own: &Entry,
 ) -> Option<usize>
     requires table { table < 16 }
-    requires there { slice_get (table_at table datapath.now.tables).flows place ≡ Some (entry_of own.now) }
-    ensures found { IfSome result (λ j. Covers (table_at table datapath.now.tables).flows j place) }
-    ensures none { IfNone result ((j : ℕ) → ¬ (Covers (table_at table datapath.now.tables).flows j place)) }
+    requires there { slice_get (table_at table switch.now.core.forwarding.tables).flows place ≡ Some (entry_of own.now) }
+    ensures found { IfSome result (λ j. Covers (table_at table switch.now.core.forwarding.tables).flows j place) }
+    ensures none { IfNone result ((j : ℕ) → ¬ (Covers (table_at table switch.now.core.forwarding.tables).flows j place)) }
 {
     let mut at = 0;
-    for entry in datapath.entries(table) {
+    for entry in switch.datapath().entries(table) {
         if is_cover(entry, at, own, place) {
             return Some(at);
         }
@@ -62,18 +62,18 @@ fn is_rival(entry: &Entry, at: usize, own: &Entry, place: usize, piece: &Piece) 
 /// That none is left out is not promised: what a search says holds with any.
 pub fn rivals_of<'a, L: Lookup>(
     alloc: Global,
-    datapath: &'a Datapath<L>,
+    switch: &'a Switch<L>,
     table: u8,
     place: usize,
     own: &Entry,
     piece: &Piece,
 ) -> Result<Vec<Rival<'a>>, AllocError>
     requires { table < 16 }
-    ensures { IfOk result (λ rivals. AreRivals (table_at table datapath.now.tables).flows rivals.items) }
+    ensures { IfOk result (λ rivals. AreRivals (table_at table switch.now.core.forwarding.tables).flows rivals.items) }
 {
     let mut rivals = Vec::new(alloc);
     let mut at = 0;
-    for entry in datapath.entries(table) {
+    for entry in switch.datapath().entries(table) {
         if is_rival(entry, at, own, place, piece) {
             rivals.push(Rival { place: at, entry })?;
         }

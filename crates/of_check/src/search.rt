@@ -16,9 +16,9 @@ use crate::ties::is_tied;
 use crate::trying::tried;
 use crate::verdict::Verdict;
 use of_classifier::Lookup;
-use of_datapath::Datapath;
 use of_headers::Field;
 use of_oxm::{MatchField, covered_is_matched};
+use of_switch::Switch;
 use of_table::Entry;
 use std::alloc::{AllocError, Global};
 
@@ -80,7 +80,7 @@ impl Search {
 // One piece: an entry takes it, or it is split, or the entry wins with a packet of it, or it is given up.
 fn step<L: Lookup>(
     alloc: Global,
-    datapath: &Datapath<L>,
+    switch: &Switch<L>,
     table: u8,
     place: usize,
     own: &Entry,
@@ -89,12 +89,12 @@ fn step<L: Lookup>(
     piece: Piece,
 ) -> Result<Option<Verdict>, AllocError>
     requires table { table < 16 }
-    requires there { slice_get (table_at table datapath.now.tables).flows place ≡ Some (entry_of own.now) }
-    requires rivals { AreRivals (table_at table datapath.now.tables).flows rivals.now }
-    requires left { search.old.missed ≡ false → UnderWay (table_at table datapath.now.tables).flows place (search.old.pieces.items ++ piece ∷ [])
+    requires there { slice_get (table_at table switch.now.core.forwarding.tables).flows place ≡ Some (entry_of own.now) }
+    requires rivals { AreRivals (table_at table switch.now.core.forwarding.tables).flows rivals.now }
+    requires left { search.old.missed ≡ false → UnderWay (table_at table switch.now.core.forwarding.tables).flows place (search.old.pieces.items ++ piece ∷ [])
         search.old.by.items }
-    ensures left { OnOk result (IsSearch (table_at table datapath.now.tables).flows place search.new) }
-    ensures won { IfOk result (λ found. IfSome found (Holds (table_at table datapath.now.tables).flows place)) }
+    ensures left { OnOk result (IsSearch (table_at table switch.now.core.forwarding.tables).flows place search.new) }
+    ensures won { IfOk result (λ found. IfSome found (Holds (table_at table switch.now.core.forwarding.tables).flows place)) }
 {
     match look_at(rivals, place, own, &piece) {
         Look::Taken(at) => {
@@ -107,7 +107,7 @@ fn step<L: Lookup>(
         }
         Look::Free => {
             search.missed = true;
-            tried(alloc, datapath, table, place, &piece)
+            tried(alloc, switch, table, place, &piece)
         }
     }
 }
@@ -132,44 +132,44 @@ fn push_halves(pieces: &mut Vec<Piece>, piece: Piece, e: &MatchField) -> Result<
 
 // What is found where the search ends.
 fn ended<L: Lookup>(
-    datapath: &Datapath<L>,
+    switch: &Switch<L>,
     table: u8,
     place: usize,
     own: &Entry,
     search: Search,
 ) -> Verdict
     requires table { table < 16 }
-    requires there { slice_get (table_at table datapath.now.tables).flows place ≡ Some (entry_of own.now) }
-    requires uncovered { (j : ℕ) → ¬ (Covers (table_at table datapath.now.tables).flows j place) }
-    requires search { IsSearch (table_at table datapath.now.tables).flows place search }
-    ensures { Holds (table_at table datapath.now.tables).flows place result }
+    requires there { slice_get (table_at table switch.now.core.forwarding.tables).flows place ≡ Some (entry_of own.now) }
+    requires uncovered { (j : ℕ) → ¬ (Covers (table_at table switch.now.core.forwarding.tables).flows j place) }
+    requires search { IsSearch (table_at table switch.now.core.forwarding.tables).flows place search }
+    ensures { Holds (table_at table switch.now.core.forwarding.tables).flows place result }
 {
     let Search { pieces, by, missed } = search;
     if missed || !pieces.is_empty() {
         return Verdict::Open;
     }
-    let tie = is_tied(datapath, table, place, own, &by);
+    let tie = is_tied(switch, table, place, own, &by);
     Verdict::Never { by, tie }
 }
 
 // One entry covers the one at a place.
 fn covered_by<L: Lookup>(
     alloc: Global,
-    datapath: &Datapath<L>,
+    switch: &Switch<L>,
     table: u8,
     place: usize,
     own: &Entry,
     at: usize,
 ) -> Result<Verdict, AllocError>
     requires table { table < 16 }
-    requires there { slice_get (table_at table datapath.now.tables).flows place ≡ Some (entry_of own.now) }
-    requires covers { Covers (table_at table datapath.now.tables).flows at place }
-    ensures { IfOk result (Holds (table_at table datapath.now.tables).flows place) }
+    requires there { slice_get (table_at table switch.now.core.forwarding.tables).flows place ≡ Some (entry_of own.now) }
+    requires covers { Covers (table_at table switch.now.core.forwarding.tables).flows at place }
+    ensures { IfOk result (Holds (table_at table switch.now.core.forwarding.tables).flows place) }
 {
     covered_is_matched();
     let mut by = Vec::new(alloc);
     by.push(at)?;
-    let tie = is_tied(datapath, table, place, own, &by);
+    let tie = is_tied(switch, table, place, own, &by);
     Ok(Verdict::Never { by, tie })
 }
 
@@ -183,27 +183,27 @@ fn whole(own: &Entry) -> Piece
 // The verdict on an entry that no one entry covers.
 fn searched<L: Lookup>(
     alloc: Global,
-    datapath: &Datapath<L>,
+    switch: &Switch<L>,
     table: u8,
     place: usize,
     own: &Entry,
     steps: usize,
 ) -> Result<Verdict, AllocError>
     requires table { table < 16 }
-    requires there { slice_get (table_at table datapath.now.tables).flows place ≡ Some (entry_of own.now) }
-    requires uncovered { (j : ℕ) → ¬ (Covers (table_at table datapath.now.tables).flows j place) }
-    ensures { IfOk result (Holds (table_at table datapath.now.tables).flows place) }
+    requires there { slice_get (table_at table switch.now.core.forwarding.tables).flows place ≡ Some (entry_of own.now) }
+    requires uncovered { (j : ℕ) → ¬ (Covers (table_at table switch.now.core.forwarding.tables).flows j place) }
+    ensures { IfOk result (Holds (table_at table switch.now.core.forwarding.tables).flows place) }
 {
     let all = whole(own);
-    let rivals = rivals_of(alloc, datapath, table, place, own, &all)?;
+    let rivals = rivals_of(alloc, switch, table, place, own, &all)?;
     let mut search = Search::of_piece(alloc, all)?;
     for _ in 0..steps {
         let Some(piece) = search.pieces.pop() else {
-            return Ok(ended(datapath, table, place, own, search));
+            return Ok(ended(switch, table, place, own, search));
         };
         let found = step(
             alloc,
-            datapath,
+            switch,
             table,
             place,
             own,
@@ -215,26 +215,26 @@ fn searched<L: Lookup>(
             return Ok(verdict);
         }
     }
-    Ok(ended(datapath, table, place, own, search))
+    Ok(ended(switch, table, place, own, search))
 }
 
 /// The verdict on the entry of a table at a place by age, from 0. An entry that no one entry covers is searched piece by piece; it is left
 /// `Open` after so many pieces. That is no clause: `Open` promises only that no one entry covers it, or that there is no such entry.
 pub fn check_entry<L: Lookup>(
     alloc: Global,
-    datapath: &Datapath<L>,
+    switch: &Switch<L>,
     table: u8,
     place: usize,
     steps: usize,
 ) -> Result<Verdict, AllocError>
     requires { table < 16 }
-    ensures { IfOk result (Holds (table_at table datapath.now.tables).flows place) }
+    ensures { IfOk result (Holds (table_at table switch.now.core.forwarding.tables).flows place) }
 {
-    let Some(own) = datapath.entry(table, place) else {
+    let Some(own) = switch.datapath().entry(table, place) else {
         return Ok(Verdict::Open);
     };
-    match first_cover(datapath, table, place, own) {
-        Some(at) => covered_by(alloc, datapath, table, place, own, at),
-        None => searched(alloc, datapath, table, place, own, steps),
+    match first_cover(switch, table, place, own) {
+        Some(at) => covered_by(alloc, switch, table, place, own, at),
+        None => searched(alloc, switch, table, place, own, steps),
     }
 }

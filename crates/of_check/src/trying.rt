@@ -7,8 +7,8 @@ use crate::frames::frame_of;
 use crate::piece::Piece;
 use crate::verdict::Verdict;
 use of_classifier::Lookup;
-use of_datapath::Datapath;
 use of_headers::read;
+use of_switch::Switch;
 use of_wire::limits::{OFPP_CONTROLLER, OFPP_MAX};
 use std::alloc::{AllocError, Global};
 
@@ -35,7 +35,7 @@ fn is_ingress(port: u32) -> bool
 
 /// Whether the entry at a place wins the lookup of a frame, which a switch may receive.
 fn wins<L: Lookup>(
-    datapath: &Datapath<L>,
+    switch: &Switch<L>,
     table: u8,
     place: usize,
     frame: &[u8],
@@ -43,7 +43,7 @@ fn wins<L: Lookup>(
     metadata: u64,
 ) -> bool
     requires { table < 16 }
-    ensures { result ≡ true → WinsWith (table_at table datapath.now.tables).flows place
+    ensures { result ≡ true → WinsWith (table_at table switch.now.core.forwarding.tables).flows place
         (record { frame = frame.now; in_port = in_port; metadata = metadata }) }
 {
     if !is_ingress(in_port) {
@@ -52,7 +52,7 @@ fn wins<L: Lookup>(
     let Ok(headers) = read(frame, in_port, metadata) else {
         return false;
     };
-    match datapath.winner(table, &headers.key()) {
+    match switch.datapath().winner(table, &headers.key()) {
         Some(winner) => winner == place,
         None => false,
     }
@@ -61,18 +61,18 @@ fn wins<L: Lookup>(
 /// Makes a packet of the piece, and looks it up. None where the entry at the place does not win with it.
 pub fn tried<L: Lookup>(
     alloc: Global,
-    datapath: &Datapath<L>,
+    switch: &Switch<L>,
     table: u8,
     place: usize,
     piece: &Piece,
 ) -> Result<Option<Verdict>, AllocError>
     requires { table < 16 }
-    ensures { IfOk result (λ found. IfSome found (Holds (table_at table datapath.now.tables).flows place)) }
+    ensures { IfOk result (λ found. IfSome found (Holds (table_at table switch.now.core.forwarding.tables).flows place)) }
 {
     let frame = frame_of(alloc, piece)?;
     let in_port = port_of(piece);
     let metadata = piece.seen.numbers.metadata;
-    if !wins(datapath, table, place, &frame, in_port, metadata) {
+    if !wins(switch, table, place, &frame, in_port, metadata) {
         return Ok(None);
     }
     Ok(Some(Verdict::Wins {

@@ -286,9 +286,9 @@ fn too_few_steps(rt: HostRuntime) -> Result<(), Fail> {
         .ok_or("a configuration")?;
     let mut switch = Switch::<Scan>::new(rt.alloc(), 1)?;
     switch.load(&config)?;
-    let covered = check_entry(rt.alloc(), switch.datapath(), 0, 2, 0)?;
+    let covered = check_entry(rt.alloc(), &switch, 0, 2, 0)?;
     assert!(rt; matches!(covered, Verdict::Never { .. }));
-    let searched = check_entry(rt.alloc(), switch.datapath(), 0, 3, 2)?;
+    let searched = check_entry(rt.alloc(), &switch, 0, 3, 2)?;
     assert!(rt; matches!(searched, Verdict::Open));
     Ok(())
 }

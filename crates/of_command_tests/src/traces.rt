@@ -154,7 +154,7 @@ fn explained<L: Lookup>(alloc: Global, switch: &Switch<L>, port: u32) -> Result<
     let traced = trace(alloc, switch, port, &FRAME)?;
     Ok(explain(
         alloc,
-        switch.datapath(),
+        switch,
         Style::Lines,
         Asked::Nothing,
         port,
@@ -233,12 +233,7 @@ fn play<L: Lookup>(
             is_text(rt, place, &text_of(alloc, switch, port, text)?, wanted);
         }
         Step::Reason(port, entry, reason) => {
-            is_reason(
-                rt,
-                place,
-                why(switch.datapath(), 0, &key_of(port)?, entry),
-                reason,
-            );
+            is_reason(rt, place, why(switch, 0, &key_of(port)?, entry), reason);
         }
         Step::Frame(port, count) => is_count(rt, place, switch.frame(port, &FRAME)?.len(), count),
     }

@@ -23,7 +23,7 @@ fn write_state<L: Lookup, W: Sink>(
     ensures write_fault { (ended_as result ≡ Ended.WriteFault) ↔ (0 < W.failures writer.new) }
 {
     match switch.config() {
-        Ok(config) => write_report(alloc, switch.datapath(), &config, &[], steps, form, writer),
+        Ok(config) => write_report(alloc, switch, &config, &[], steps, form, writer),
         Err(_) => Err(Ended::NoMemory),
     }
 }

@@ -49,15 +49,7 @@ pub fn report_flows<L: Lookup, S: Source, W: Sink>(
         Err(ended) => return Err(ended),
     };
     match loaded::<L>(alloc, &config) {
-        Ok(switch) => write_report(
-            alloc,
-            switch.datapath(),
-            &config,
-            lines,
-            steps,
-            form,
-            writer,
-        ),
+        Ok(switch) => write_report(alloc, &switch, &config, lines, steps, form, writer),
         Err(_) => Err(Ended::NoMemory),
     }
 }

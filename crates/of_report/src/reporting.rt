@@ -8,9 +8,9 @@ use crate::json::json_of;
 use crate::report::words_of;
 use of_check::{Finding, check};
 use of_classifier::Lookup;
-use of_datapath::Datapath;
 use of_remarks::{Remark, remarks_on};
 use of_replay::{Ended, Sink, write_all};
+use of_switch::Switch;
 use of_text::Config;
 use std::alloc::{AllocError, Global};
 
@@ -43,13 +43,13 @@ fn text_of(
     }
 }
 
-/// Writes the report on the entries of a datapath, each after at most so many steps, and on its configuration, whose entries have these lines, by
+/// Writes the report on the entries of a switch, each after at most so many steps, and on its configuration, whose entries have these lines, by
 /// table, then by age. Ok says whether something was found.
 ///
 /// Err is `WriteFault`, where a write failed and a prefix of the text was written; or `NoMemory`, where nothing was.
 pub fn write_report<L: Lookup, W: Sink>(
     alloc: Global,
-    datapath: &Datapath<L>,
+    switch: &Switch<L>,
     config: &Config,
     lines: &[Vec<usize>],
     steps: usize,
@@ -57,11 +57,11 @@ pub fn write_report<L: Lookup, W: Sink>(
     writer: &mut W,
 ) -> Result<bool, Ended>
     requires { W.failures writer.old ≡ 0 }
-    ensures output { Writes (IsReport result form (view_lines lines.now) datapath.now.tables config.now) (ended_as result)
+    ensures output { Writes (IsReport result form (view_lines lines.now) switch.now.core.forwarding.tables config.now) (ended_as result)
         (W.taken writer.old) (W.taken writer.new) }
     ensures write_fault { (ended_as result ≡ Ended.WriteFault) ↔ (0 < W.failures writer.new) }
 {
-    let Ok(findings) = check(alloc, datapath, steps) else {
+    let Ok(findings) = check(alloc, switch, steps) else {
         return Err(Ended::NoMemory);
     };
     let Ok(remarks) = remarks_on(alloc, config) else {

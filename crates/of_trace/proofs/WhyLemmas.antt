@@ -10,7 +10,16 @@ use Rattle.of_classifier.specs.Winner.{winner_of, number_of, Wins}
 use Rattle.of_classifier.proofs.WinnerLaw.{wins_both, none_both}
 use Rattle.of_table.specs.Table.{FlowEntry, rows_from, winner_place}
 use Rattle.of_table.specs.Tables.{table_at}
+use Rattle.of_datapath.specs.Datapath.{Forwarding, winner_in}
 use Rattle.of_trace.specs.Why.{HasDifference, IsBeaten, HasLowerPriority, IsYounger}
+
+-- ---- what the datapath that a switch lends answers is so of the switch
+
+pub lent_winner : {f lent : Forwarding} (t : ℕ) (map : Field → Option ℕ) {found : Option ℕ} → f ≡ lent → found ≡ winner_in lent t map → winner_place map (table_at t f.tables).flows ≡ found
+lent_winner t map same is = ap (λ (x : Forwarding). winner_in x t map) same ∙ sym is
+
+pub lent_entry : {f lent : Forwarding} (t place : ℕ) {found : Option FlowEntry} → f ≡ lent → found ≡ slice_get (table_at t lent.tables).flows place → slice_get (table_at t f.tables).flows place ≡ found
+lent_entry t place same is = ap (λ (x : Forwarding). slice_get (table_at t x.tables).flows place) same ∙ sym is
 
 -- ---- what a classifier sees of the entries
 

@@ -8,9 +8,9 @@ ghost use Rattle.of_trace.specs.Notes.{change_note, change_notes, digits, has_fi
 
 use crate::form::Style;
 use of_classifier::Lookup;
-use of_datapath::Datapath;
 use of_headers::{Field, FieldKey};
 use of_oxm::MatchField;
+use of_switch::Switch;
 use of_table::Entries;
 use of_text::{begin_note, end_note, push_number, push_value};
 use of_values::push_value_words;
@@ -102,15 +102,15 @@ pub fn push_wanted(out: &mut Vec<u8>, style: Style, e: MatchField) -> Result<(),
 fn push_seen_field<L: Lookup>(
     out: &mut Vec<u8>,
     style: Style,
-    datapath: &Datapath<L>,
+    switch: &Switch<L>,
     table: u8,
     key: &FieldKey,
     field: Field,
 ) -> Result<(), AllocError>
     requires { table < 16 }
-    ensures { OnOk result (out.new.items ≡ out.old.items ++ seen_note style (table_at table datapath.now.tables).flows (value key.now) field) }
+    ensures { OnOk result (out.new.items ≡ out.old.items ++ seen_note style (table_at table switch.now.core.forwarding.tables).flows (value key.now) field) }
 {
-    if looks_at(datapath.entries(table), field) {
+    if looks_at(switch.datapath().entries(table), field) {
         begin_note(out)?;
         out.extend_from_slice(b"sees ")?;
         out.extend_from_slice(field.name())?;
@@ -124,17 +124,17 @@ fn push_seen_field<L: Lookup>(
 fn push_seen_of<L: Lookup>(
     out: &mut Vec<u8>,
     style: Style,
-    datapath: &Datapath<L>,
+    switch: &Switch<L>,
     table: u8,
     key: &FieldKey,
     fields: &[Field],
 ) -> Result<(), AllocError>
     requires { table < 16 }
-    ensures { OnOk result (out.new.items ≡ out.old.items ++ flat_map (seen_note style (table_at table datapath.now.tables).flows (value key.now))
+    ensures { OnOk result (out.new.items ≡ out.old.items ++ flat_map (seen_note style (table_at table switch.now.core.forwarding.tables).flows (value key.now))
         fields.now) }
 {
     for field in fields {
-        push_seen_field(out, style, datapath, table, key, *field)?;
+        push_seen_field(out, style, switch, table, key, *field)?;
     }
     Ok(())
 }
@@ -143,14 +143,14 @@ fn push_seen_of<L: Lookup>(
 pub fn push_seen<L: Lookup>(
     out: &mut Vec<u8>,
     style: Style,
-    datapath: &Datapath<L>,
+    switch: &Switch<L>,
     table: u8,
     key: &FieldKey,
 ) -> Result<(), AllocError>
     requires { table < 16 }
-    ensures { OnOk result (out.new.items ≡ out.old.items ++ seen_notes style (table_at table datapath.now.tables).flows (value key.now)) }
+    ensures { OnOk result (out.new.items ≡ out.old.items ++ seen_notes style (table_at table switch.now.core.forwarding.tables).flows (value key.now)) }
 {
-    push_seen_of(out, style, datapath, table, key, &Field::ALL)
+    push_seen_of(out, style, switch, table, key, &Field::ALL)
 }
 
 fn is_same(old: Option<u128>, new: Option<u128>) -> bool

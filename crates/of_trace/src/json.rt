@@ -10,13 +10,13 @@ ghost use Rattle.of_trace.specs.Words.{flow_there};
 use crate::traces::Trace;
 use of_actions::Action;
 use of_classifier::Lookup;
-use of_datapath::{Datapath, Effect};
 use of_headers::Field;
 use of_json::{
     push_bytes_member, push_key, push_match_object, push_number_member, push_quoted,
     push_text_member,
 };
 use of_machine::Step;
+use of_switch::{Effect, Switch};
 use of_table::Flow;
 use of_values::{push_hexadecimal, push_port, push_value_words};
 use of_wire::limits::TABLES;
@@ -103,16 +103,16 @@ fn push_flow(out: &mut Vec<u8>, flow: &Flow) -> Result<(), AllocError>
 #[tactic(auto, unfolding(crate::specs::Json::flow_members))]
 fn push_entry<L: Lookup>(
     out: &mut Vec<u8>,
-    datapath: &Datapath<L>,
+    switch: &Switch<L>,
     table: u8,
     place: usize,
 ) -> Result<(), AllocError>
-    ensures { OnOk result (out.new.items ≡ out.old.items ++ flow_members (flow_there datapath.now table place)) }
+    ensures { OnOk result (out.new.items ≡ out.old.items ++ flow_members (flow_there switch.now.core.forwarding table place)) }
 {
     if table >= TABLES {
         return Ok(());
     }
-    match datapath.entry(table, place) {
+    match switch.datapath().entry(table, place) {
         Some(entry) => push_flow(out, &entry.flow),
         None => Ok(()),
     }
@@ -145,19 +145,15 @@ fn push_action(out: &mut Vec<u8>, action: Action) -> Result<(), AllocError>
 }
 
 #[tactic(auto, unfolding(crate::specs::Json::step_members))]
-fn push_step<L: Lookup>(
-    out: &mut Vec<u8>,
-    datapath: &Datapath<L>,
-    step: Step,
-) -> Result<(), AllocError>
-    ensures { OnOk result (out.new.items ≡ out.old.items ++ step_members datapath.now step) }
+fn push_step<L: Lookup>(out: &mut Vec<u8>, switch: &Switch<L>, step: Step) -> Result<(), AllocError>
+    ensures { OnOk result (out.new.items ≡ out.old.items ++ step_members switch.now.core.forwarding step) }
 {
     match step {
         Step::Miss(table) => push_numbered(out, b"miss", b"table", u128::from(table)),
         Step::Entry { table, number } => {
             push_numbered(out, b"entry", b"table", u128::from(table))?;
             push_number_member(out, b"entry", number as u128)?;
-            push_entry(out, datapath, table, number)
+            push_entry(out, switch, table, number)
         }
         Step::Apply => push_named(out, b"apply"),
         Step::Clear => push_named(out, b"clear"),
@@ -178,27 +174,27 @@ fn push_step<L: Lookup>(
 #[tactic(auto, unfolding(crate::specs::Json::step_object))]
 fn push_step_object<L: Lookup>(
     out: &mut Vec<u8>,
-    datapath: &Datapath<L>,
+    switch: &Switch<L>,
     step: Step,
 ) -> Result<(), AllocError>
-    ensures { OnOk result (out.new.items ≡ out.old.items ++ step_object datapath.now step) }
+    ensures { OnOk result (out.new.items ≡ out.old.items ++ step_object switch.now.core.forwarding step) }
 {
     out.push(b'{')?;
-    push_step(out, datapath, step)?;
+    push_step(out, switch, step)?;
     out.push(b'}')?;
     Ok(())
 }
 
 fn push_further_steps<L: Lookup>(
     out: &mut Vec<u8>,
-    datapath: &Datapath<L>,
+    switch: &Switch<L>,
     steps: &[Step],
 ) -> Result<(), AllocError>
-    ensures { OnOk result (out.new.items ≡ out.old.items ++ flat_map (λ s. 44 ∷ step_object datapath.now s) steps.now) }
+    ensures { OnOk result (out.new.items ≡ out.old.items ++ flat_map (λ s. 44 ∷ step_object switch.now.core.forwarding s) steps.now) }
 {
     for step in steps {
         out.push(b',')?;
-        push_step_object(out, datapath, *step)?;
+        push_step_object(out, switch, *step)?;
     }
     Ok(())
 }
@@ -206,16 +202,16 @@ fn push_further_steps<L: Lookup>(
 // Appends steps, with commas between them.
 fn push_steps<L: Lookup>(
     out: &mut Vec<u8>,
-    datapath: &Datapath<L>,
+    switch: &Switch<L>,
     steps: &[Step],
 ) -> Result<(), AllocError>
-    ensures { OnOk result (out.new.items ≡ out.old.items ++ listed (step_object datapath.now) steps.now) }
+    ensures { OnOk result (out.new.items ≡ out.old.items ++ listed (step_object switch.now.core.forwarding) steps.now) }
 {
     match steps {
         [] => Ok(()),
         [first, others @ ..] => {
-            push_step_object(out, datapath, *first)?;
-            push_further_steps(out, datapath, others)
+            push_step_object(out, switch, *first)?;
+            push_further_steps(out, switch, others)
         }
     }
 }
@@ -300,12 +296,12 @@ fn push_head(alloc: Global, out: &mut Vec<u8>, port: u32, frame: &[u8]) -> Resul
 #[tactic(auto, unfolding(crate::specs::Json::trace_json))]
 pub fn print_json<L: Lookup>(
     alloc: Global,
-    datapath: &Datapath<L>,
+    switch: &Switch<L>,
     port: u32,
     frame: &[u8],
     trace: &Trace,
 ) -> Result<Vec<u8>, AllocError>
-    ensures { IfOk result (λ text. text.items ≡ trace_json datapath.now port frame.now trace.now.steps.items trace.now.effects.items) }
+    ensures { IfOk result (λ text. text.items ≡ trace_json switch.now.core.forwarding port frame.now trace.now.steps.items trace.now.effects.items) }
 {
     let mut out = Vec::new(alloc);
     out.push(b'{')?;
@@ -313,7 +309,7 @@ pub fn print_json<L: Lookup>(
     out.push(b',')?;
     push_key(&mut out, b"steps")?;
     out.push(b'[')?;
-    push_steps(&mut out, datapath, &trace.steps)?;
+    push_steps(&mut out, switch, &trace.steps)?;
     out.extend_from_slice(b"],")?;
     push_key(&mut out, b"effects")?;
     out.push(b'[')?;

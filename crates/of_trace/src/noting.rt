@@ -24,11 +24,11 @@ use crate::traces::Trace;
 use crate::words::{push_heading, push_leaving, push_words_line};
 use of_actions::Action;
 use of_classifier::Lookup;
-use of_datapath::{Datapath, Effect};
 use of_headers::FieldKey;
 use of_machine::Step;
 use of_oxm::MatchField;
 use of_replay::push_effects;
+use of_switch::{Effect, Switch};
 use of_table::Flow;
 use of_text::{FlowHead, Row, begin_note, end_note, push_note, push_row};
 use of_wire::limits::TABLES;
@@ -80,16 +80,16 @@ fn push_flow_notes(out: &mut Vec<u8>, table: u8, flow: &Flow) -> Result<(), Allo
 // Appends what the entry at that place is.
 fn push_found_notes<L: Lookup>(
     out: &mut Vec<u8>,
-    datapath: &Datapath<L>,
+    switch: &Switch<L>,
     table: u8,
     place: usize,
 ) -> Result<(), AllocError>
-    ensures { OnOk result (out.new.items ≡ out.old.items ++ entry_notes table (flow_there datapath.now table place)) }
+    ensures { OnOk result (out.new.items ≡ out.old.items ++ entry_notes table (flow_there switch.now.core.forwarding table place)) }
 {
     if table >= TABLES {
         return Ok(());
     }
-    match datapath.entry(table, place) {
+    match switch.datapath().entry(table, place) {
         Some(entry) => push_flow_notes(out, table, &entry.flow),
         None => Ok(()),
     }
@@ -99,14 +99,14 @@ fn push_found_notes<L: Lookup>(
 fn push_entry_notes<L: Lookup>(
     out: &mut Vec<u8>,
     style: Style,
-    datapath: &Datapath<L>,
+    switch: &Switch<L>,
     table: u8,
     place: usize,
 ) -> Result<(), AllocError>
-    ensures { OnOk result (out.new.items ≡ out.old.items ++ found_notes style table (flow_there datapath.now table place)) }
+    ensures { OnOk result (out.new.items ≡ out.old.items ++ found_notes style table (flow_there switch.now.core.forwarding table place)) }
 {
     match style {
-        Style::Lines => push_found_notes(out, datapath, table, place),
+        Style::Lines => push_found_notes(out, switch, table, place),
         Style::Words => Ok(()),
     }
 }
@@ -115,34 +115,34 @@ fn push_entry_notes<L: Lookup>(
 fn push_table_notes<L: Lookup>(
     out: &mut Vec<u8>,
     style: Style,
-    datapath: &Datapath<L>,
+    switch: &Switch<L>,
     asked: Asked,
     table: u8,
     key: &FieldKey,
 ) -> Result<(), AllocError>
     requires { table < 16 }
     ensures { OnOk result (out.new.items ≡ out.old.items
-        ++ table_notes style asked table (value key.now) (table_at table datapath.now.tables).flows) }
+        ++ table_notes style asked table (value key.now) (table_at table switch.now.core.forwarding.tables).flows) }
 {
-    push_seen(out, style, datapath, table, key)?;
-    push_reasons(out, style, datapath, table, key, asked)
+    push_seen(out, style, switch, table, key)?;
+    push_reasons(out, style, switch, table, key, asked)
 }
 
 // The same for one of the sixteen tables.
 fn push_look_notes<L: Lookup>(
     out: &mut Vec<u8>,
     style: Style,
-    datapath: &Datapath<L>,
+    switch: &Switch<L>,
     asked: Asked,
     table: u8,
     sight: &Sight,
 ) -> Result<(), AllocError>
-    ensures { OnOk result (out.new.items ≡ out.old.items ++ look_notes style datapath.now asked table (key_seen sight.now)) }
+    ensures { OnOk result (out.new.items ≡ out.old.items ++ look_notes style switch.now.core.forwarding asked table (key_seen sight.now)) }
 {
     if table >= TABLES {
         return Ok(());
     }
-    push_table_notes(out, style, datapath, asked, table, &sight.key())
+    push_table_notes(out, style, switch, asked, table, &sight.key())
 }
 
 // Appends the fields that a step changed.
@@ -163,18 +163,18 @@ fn push_changed(
 // Appends where an output or a group sends a packet.
 fn push_sending_notes<L: Lookup>(
     out: &mut Vec<u8>,
-    datapath: &Datapath<L>,
+    switch: &Switch<L>,
     action: Action,
     sight: &Sight,
 ) -> Result<(), AllocError>
-    ensures { OnOk result (out.new.items ≡ out.old.items ++ sending_notes datapath.now sight.now action) }
+    ensures { OnOk result (out.new.items ≡ out.old.items ++ sending_notes switch.now.core.forwarding sight.now action) }
 {
     match action {
         Action::Output { port, .. } => {
-            let ports = &datapath.ports;
+            let ports = &switch.datapath().ports;
             push_output_note(out, ports.as_slice(), sight.ingress, port)
         }
-        Action::Group(group) => push_group_notes(out, datapath, group),
+        Action::Group(group) => push_group_notes(out, switch, group),
         _ => Ok(()),
     }
 }
@@ -193,27 +193,27 @@ fn push_miss_note(out: &mut Vec<u8>, style: Style, table: u8) -> Result<(), Allo
 fn push_notes<L: Lookup>(
     out: &mut Vec<u8>,
     style: Style,
-    datapath: &Datapath<L>,
+    switch: &Switch<L>,
     asked: Asked,
     sight: &Sight,
     step: Step,
     after: &Sight,
 ) -> Result<(), AllocError>
     requires { after.now ≡ sight_after step sight.now }
-    ensures { OnOk result (out.new.items ≡ out.old.items ++ notes_of style datapath.now asked sight.now step) }
+    ensures { OnOk result (out.new.items ≡ out.old.items ++ notes_of style switch.now.core.forwarding asked sight.now step) }
 {
     match step {
         Step::Miss(table) => {
             push_miss_note(out, style, table)?;
-            push_look_notes(out, style, datapath, asked, table, sight)
+            push_look_notes(out, style, switch, asked, table, sight)
         }
         Step::Entry { table, number } => {
-            push_entry_notes(out, style, datapath, table, number)?;
-            push_look_notes(out, style, datapath, asked, table, sight)
+            push_entry_notes(out, style, switch, table, number)?;
+            push_look_notes(out, style, switch, asked, table, sight)
         }
         Step::Metadata { .. } => push_changed(out, style, step, sight, after),
         Step::Act(action) => {
-            push_sending_notes(out, datapath, action, sight)?;
+            push_sending_notes(out, switch, action, sight)?;
             push_changed(out, style, step, sight, after)
         }
         Step::TtlExpired => push_note(out, b"its work ends here"),
@@ -226,21 +226,21 @@ fn push_step_notes<L: Lookup>(
     alloc: Global,
     out: &mut Vec<u8>,
     style: Style,
-    datapath: &Datapath<L>,
+    switch: &Switch<L>,
     asked: Asked,
     packets: &mut Packets,
     step: Step,
 ) -> Result<(), AllocError>
     requires { IsTrue (is_encoded step) }
-    ensures text { OnOk result (out.new.items ≡ out.old.items ++ first_notes style datapath.now asked packets.old.items step) }
-    ensures packets { OnOk result (packets.new.items ≡ stepped (world_of datapath.now) step packets.old.items) }
+    ensures text { OnOk result (out.new.items ≡ out.old.items ++ first_notes style switch.now.core.forwarding asked packets.old.items step) }
+    ensures packets { OnOk result (packets.new.items ≡ stepped (world_of switch.now.core.forwarding) step packets.old.items) }
 {
     let Some(sight) = packets.pop_front() else {
         return Ok(());
     };
     let after = sight.after(alloc, step)?;
-    push_notes(out, style, datapath, asked, &sight, step, &after)?;
-    put_back(alloc, packets, datapath, &sight, step, after)
+    push_notes(out, style, switch, asked, &sight, step, &after)?;
+    put_back(alloc, packets, switch, &sight, step, after)
 }
 
 // Whether an action sends the packet, or copies of it.
@@ -279,15 +279,15 @@ fn push_set_note(out: &mut Vec<u8>, step: Step, behind: &[Step]) -> Result<(), A
 fn push_line<L: Lookup>(
     out: &mut Vec<u8>,
     style: Style,
-    datapath: &Datapath<L>,
+    switch: &Switch<L>,
     step: Step,
 ) -> Result<(), AllocError>
     requires { IsTrue (is_encoded step) }
-    ensures { OnOk result (out.new.items ≡ out.old.items ++ line_in style datapath.now step) }
+    ensures { OnOk result (out.new.items ≡ out.old.items ++ line_in style switch.now.core.forwarding step) }
 {
     match style {
         Style::Lines => push_step(out, step),
-        Style::Words => push_words_line(out, datapath, step),
+        Style::Words => push_words_line(out, switch, step),
     }
 }
 
@@ -296,20 +296,20 @@ fn push_explained<L: Lookup>(
     alloc: Global,
     out: &mut Vec<u8>,
     style: Style,
-    datapath: &Datapath<L>,
+    switch: &Switch<L>,
     asked: Asked,
     packets: Packets,
     steps: &[Step],
 ) -> Result<(), AllocError>
     requires { IsTrue (are_encoded steps.now) }
-    ensures { OnOk result (out.new.items ≡ out.old.items ++ explained_from style datapath.now asked packets.items steps.now) }
+    ensures { OnOk result (out.new.items ≡ out.old.items ++ explained_from style switch.now.core.forwarding asked packets.items steps.now) }
 {
     let mut packets = packets;
     let mut rest = steps;
     while let [step, behind @ ..] = rest {
-        push_line(out, style, datapath, *step)?;
+        push_line(out, style, switch, *step)?;
         out.push(b'\n')?;
-        push_step_notes(alloc, out, style, datapath, asked, &mut packets, *step)?;
+        push_step_notes(alloc, out, style, switch, asked, &mut packets, *step)?;
         push_set_note(out, *step, behind)?;
         rest = behind;
     }
@@ -321,15 +321,15 @@ fn push_beginning<L: Lookup>(
     alloc: Global,
     out: &mut Vec<u8>,
     style: Style,
-    datapath: &Datapath<L>,
+    switch: &Switch<L>,
     port: u32,
     frame: &[u8],
 ) -> Result<(), AllocError>
-    ensures { OnOk result (out.new.items ≡ out.old.items ++ heading_in style datapath.now port frame.now) }
+    ensures { OnOk result (out.new.items ≡ out.old.items ++ heading_in style switch.now.core.forwarding port frame.now) }
 {
     match style {
         Style::Lines => Ok(()),
-        Style::Words => push_heading(alloc, out, datapath, port, frame),
+        Style::Words => push_heading(alloc, out, switch, port, frame),
     }
 }
 
@@ -358,27 +358,19 @@ fn push_end(
 /// `port` and `frame` are those of the trace.
 pub fn explain<L: Lookup>(
     alloc: Global,
-    datapath: &Datapath<L>,
+    switch: &Switch<L>,
     style: Style,
     asked: Asked,
     port: u32,
     frame: &[u8],
     trace: &Trace,
 ) -> Result<Vec<u8>, AllocError>
-    ensures { IfOk result (λ text. text.items ≡ explained style datapath.now asked port frame.now trace.now.steps.items trace.now.effects.items) }
+    ensures { IfOk result (λ text. text.items ≡ explained style switch.now.core.forwarding asked port frame.now trace.now.steps.items trace.now.effects.items) }
 {
     let mut out = Vec::new(alloc);
-    push_beginning(alloc, &mut out, style, datapath, port, frame)?;
+    push_beginning(alloc, &mut out, style, switch, port, frame)?;
     let packets = enter(alloc, port, frame)?;
-    push_explained(
-        alloc,
-        &mut out,
-        style,
-        datapath,
-        asked,
-        packets,
-        &trace.steps,
-    )?;
+    push_explained(alloc, &mut out, style, switch, asked, packets, &trace.steps)?;
     push_end(alloc, &mut out, style, &trace.effects)?;
     Ok(out)
 }

@@ -7,10 +7,10 @@ ghost use Rattle.of_datapath.specs.Datapath.{world_of};
 use crate::sight::Sight;
 use of_actions::Action;
 use of_classifier::Lookup;
-use of_datapath::Datapath;
 use of_headers::check_length;
 use of_machine::Step;
 use of_rewrite::Frame;
+use of_switch::Switch;
 use of_wire::limits::OFPP_TABLE;
 use std::alloc::{AllocError, Global};
 use std::collections::VecDeque;
@@ -83,15 +83,15 @@ fn put_fresh(
 fn put_action_copies<L: Lookup>(
     alloc: Global,
     packets: &mut Packets,
-    datapath: &Datapath<L>,
+    switch: &Switch<L>,
     sight: &Sight,
     action: Action,
 ) -> Result<(), AllocError>
-    ensures { OnOk result (packets.new.items ≡ action_copies (world_of datapath.now) action sight.now ++ packets.old.items) }
+    ensures { OnOk result (packets.new.items ≡ action_copies (world_of switch.now.core.forwarding) action sight.now ++ packets.old.items) }
 {
     match action {
         Action::Output { port, .. } => put_fresh(alloc, packets, sight, port),
-        Action::Group(group) => match datapath.buckets_for(group) {
+        Action::Group(group) => match switch.datapath().buckets_for(group) {
             None => Ok(()),
             Some(places) => put_copies(alloc, packets, sight, places.as_slice().len()),
         },
@@ -103,20 +103,20 @@ fn put_action_copies<L: Lookup>(
 pub fn put_back<L: Lookup>(
     alloc: Global,
     packets: &mut Packets,
-    datapath: &Datapath<L>,
+    switch: &Switch<L>,
     sight: &Sight,
     step: Step,
     after: Sight,
 ) -> Result<(), AllocError>
     requires { after ≡ sight_after step sight.now }
-    ensures { OnOk result (packets.new.items ≡ after_step (world_of datapath.now) step sight.now ++ packets.old.items) }
+    ensures { OnOk result (packets.new.items ≡ after_step (world_of switch.now.core.forwarding) step sight.now ++ packets.old.items) }
 {
     if let Step::End = step {
         return Ok(());
     }
     packets.push_front(after)?;
     if let Step::Act(action) = step {
-        put_action_copies(alloc, packets, datapath, sight, action)?;
+        put_action_copies(alloc, packets, switch, sight, action)?;
     }
     Ok(())
 }

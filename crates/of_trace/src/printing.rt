@@ -10,9 +10,9 @@ use crate::traces::Trace;
 use crate::words::{push_heading, push_leaving, push_words};
 use of_actions::Action;
 use of_classifier::Lookup;
-use of_datapath::Datapath;
 use of_machine::Step;
 use of_replay::push_effects;
+use of_switch::Switch;
 use of_text::{Row, push_number, push_row};
 use std::alloc::{AllocError, Global};
 
@@ -81,16 +81,16 @@ pub fn print(alloc: Global, trace: &Trace) -> Result<Vec<u8>, AllocError>
 /// The text of a trace in words: the frame, a line for each step, and what leaves. `port` and `frame` are those of the trace.
 pub fn print_words<L: Lookup>(
     alloc: Global,
-    datapath: &Datapath<L>,
+    switch: &Switch<L>,
     port: u32,
     frame: &[u8],
     trace: &Trace,
 ) -> Result<Vec<u8>, AllocError>
-    ensures { IfOk result (λ text. text.items ≡ plain Words datapath.now port frame.now trace.now.steps.items trace.now.effects.items) }
+    ensures { IfOk result (λ text. text.items ≡ plain Words switch.now.core.forwarding port frame.now trace.now.steps.items trace.now.effects.items) }
 {
     let mut out = Vec::new(alloc);
-    push_heading(alloc, &mut out, datapath, port, frame)?;
-    push_words(&mut out, datapath, &trace.steps)?;
+    push_heading(alloc, &mut out, switch, port, frame)?;
+    push_words(&mut out, switch, &trace.steps)?;
     push_leaving(alloc, &mut out, &trace.effects)?;
     Ok(out)
 }

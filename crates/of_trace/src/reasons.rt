@@ -10,8 +10,8 @@ use crate::fields::{push_found, push_wanted};
 use crate::form::{Asked, Style};
 use crate::reason::Reason;
 use of_classifier::Lookup;
-use of_datapath::Datapath;
 use of_headers::FieldKey;
+use of_switch::Switch;
 use of_table::Entry;
 use of_text::{begin_note, end_note, push_number};
 use std::alloc::AllocError;
@@ -83,21 +83,21 @@ fn push_reason_note(
 pub fn push_reasons<L: Lookup>(
     out: &mut Vec<u8>,
     style: Style,
-    datapath: &Datapath<L>,
+    switch: &Switch<L>,
     table: u8,
     key: &FieldKey,
     asked: Asked,
 ) -> Result<(), AllocError>
     requires { table < 16 }
     ensures { OnOk result (out.new.items ≡ out.old.items
-        ++ reasons_from style asked table (value key.now) (table_at table datapath.now.tables).flows 0
-        (table_at table datapath.now.tables).flows) }
+        ++ reasons_from style asked table (value key.now) (table_at table switch.now.core.forwarding.tables).flows 0
+        (table_at table switch.now.core.forwarding.tables).flows) }
 {
-    let winner = winner_in(datapath, table, key);
+    let winner = winner_in(switch, table, key);
     let mut place = 0;
-    for entry in datapath.entries(table) {
+    for entry in switch.datapath().entries(table) {
         if asks(asked, table, entry) {
-            let reason = why_where(datapath, table, key, place, winner);
+            let reason = why_where(switch, table, key, place, winner);
             push_reason_note(out, style, entry, place, reason)?;
         }
         place += 1;

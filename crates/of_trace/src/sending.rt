@@ -6,8 +6,8 @@ ghost use Rattle.of_trace.specs.Notes.{bucket_notes, group_notes, is_many as goe
 
 use crate::notes::push_number_note;
 use of_classifier::Lookup;
-use of_datapath::Datapath;
 use of_ports::{Port, find_port};
+use of_switch::Switch;
 use of_text::{begin_note, end_note, push_note, push_number};
 use of_wire::limits::{OFPP_ALL, OFPP_CONTROLLER, OFPP_FLOOD, OFPP_IN_PORT, OFPP_TABLE};
 use std::alloc::AllocError;
@@ -80,12 +80,12 @@ fn push_bucket_notes(out: &mut Vec<u8>, places: &[u8]) -> Result<(), AllocError>
 /// Appends which buckets of a group run.
 pub fn push_group_notes<L: Lookup>(
     out: &mut Vec<u8>,
-    datapath: &Datapath<L>,
+    switch: &Switch<L>,
     group: u32,
 ) -> Result<(), AllocError>
-    ensures { OnOk result (out.new.items ≡ out.old.items ++ group_notes group ((world_of datapath.now).chosen group)) }
+    ensures { OnOk result (out.new.items ≡ out.old.items ++ group_notes group ((world_of switch.now.core.forwarding).chosen group)) }
 {
-    let Some(places) = datapath.buckets_for(group) else {
+    let Some(places) = switch.datapath().buckets_for(group) else {
         return push_number_note(out, b"there is no group", group);
     };
     if places.as_slice().is_empty() {

@@ -13,10 +13,10 @@ use crate::sight::Sight;
 use of_actions::Action;
 use of_build::push_hex;
 use of_classifier::Lookup;
-use of_datapath::{Datapath, Effect};
 use of_headers::{Field, FieldKey};
 use of_machine::Step;
 use of_ports::{Port, find_port};
+use of_switch::{Effect, Switch};
 use of_table::Flow;
 use of_text::{Row, push_number, push_row};
 use of_values::{push_entry_words, push_port, push_value_words};
@@ -186,17 +186,17 @@ fn push_absent(out: &mut Vec<u8>, port: Option<&Port>) -> Result<(), AllocError>
 pub fn push_heading<L: Lookup>(
     alloc: Global,
     out: &mut Vec<u8>,
-    datapath: &Datapath<L>,
+    switch: &Switch<L>,
     port: u32,
     frame: &[u8],
 ) -> Result<(), AllocError>
-    ensures { OnOk result (out.new.items ≡ out.old.items ++ ended (heading datapath.now port frame.now)) }
+    ensures { OnOk result (out.new.items ≡ out.old.items ++ ended (heading switch.now.core.forwarding port frame.now)) }
 {
     let packet = arrived(alloc, port, frame)?;
     out.extend_from_slice(b"in_port ")?;
     push_port(out, u128::from(port))?;
     push_packet(out, frame, &packet)?;
-    push_absent(out, find_port(datapath.ports.as_slice(), port))?;
+    push_absent(out, find_port(switch.datapath().ports.as_slice(), port))?;
     out.push(b'\n')?;
     Ok(())
 }
@@ -205,16 +205,16 @@ pub fn push_heading<L: Lookup>(
 #[tactic(auto, unfolding(crate::specs::Words::found_words))]
 fn push_entry<L: Lookup>(
     out: &mut Vec<u8>,
-    datapath: &Datapath<L>,
+    switch: &Switch<L>,
     table: u8,
     place: usize,
 ) -> Result<(), AllocError>
-    ensures { OnOk result (out.new.items ≡ out.old.items ++ found_words (flow_there datapath.now table place)) }
+    ensures { OnOk result (out.new.items ≡ out.old.items ++ found_words (flow_there switch.now.core.forwarding table place)) }
 {
     if table >= TABLES {
         return Ok(());
     }
-    match datapath.entry(table, place) {
+    match switch.datapath().entry(table, place) {
         Some(entry) => push_flow_words(out, &entry.flow),
         None => Ok(()),
     }
@@ -317,11 +317,11 @@ fn push_plain(out: &mut Vec<u8>, step: Step) -> Result<(), AllocError>
 #[tactic(auto, unfolding(crate::specs::Words::words_line))]
 pub fn push_words_line<L: Lookup>(
     out: &mut Vec<u8>,
-    datapath: &Datapath<L>,
+    switch: &Switch<L>,
     step: Step,
 ) -> Result<(), AllocError>
     requires { IsTrue (is_encoded step) }
-    ensures { OnOk result (out.new.items ≡ out.old.items ++ words_line datapath.now step) }
+    ensures { OnOk result (out.new.items ≡ out.old.items ++ words_line switch.now.core.forwarding step) }
 {
     match step {
         Step::Miss(table) => {
@@ -331,7 +331,7 @@ pub fn push_words_line<L: Lookup>(
         Step::Entry { table, number } => {
             push_numbered(out, b"table", u64::from(table))?;
             push_numbered(out, b": entry", number as u64)?;
-            push_entry(out, datapath, table, number)
+            push_entry(out, switch, table, number)
         }
         Step::Act(action) => push_action(out, action),
         Step::Apply
@@ -348,14 +348,14 @@ pub fn push_words_line<L: Lookup>(
 /// Appends the lines of steps in words.
 pub fn push_words<L: Lookup>(
     out: &mut Vec<u8>,
-    datapath: &Datapath<L>,
+    switch: &Switch<L>,
     steps: &[Step],
 ) -> Result<(), AllocError>
     requires { IsTrue (are_encoded steps.now) }
-    ensures { OnOk result (out.new.items ≡ out.old.items ++ words_text datapath.now steps.now) }
+    ensures { OnOk result (out.new.items ≡ out.old.items ++ words_text switch.now.core.forwarding steps.now) }
 {
     for step in steps {
-        push_words_line(out, datapath, *step)?;
+        push_words_line(out, switch, *step)?;
         out.push(b'\n')?;
     }
     Ok(())

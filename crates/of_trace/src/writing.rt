@@ -11,7 +11,6 @@ use crate::printing::{print, print_words};
 use crate::traces::Trace;
 use crate::tracing::trace;
 use of_classifier::Lookup;
-use of_datapath::Datapath;
 use of_replay::{Ended, Sink, write_all};
 use of_switch::{Switch, SwitchError};
 use std::alloc::{AllocError, Global};
@@ -19,24 +18,24 @@ use std::alloc::{AllocError, Global};
 // The text without notes.
 fn print_in<L: Lookup>(
     alloc: Global,
-    datapath: &Datapath<L>,
+    switch: &Switch<L>,
     port: u32,
     frame: &[u8],
     style: Style,
     trace: &Trace,
 ) -> Result<Vec<u8>, AllocError>
-    ensures { IfOk result (λ text. text.items ≡ plain style datapath.now port frame.now trace.now.steps.items trace.now.effects.items) }
+    ensures { IfOk result (λ text. text.items ≡ plain style switch.now.core.forwarding port frame.now trace.now.steps.items trace.now.effects.items) }
 {
     match style {
         Style::Lines => print(alloc, trace),
-        Style::Words => print_words(alloc, datapath, port, frame, trace),
+        Style::Words => print_words(alloc, switch, port, frame, trace),
     }
 }
 
 // The text in a style and a form.
 fn styled<L: Lookup>(
     alloc: Global,
-    datapath: &Datapath<L>,
+    switch: &Switch<L>,
     port: u32,
     frame: &[u8],
     style: Style,
@@ -44,12 +43,12 @@ fn styled<L: Lookup>(
     trace: &Trace,
 ) -> Result<Vec<u8>, AllocError>
     ensures { IfOk result (λ text. text.items
-        ≡ styled_text style form datapath.now port frame.now trace.now.steps.items trace.now.effects.items) }
+        ≡ styled_text style form switch.now.core.forwarding port frame.now trace.now.steps.items trace.now.effects.items) }
 {
     match form {
-        Form::Plain => print_in(alloc, datapath, port, frame, style, trace),
-        Form::Explained => explain(alloc, datapath, style, Asked::Nothing, port, frame, trace),
-        Form::Why(asked) => explain(alloc, datapath, style, asked, port, frame, trace),
+        Form::Plain => print_in(alloc, switch, port, frame, style, trace),
+        Form::Explained => explain(alloc, switch, style, Asked::Nothing, port, frame, trace),
+        Form::Why(asked) => explain(alloc, switch, style, asked, port, frame, trace),
     }
 }
 
@@ -65,11 +64,10 @@ pub fn trace_text<L: Lookup>(
     ensures err { IfErr result (λ e. e ≡ SwitchError.NoMemory) }
 {
     let traced = trace(alloc, switch, port, frame)?;
-    let datapath = switch.datapath();
     let text = match output {
-        Output::Lines(form) => styled(alloc, datapath, port, frame, Style::Lines, form, &traced)?,
-        Output::Words(form) => styled(alloc, datapath, port, frame, Style::Words, form, &traced)?,
-        Output::Json => print_json(alloc, datapath, port, frame, &traced)?,
+        Output::Lines(form) => styled(alloc, switch, port, frame, Style::Lines, form, &traced)?,
+        Output::Words(form) => styled(alloc, switch, port, frame, Style::Words, form, &traced)?,
+        Output::Json => print_json(alloc, switch, port, frame, &traced)?,
     };
     Ok(text)
 }

@@ -7,7 +7,7 @@ use Rattle.of_check.proofs.checking.check_table.Goals as goal
 
 pub loop-entry-preserved : goal.loop-entry-preserved
 loop-entry-preserved g c =
-    let ts = c.args.datapath.now.tables in
+    let ts = c.args.switch.now.core.forwarding.tables in
     let items : c.push.new.self.items ≡ c.loop-entry.findings.items ++ record { table = c.args.table; place = c.loop-entry.place; verdict = c.in_ok-verdict.verdict } ∷ [] = search rules in
     let next : c.loop-entry.place + 1 ≡ suc c.loop-entry.place = omega arith in
     record {
@@ -18,6 +18,6 @@ loop-entry-preserved g c =
 
 pub returns : goal.returns
 returns g c =
-    let ts = c.args.datapath.now.tables in
+    let ts = c.args.switch.now.core.forwarding.tables in
     let all : c.loop-entry.place ≡ length (table_at c.args.table ts).flows = grind (arith, common_steps) in
     λ h. table_done c.args.table c.loop-entry.place ts c.loop-entry.findings.items all (c.loop-entry.invariant.found h)

@@ -5,7 +5,7 @@ use Rattle.of_check.proofs.checking.check_table.Given as goal
 
 abbrev pub invariant-loop-entry : goal.invariant-loop-entry
 invariant-loop-entry g l =
-    let ts = l.datapath.tables in
+    let ts = l.switch.core.forwarding.tables in
     record {
       few : l.place + length l._entry-iterator ≤ 4096;
       left : l.place + length l._entry-iterator ≡ length (table_at l.table ts).flows;

@@ -7,7 +7,7 @@ use Rattle.of_check.proofs.rivals.rivals_of.Goals.{then-is_rival+in_ok-push, els
 
 pub loop-entry-preserved : goal.loop-entry-preserved
 loop-entry-preserved g c =
-    let flows = (table_at c.args.table c.args.datapath.now.tables).flows in
+    let flows = (table_at c.args.table c.args.switch.now.core.forwarding.tables).flows in
     let left = c.loop-entry.entry-iterator in
     let others = c.next.new.self in
     let x = c.in-Some.entry.now in

@@ -6,7 +6,7 @@ use Rattle.of_check.proofs.rivals.rivals_of.Given as goal
 
 abbrev pub invariant-loop-entry : goal.invariant-loop-entry
 invariant-loop-entry g l =
-    let flows = (table_at l.table l.datapath.tables).flows in
+    let flows = (table_at l.table l.switch.core.forwarding.tables).flows in
     record {
       few : l.at + length l.entry-iterator ≤ 4096;
       stands : StandsAt flows l.at l.entry-iterator;

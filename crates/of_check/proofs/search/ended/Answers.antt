@@ -8,7 +8,7 @@ use Rattle.of_check.proofs.search.ended.Goals as goal
 
 pub returns : goal.returns
 returns g c =
-    let flows = (table_at c.args.table c.args.datapath.now.tables).flows in
+    let flows = (table_at c.args.table c.args.switch.now.core.forwarding.tables).flows in
     let s = c.args.search in
     let empty : c.args.search.pieces.items ≡ [] = grind (arith, common_steps) in
     (finished flows c.args.place s.by.items (subst (λ ps. UnderWay flows c.args.place ps s.by.items) empty (c.requires.search c.if-missed.false)), c.is_tied-tie.ensures ∙ ap (is_tie flows c.args.place) c.deref.ensures.value)

@@ -12,7 +12,7 @@ use Rattle.of_check.proofs.trying.wins.Goals as goal
 
 pub returns-in-Some : goal.returns-in-Some
 returns-in-Some g c same =
-    let flows = (table_at c.args.table c.args.datapath.now.tables).flows in
+    let flows = (table_at c.args.table c.args.switch.now.core.forwarding.tables).flows in
     let place_is : c.in-Some.winner ≡ c.args.place = eqb-true c.in-Some.winner c.args.place same in
     let none : frame_fault c.args.frame.now ≡ None = sym c.read.ensures.fault ∙ ap result_err c.in-Ok.is in
     record {
@@ -26,6 +26,6 @@ returns-in-Some g c same =
       ingress = c.is_ingress.ensures c.if-not-is_ingress.false;
       wins =
           ap (λ (m : Field → Option ℕ). winner_place m flows) (sym c.in-Ok.ensures.key ∙ ap value (sym c.key.ensures))
-          ∙ ap (λ (f : Forwarding). winner_in f c.args.table (value c.key.result)) refl
+          ∙ ap (λ (f : Forwarding). winner_in f c.args.table (value c.key.result)) c.datapath.ensures
           ∙ sym c.winner.ensures ∙ c.in-Some.is ∙ ap Some place_is;
     }
