@@ -7,4 +7,3 @@ pub mod RuleLemmas
 pub mod DividingLemmas
 pub mod LearningLemmas
 pub mod TaggingLemmas
-pub mod WitnessLemmas

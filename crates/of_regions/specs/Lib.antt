@@ -4,4 +4,3 @@ pub mod Meeting
 pub mod Joining
 pub mod Building
 pub mod Dividing
-pub mod Witness

@@ -6,7 +6,6 @@ mod dividing;
 mod joining;
 mod meeting;
 mod region;
-mod witness;
 
 pub use meeting::Meeting;
 pub use region::Region;
