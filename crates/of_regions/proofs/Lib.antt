@@ -7,3 +7,8 @@ pub mod RuleLemmas
 pub mod DividingLemmas
 pub mod LearningLemmas
 pub mod TaggingLemmas
+pub mod WitnessLemmas
+pub mod NamingLemmas
+pub mod LookLemmas
+pub mod SearchLemmas
+pub mod StartLemmas

@@ -4,3 +4,7 @@ pub mod Meeting
 pub mod Joining
 pub mod Building
 pub mod Dividing
+pub mod Witness
+pub mod Naming
+pub mod Searching
+pub mod Starting

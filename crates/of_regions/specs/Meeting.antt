@@ -1,6 +1,6 @@
 -- WHAT A MATCH DOES WITH A REGION: it matches none of its packets, all of them, or some; then a bit of a field is not known that the match looks at.
 use Rattle.std.specs.Prelude.{◌≡◌, ℕ, ◌==◌, ◌&&◌, Bool, true, false, not, List, Option, Some, None, bit_and}
-use Rattle.std.specs.List.{Contains}
+use Rattle.std.specs.List.{Contains, list_any}
 use Rattle.of_layers.specs.declared.field.Field.{Field}
 use Rattle.of_headers.specs.FieldMap.{value}
 use Rattle.of_oxm.specs.declared.match_field.MatchField.{MatchField}
@@ -27,7 +27,11 @@ pub record IsCrossed (r : Region) (e : MatchField) : Type 0 where
   pub unsettled : is_settled e (mask_at r.masks e.field) (value r.known e.field) ≡ false
   pub near : is_apart e (mask_at r.masks e.field) (value r.known e.field) ≡ false
 
+-- no field of the match is apart from the region
+abbrev pub IsNear : Region → List MatchField → Type 0
+IsNear r m = list_any (λ e. is_apart e (mask_at r.masks e.field) (value r.known e.field)) m ≡ false
+
 abbrev pub Meets : Region → List MatchField → Meeting → Type 0
 Meets r m Apart = (map : Field → Option ℕ) → In r map → matches_map m map ≡ false
 Meets r m Whole = (map : Field → Option ℕ) → In r map → matches_map m map ≡ true
-Meets r m (Crosses e) = Contains m e × IsCrossed r e
+Meets r m (Crosses e) = Contains m e × IsCrossed r e × IsNear r m

@@ -20,7 +20,7 @@ use of_oxm::{FieldMask, MatchField};
 use of_shapes::Tagging;
 
 // These bits without those of a mask.
-fn without(bits: u128, mask: u128) -> u128
+pub fn without(bits: u128, mask: u128) -> u128
     ensures { AreWithout bits mask result }
 {
     bits ^ (bits & mask)
@@ -44,7 +44,7 @@ fn highest(bits: u128) -> u128
     1 << bits.ilog2()
 }
 
-fn lowest(bits: u128) -> u128
+pub fn lowest(bits: u128) -> u128
     requires { 0 < bits }
     ensures { IsBitOf bits result }
 {

@@ -9,4 +9,7 @@ pub returns-in-None : goal.returns-in-None
 returns-in-None c = none_unsettled c.args.self.now c.args.fields.now (sym c.first_unsettled.ensures ∙ c.in-None.is)
 
 pub returns-in-Some : goal.returns-in-Some
-returns-in-Some c = first_crossed c.args.self.now c.args.fields.now c.in-Some.e (sym c.any_apart.ensures ∙ c.if-any_apart.false) (sym c.first_unsettled.ensures ∙ c.in-Some.is)
+returns-in-Some c =
+    let near = sym c.any_apart.ensures ∙ c.if-any_apart.false in
+    let first = first_crossed c.args.self.now c.args.fields.now c.in-Some.e near (sym c.first_unsettled.ensures ∙ c.in-Some.is) in
+    (first.0, first.1, near)

@@ -1,0 +1,39 @@
+-- What rivals do with a region, one after the other.
+use Rattle.std.proofs.Common.{◌≡◌, ◌<◌, ◌+◌, ℕ, List, Option, Some, None, arith, below_more, sym, ap, ◌∙◌, subst, refl}
+use Rattle.std.specs.Prelude.{slice_get}
+use Rattle.std.specs.List.{Contains}
+use Rattle.std.specs.Option.{option_or}
+use Rattle.std.proofs.lemmas.List.Elements.{All-contains, All-from_recursion}
+use Rattle.of_oxm.specs.declared.match_field.MatchField.{MatchField}
+use Rattle.of_oxm.specs.NormalForm.{IsKept, IsMatch}
+use Rattle.of_regions.specs.declared.meeting.Meeting.TheVariants.{Apart, Crosses}
+use Rattle.of_regions.specs.declared.region.Region.{Region}
+use Rattle.of_regions.specs.declared.rival.Rival.{Rival}
+use Rattle.of_regions.specs.Meeting.{Meets}
+use Rattle.of_regions.specs.Searching.{AreApartBefore, IsSplit}
+
+-- none of the rivals before n matches any of the region, or the first that may match some was found
+abbrev pub IsSplitSoFar : List Rival → Region → ℕ → Option (ℕ × MatchField) → Type 0
+IsSplitSoFar rivals r n None = AreApartBefore rivals r n
+IsSplitSoFar rivals r n (Some at) = IsSplit rivals r at.0 at.1
+
+pub passed_on : (rivals : List Rival) (r : Region) (n : ℕ) (split : Option (ℕ × MatchField)) (q : Rival) → slice_get rivals n ≡ Some q → Meets r q.matched.now Apart → IsSplitSoFar rivals r n split → IsSplitSoFar rivals r (n + 1) split
+passed_on rivals r n None q at apart s = λ i x lt there. below_more (λ (i : ℕ). (x : Rival) → slice_get rivals i ≡ Some x → Meets r x.matched.now Apart) n (λ i lt x there. s i x lt there) (λ x there. (let same : q ≡ x = cc in subst (λ (y : Rival). Meets r y.matched.now Apart) same apart)) i lt x there
+passed_on rivals r n (Some found) q at apart s = s
+
+-- the first of two that is there
+abbrev first_or : Option (ℕ × MatchField) → ℕ × MatchField → Option (ℕ × MatchField)
+first_or None at = Some at
+first_or (Some found) at = Some found
+
+pub or_is : (split : Option (ℕ × MatchField)) (at : ℕ × MatchField) → option_or split (Some at) ≡ first_or split at
+or_is None at = refl
+or_is (Some found) at = refl
+
+pub crossed_on : (rivals : List Rival) (r : Region) (n : ℕ) (split : Option (ℕ × MatchField)) (q : Rival) (e : MatchField) → slice_get rivals n ≡ Some q → Meets r q.matched.now (Crosses e) → IsKept e → IsSplitSoFar rivals r n split → (new : Option (ℕ × MatchField)) → new ≡ first_or split (n, e) → IsSplitSoFar rivals r (n + 1) new
+crossed_on rivals r n None q e at crosses kept s new is = subst (IsSplitSoFar rivals r (n + 1)) (sym is) (record { rival = q; there = at; crosses = crosses; kept = kept; first = s })
+crossed_on rivals r n (Some found) q e at crosses kept s new is = subst (IsSplitSoFar rivals r (n + 1)) (sym is) s
+
+-- each field of a match is in normal form
+pub kept_in : (m : List MatchField) (e : MatchField) → IsMatch m → Contains m e → IsKept e
+kept_in m e is c = All-contains IsKept m e (All-from_recursion IsKept m is.each) c

@@ -1,0 +1,131 @@
+-- A SEARCH FOR A PACKET that a match matches and none of its rivals: matches that go before it (OpenFlow 1.3.5, 5.3).
+use Rattle.std.specs.Prelude.{◌≡◌, ◌<◌, ◌≤◌, ◌⊎◌, ◌++◌, ℕ, zero, suc, true, false, List, [], ◌∷◌, length, Option, Some, None, IfSome, map, slice_get}
+use Rattle.std.specs.List.{Contains}
+use Rattle.of_layers.specs.declared.field.Field.{Field}
+use Rattle.of_layers.specs.Reading.{layers_of}
+use Rattle.of_headers.specs.FieldMap.{field_map}
+use Rattle.of_oxm.specs.declared.match_field.MatchField.{MatchField}
+use Rattle.of_oxm.specs.NormalForm.{IsKept}
+use Rattle.of_oxm.specs.Relations.{matches_map}
+use Rattle.of_rewrite.specs.Frames.{IsFrame}
+use Rattle.of_shapes.specs.declared.shape.Shape.{Shape}
+use Rattle.of_shapes.specs.declared.shape.Tagging.{Tagging}
+use Rattle.of_shapes.specs.Rules.{HasShape, IsTagging}
+use Rattle.of_regions.specs.declared.meeting.Meeting.TheVariants.{Apart, Whole, Crosses}
+use Rattle.of_regions.specs.declared.region.Region.{Region}
+use Rattle.of_regions.specs.declared.rival.Rival.{Rival}
+use Rattle.of_regions.specs.declared.looking.Rest.{Rest}
+use Rattle.of_regions.specs.declared.looking.Look.{Look}
+use Rattle.of_regions.specs.declared.looking.Look.TheVariants.{Free, Taken, Splits}
+use Rattle.of_regions.specs.declared.searching.Found.{Found}
+use Rattle.of_regions.specs.declared.searching.Found.TheVariants as found
+use Rattle.of_regions.specs.declared.witness.Packet.{Packet}
+use Rattle.of_regions.specs.Meeting.{Meets}
+use Rattle.of_regions.specs.Naming.{AreAscending}
+use Rattle.of_regions.specs.Regions.{AreParts, In}
+use Rattle.of_regions.specs.Witness.{HasNoIngress, IsReceived, fields_in}
+
+-- no rival matches it
+abbrev pub IsUnrivalled : List Rival → (Field → Option ℕ) → Type 0
+IsUnrivalled rivals fields = (q : Rival) → Contains rivals q → matches_map q.matched.now fields ≡ false
+
+-- one of the rivals of these names matches it
+abbrev pub IsRivalled : List Rival → List ℕ → (Field → Option ℕ) → Type 0
+IsRivalled rivals names fields = (q : Rival) × Contains rivals q × Contains names q.name × (matches_map q.matched.now fields ≡ true)
+
+abbrev pub InSome : List Region → (Field → Option ℕ) → Type 0
+InSome regions fields = (r : Region) × Contains regions r × In r fields
+
+-- ---- what is found
+
+-- a packet that the match matches and no rival
+pub record IsFreePacket (own : List MatchField) (rivals : List Rival) (p : Packet) : Type 0 where
+  pub received : IsReceived p
+  pub matched : matches_map own (fields_in p) ≡ true
+  pub unrivalled : IsUnrivalled rivals (fields_in p)
+
+-- each packet that the match matches is matched by one of the rivals of these names
+pub record AreTaking (own : List MatchField) (rivals : List Rival) (names : List ℕ) : Type 0 where
+  pub named : (j : ℕ) → Contains names j → (q : Rival) × Contains rivals q × (q.name ≡ j)
+  pub covered : (frame : List ℕ) (port metadata : ℕ) → IsFrame frame → matches_map own (field_map (layers_of frame) port metadata) ≡ true → IsRivalled rivals names (field_map (layers_of frame) port metadata)
+  pub ascending : AreAscending names
+
+-- packets that the match matches and no rival, but no switch receives them by such a port
+pub record IsUnreceived (own : List MatchField) (rivals : List Rival) (r : Region) : Type 0 where
+  pub matched : (fields : Field → Option ℕ) → In r fields → matches_map own fields ≡ true
+  pub unrivalled : (fields : Field → Option ℕ) → In r fields → IsUnrivalled rivals fields
+  pub ports : HasNoIngress r
+
+-- ---- steps
+
+-- the regions with which a search begins: by the shapes of packets, at most ten, with a tag and without
+pub record IsStart (own : List MatchField) (regions : List Region) : Type 0 where
+  pub few : length regions ≤ 20
+  pub matched : (r : Region) → Contains regions r → (fields : Field → Option ℕ) → In r fields → matches_map own fields ≡ true
+  pub all : (s : Shape) (t : Tagging) (fields : Field → Option ℕ) → HasShape s fields → IsTagging t fields → matches_map own fields ≡ true → InSome regions fields
+
+-- one step: the last region is dropped, since a rival matches all of it, or since it is one that no switch receives; or it is divided, where a rival may match some of it
+pub data IsStep (own : List MatchField) (rivals : List Rival) (old new : List Region) : Type 0 where
+  taken : (r : Region) (q : Rival) → old ≡ new ++ r ∷ [] → Contains rivals q → Meets r q.matched.now Whole → IsStep own rivals old new
+  unreceived : (r : Region) → old ≡ new ++ r ∷ [] → IsUnreceived own rivals r → IsStep own rivals old new
+  divided : (others : List Region) (r first second : Region) (q : Rival) (e : MatchField) → old ≡ others ++ r ∷ [] → new ≡ others ++ first ∷ second ∷ [] → Contains rivals q → Meets r q.matched.now (Crosses e) → AreParts r first second → IsStep own rivals old new
+
+abbrev pub AreSteps : List MatchField → List Rival → List Region → ℕ → List Region → Type 0
+AreSteps own rivals start zero end = end ≡ start
+AreSteps own rivals start (suc n) end = (before : List Region) × AreSteps own rivals start n before × IsStep own rivals before end
+
+-- so many steps were taken, and regions are left
+pub record IsUndecided (own : List MatchField) (rivals : List Rival) (steps : ℕ) : Type 0 where
+  pub start : List Region
+  pub begins : IsStart own start
+  pub end : List Region
+  pub left : ¬ (end ≡ [])
+  pub taken : AreSteps own rivals start steps end
+
+-- WHAT A SEARCH OF AT MOST SO MANY STEPS FINDS
+abbrev pub IsFound : List MatchField → List Rival → ℕ → Found → Type 0
+IsFound own rivals steps (found.Free p) = IsFreePacket own rivals p
+IsFound own rivals steps (found.Taken names) = AreTaking own rivals names.items
+IsFound own rivals steps (found.Unreceived r) = IsUnreceived own rivals r
+IsFound own rivals steps found.Undecided = IsUndecided own rivals steps
+
+-- ---- inside a search
+
+-- none of the rivals before an index matches any of the region
+abbrev pub AreApartBefore : List Rival → Region → ℕ → Type 0
+AreApartBefore rivals r n = (i : ℕ) (q : Rival) → i < n → slice_get rivals i ≡ Some q → Meets r q.matched.now Apart
+
+-- the rival of an index matches all of the region
+pub record IsTaken (rivals : List Rival) (r : Region) (i : ℕ) : Type 0 where
+  pub rival : Rival
+  pub there : slice_get rivals i ≡ Some rival
+  pub whole : Meets r rival.matched.now Whole
+
+-- the rival of an index is the first that may match some of the region
+pub record IsSplit (rivals : List Rival) (r : Region) (i : ℕ) (e : MatchField) : Type 0 where
+  pub rival : Rival
+  pub there : slice_get rivals i ≡ Some rival
+  pub crosses : Meets r rival.matched.now (Crosses e)
+  pub kept : IsKept e
+  pub first : AreApartBefore rivals r i
+
+abbrev pub IsLook : List Rival → Region → Look → Type 0
+IsLook rivals r Free = AreApartBefore rivals r (length rivals)
+IsLook rivals r (Taken i) = IsTaken rivals r i
+IsLook rivals r (Splits i e) = IsSplit rivals r i e
+
+-- in one of the regions that are left
+abbrev pub InRests : List Rest → (Field → Option ℕ) → Type 0
+InRests rests fields = (x : Rest) × Contains rests x × In x.region fields
+
+abbrev pub regions_in : List Rest → List Region
+regions_in rests = map (λ x. x.region) rests
+
+-- the state of a search
+pub record IsState (own : List MatchField) (rivals : List Rival) (rests : List Rest) (names : List ℕ) (unreceived : Option Region) : Type 0 where
+  pub passed : (x : Rest) → Contains rests x → AreApartBefore rivals x.region x.from
+  pub within : (x : Rest) → Contains rests x → (fields : Field → Option ℕ) → In x.region fields → matches_map own fields ≡ true
+  pub covered : unreceived ≡ None → (s : Shape) (t : Tagging) (fields : Field → Option ℕ) → HasShape s fields → IsTagging t fields → matches_map own fields ≡ true → InRests rests fields ⊎ IsRivalled rivals names fields
+  pub named : (j : ℕ) → Contains names j → (q : Rival) × Contains rivals q × (q.name ≡ j)
+  pub ascending : AreAscending names
+  pub kept : IfSome unreceived (IsUnreceived own rivals)
