@@ -8,7 +8,7 @@ use Rattle.of_layers.specs.declared.field.Field.{Field}
 use Rattle.of_oxm.specs.declared.match_field.MatchField.{MatchField}
 use Rattle.of_oxm.specs.Relations.{covers_match, matches_map}
 use Rattle.of_table.specs.Table.{FlowEntry}
-use Rattle.of_check.proofs.NamingLemmas.{first_or_behind}
+use Rattle.of_regions.proofs.NamingLemmas.{first_or_behind}
 use Rattle.of_check.specs.Verdicts.{NeverWins, GoesBefore, Covers, fields_of}
 
 -- what is said of two entries is said of those at their places

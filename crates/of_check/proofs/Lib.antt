@@ -1,13 +1,9 @@
-pub mod PieceLemmas
 pub mod WinnerLemmas
-pub mod SearchLemmas
-pub mod NamingLemmas
 pub mod CoverLemmas
 pub mod WalkLemmas
-pub mod TryingLemmas
+pub mod RivalLemmas
 pub mod FindingLemmas
 pub mod Together
-pub mod BeginLemmas
 pub mod TieLemmas
 pub mod ReachedLemmas
 pub mod IngressLemmas

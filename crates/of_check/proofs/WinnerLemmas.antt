@@ -1,5 +1,6 @@
 -- An entry that wins has no matching entry before it.
-use Rattle.std.proofs.Common.{◌≡◌, ℕ, ◌+◌, ◌≤◌, zero, suc, true, List, [], ◌∷◌, Option, Some, None, refl, sym, ap, ◌∙◌, arith, inl, inr}
+use Rattle.std.proofs.Common.{◌≡◌, ℕ, ◌+◌, ◌≤◌, ◌<◌, ◌⊎◌, zero, suc, true, false, List, [], ◌∷◌, Option, Some, None, refl, sym, ap, subst, ◌∙◌, arith, inl, inr}
+use Rattle.std.proofs.lemmas.Bool.{cases_lt}
 use Rattle.std.specs.Prelude.{slice_get}
 use Rattle.of_layers.specs.declared.field.Field.{Field}
 use Rattle.of_oxm.specs.Relations.{matches_map}
@@ -25,14 +26,15 @@ record IsEntryOf (flows : List FlowEntry) (j : ℕ) (r : Row) : Type 0 where
   entry : FlowEntry
   there : slice_get flows j ≡ Some entry
   fields : r.fields ≡ entry.flow.fields
+  priority : r.priority ≡ entry.flow.priority
 
 entry_at : (n : ℕ) (flows : List FlowEntry) (j : ℕ) (r : Row) → slice_get (rows_from n flows) j ≡ Some r → IsEntryOf flows j r
 entry_at n [] zero r h = absurd cc
 entry_at n [] (suc j) r h = absurd cc
-entry_at n (f ∷ flows) zero r h = let same : r ≡ row_of n f = cc in record { entry = f; there = refl; fields = ap (λ (x : Row). x.fields) same }
+entry_at n (f ∷ flows) zero r h = let same : r ≡ row_of n f = cc in record { entry = f; there = refl; fields = ap (λ (x : Row). x.fields) same; priority = ap (λ (x : Row). x.priority) same }
 entry_at n (f ∷ flows) (suc j) r h =
     let behind = entry_at (suc n) flows j r h in
-    record { entry = behind.entry; there = behind.there; fields = behind.fields }
+    record { entry = behind.entry; there = behind.there; fields = behind.fields; priority = behind.priority }
 
 number_at : (n : ℕ) (flows : List FlowEntry) (j : ℕ) (r : Row) → slice_get (rows_from n flows) j ≡ Some r → r.number ≡ n + j
 number_at n [] zero r h = absurd cc
@@ -98,3 +100,32 @@ never_wins flows k by never p is wins =
     let taken = never.covered p is (won_matches flows p k found refl wins) in
     let other = taken.2 in
     won_by flows (fields_of p) k found refl wins taken.0 (never.before taken.0 taken.1) other.entry other.there other.matches
+
+-- ---- an entry that matches wins, if no entry before it matches
+
+pub wins_alone : (flows : List FlowEntry) (map : Field → Option ℕ) (k : ℕ) (e : FlowEntry) → slice_get flows k ≡ Some e → matches_map e.flow.fields map ≡ true
+    → ((j : ℕ) (b : GoesBefore flows j k) → matches_map b.first.flow.fields map ≡ false) → winner_place map flows ≡ Some k
+wins_alone flows map k e there m none =
+    let r : Row = row_of (0 + k) e in
+    let wins : Wins (rows_from 0 flows) map k r = record { stands = row_at 0 flows k e there; matches = m; highest = highest; oldest = oldest } in
+    ap number_of ((wins_both (rows_from 0 flows) map r).1 (k, wins)) ∙ ap Some (omega arith)
+  where
+    no_other : (j : ℕ) (s : Row) → slice_get (rows_from 0 flows) j ≡ Some s → matches_map s.fields map ≡ true → ((e.flow.priority < s.priority) ⊎ ((s.priority ≡ e.flow.priority) × (j < k))) → ⊥
+    no_other j s at is before =
+        let x = entry_at 0 flows j s at in
+        let b : GoesBefore flows j k = record { first = x.entry; first_there = x.there; second = e; second_there = there; before = subst (λ (n : ℕ). (e.flow.priority < n) ⊎ ((n ≡ e.flow.priority) × (j < k))) x.priority before } in
+        let yes : matches_map x.entry.flow.fields map ≡ true = ap (λ m. matches_map m map) (sym x.fields) ∙ is in
+        let no : matches_map x.entry.flow.fields map ≡ false = none j b in
+        cc
+
+    highest : (j : ℕ) (s : Row) → slice_get (rows_from 0 flows) j ≡ Some s → matches_map s.fields map ≡ true → s.priority ≤ e.flow.priority
+    highest j s at is = elim (cases_lt e.flow.priority s.priority) as (λ w. s.priority ≤ e.flow.priority) [
+      | inl lt ↦ absurd (no_other j s at is (inl lt))
+      | inr le ↦ le
+    ]
+
+    oldest : (j : ℕ) (s : Row) → slice_get (rows_from 0 flows) j ≡ Some s → matches_map s.fields map ≡ true → s.priority ≡ e.flow.priority → k ≤ j
+    oldest j s at is level = elim (cases_lt j k) as (λ w. k ≤ j) [
+      | inl lt ↦ absurd (no_other j s at is (inr (level, lt)))
+      | inr le ↦ le
+    ]

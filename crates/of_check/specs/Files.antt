@@ -20,13 +20,13 @@ abbrev pub IsFound : Result Bool Ended → Bool → Type 0
 IsFound (Ok found) is = found ≡ is
 IsFound (Err ended) is = ended ≢ Done
 
--- the text of the findings on these tables and of the remarks on this configuration
-abbrev pub IsFindings : Result Bool Ended → Tables → Configuration → List ℕ → Type 0
-IsFindings result ts c text = (findings : List Finding) × Checks ts findings × (text ≡ all_text findings (remarks_on c)) × IsFound result (some_found findings (remarks_on c))
+-- the text of the findings on these tables, after so many steps at most for each entry, and of the remarks on this configuration
+abbrev pub IsFindings : Result Bool Ended → ℕ → Tables → Configuration → List ℕ → Type 0
+IsFindings result steps ts c text = (findings : List Finding) × Checks ts steps findings × (text ≡ all_text findings (remarks_on c)) × IsFound result (some_found findings (remarks_on c))
 
 -- of a configuration, and of a switch
-abbrev pub findings_in : Result Bool Ended → Configuration → List ℕ → Type 0
-findings_in result c = IsFindings result (tables_in c) c
+abbrev pub findings_in : Result Bool Ended → ℕ → Configuration → List ℕ → Type 0
+findings_in result steps c = IsFindings result steps (tables_in c) c
 
-abbrev pub findings_on : Result Bool Ended → State → List ℕ → Type 0
-findings_on result s = IsFindings result s.core.forwarding.tables (config_of s)
+abbrev pub findings_on : Result Bool Ended → ℕ → State → List ℕ → Type 0
+findings_on result steps s = IsFindings result steps s.core.forwarding.tables (config_of s)

@@ -19,11 +19,11 @@ unfoldable pub entries_below : ℕ → Tables → List (ℕ × ℕ)
 entries_below zero ts = []
 entries_below (suc k) ts = entries_below k ts ++ first_entries k (length (table_at k ts).flows)
 
--- one verdict on each of these entries, in their order, and each holds
-pub record AreFindings (entries : List (ℕ × ℕ)) (ts : Tables) (findings : List Finding) : Type 0 where
+-- one verdict on each of these entries, in their order, after so many steps at most, and each holds
+pub record AreFindings (entries : List (ℕ × ℕ)) (ts : Tables) (steps : ℕ) (findings : List Finding) : Type 0 where
   pub each : map entry_of findings ≡ entries
-  pub hold : (f : Finding) → Contains findings f → Holds (table_at f.table ts).flows f.place f.verdict
+  pub hold : (f : Finding) → Contains findings f → Holds (table_at f.table ts).flows f.place steps f.verdict
 
 -- the sixteen tables
-abbrev pub Checks : Tables → List Finding → Type 0
-Checks ts findings = AreFindings (entries_below 16 ts) ts findings
+abbrev pub Checks : Tables → ℕ → List Finding → Type 0
+Checks ts steps findings = AreFindings (entries_below 16 ts) ts steps findings

@@ -3,7 +3,5 @@ pub mod Findings
 pub mod Text
 pub mod Files
 pub mod Rules
-pub mod Pieces
-pub mod Search
 pub mod Reached
 pub mod Unseen

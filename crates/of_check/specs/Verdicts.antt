@@ -1,12 +1,16 @@
 -- WHAT IS SAID OF A FLOW ENTRY: a packet with which it wins, or the entries that leave it none (OpenFlow 1.3.5, 5.3).
-use Rattle.std.specs.Prelude.{◌≡◌, ℕ, ◌^◌, ◌<◌, ◌≤◌, ◌⊎◌, ◌==◌, Bool, true, false, List, [], ◌∷◌, length, Option, Some, slice_get}
-use Rattle.std.specs.List.{AllByRecursion, Contains, list_any}
-use Rattle.of_wire.specs.declared.limits.TheConstants.{OFPP_CONTROLLER, OFPP_MAX}
+use Rattle.std.specs.Prelude.{◌≡◌, ℕ, ◌^◌, ◌<◌, ◌≤◌, ◌⊎◌, ◌==◌, Bool, true, false, List, length, Option, Some, None, slice_get}
+use Rattle.std.specs.List.{Contains, list_any}
 use Rattle.of_layers.specs.declared.field.Field.{Field}
 use Rattle.of_layers.specs.Reading.{layers_of}
 use Rattle.of_layers.specs.WellFormed.{AreBytes}
 use Rattle.of_headers.specs.FieldMap.{field_map}
-use Rattle.of_oxm.specs.Relations.{covers_match, matches_map}
+use Rattle.of_oxm.specs.Relations.{covers_match, matches_map, overlaps_match}
+use Rattle.of_regions.specs.declared.region.Region.{Region}
+use Rattle.of_regions.specs.declared.rival.Rival.{Rival}
+use Rattle.of_regions.specs.Naming.{AreAscending}
+use Rattle.of_regions.specs.Searching.{IsUndecided, IsUnreceived}
+use Rattle.of_regions.specs.Witness.{IsIngress}
 use Rattle.of_table.specs.Table.{FlowEntry, winner_place}
 use Rattle.of_check.specs.declared.verdict.Verdict.{Verdict}
 use Rattle.of_check.specs.declared.verdict.Verdict.TheVariants.{Wins, Never, Open}
@@ -25,10 +29,6 @@ pub record IsPacket (p : Packet) : Type 0 where
   pub long : 14 ≤ length p.frame
   pub port_fits : p.in_port < 2 ^ 32
   pub metadata_fits : p.metadata < 2 ^ 64
-
--- a port that a switch may have, or CONTROLLER, which a PACKET_OUT may give as that of its frame (7.2.1 and 7.3.7)
-abbrev pub IsIngress : ℕ → Type 0
-IsIngress port = ((1 ≤ port) × (port ≤ OFPP_MAX)) ⊎ (port ≡ OFPP_CONTROLLER)
 
 -- the fields that a lookup compares
 abbrev pub fields_of : Packet → Field → Option ℕ
@@ -63,11 +63,6 @@ pub record WinsWith (flows : List FlowEntry) (k : ℕ) (p : Packet) : Type 0 whe
   pub ingress : IsIngress p.in_port
   pub wins : winner_place (fields_of p) flows ≡ Some k
 
--- places in ascending order, each once
-abbrev pub AreAscending : List ℕ → Type 0
-AreAscending [] = Unit {0}
-AreAscending (j ∷ places) = AllByRecursion (λ i. j < i) places × AreAscending places
-
 -- each of these entries goes before this one, and each packet that this one matches is matched by one of them; they are named by age, each once
 pub record NeverWins (flows : List FlowEntry) (k : ℕ) (by : List ℕ) : Type 0 where
   pub before : (j : ℕ) → Contains by j → GoesBefore flows j k
@@ -88,8 +83,23 @@ pub record Covers (flows : List FlowEntry) (j k : ℕ) : Type 0 where
   pub before : GoesBefore flows j k
   pub wider : covers_match before.first.flow.fields before.second.flow.fields ≡ true
 
--- a verdict on the entry at k; `Open` says that no one entry covers it
-abbrev pub Holds : List FlowEntry → ℕ → Verdict → Type 0
-Holds flows k (Wins frame in_port metadata) = WinsWith flows k (record { frame = frame.items; in_port = in_port; metadata = metadata })
-Holds flows k (Never by tie) = NeverWins flows k by.items × (tie ≡ is_tie flows k by.items)
-Holds flows k Open = (j : ℕ) → ¬ (Covers flows j k)
+-- ---- what is not decided
+
+-- the entries that go before the one at k, each with its place as its name; one may be left out if no packet has its match and that of the one at k
+pub record AreRivals (flows : List FlowEntry) (k : ℕ) (own : FlowEntry) (rivals : List Rival) : Type 0 where
+  pub each : (q : Rival) → Contains rivals q → (b : GoesBefore flows q.name k) × (q.matched.now ≡ b.first.flow.fields)
+  pub all : (j : ℕ) (b : GoesBefore flows j k) → ((q : Rival) × Contains rivals q × (q.name ≡ j)) ⊎ (overlaps_match b.first.flow.fields own.flow.fields ≡ false)
+
+-- of the entry at k either no switch receives a packet with which it wins, since none has such a port; or the search took so many steps, and was not done
+pub record IsOpen (flows : List FlowEntry) (k steps : ℕ) : Type 0 where
+  pub own : FlowEntry
+  pub there : slice_get flows k ≡ Some own
+  pub rivals : List Rival
+  pub are : AreRivals flows k own rivals
+  pub undecided : ((r : Region) × IsUnreceived own.flow.fields rivals r) ⊎ IsUndecided own.flow.fields rivals steps
+
+-- a verdict on the entry at k after so many steps at most; `Open` says that no one entry covers it, and that there is no such entry, or why it is not decided
+abbrev pub Holds : List FlowEntry → ℕ → ℕ → Verdict → Type 0
+Holds flows k steps (Wins frame in_port metadata) = WinsWith flows k (record { frame = frame.items; in_port = in_port; metadata = metadata })
+Holds flows k steps (Never by tie) = NeverWins flows k by.items × (tie ≡ is_tie flows k by.items)
+Holds flows k steps Open = ((j : ℕ) → ¬ (Covers flows j k)) × ((slice_get flows k ≡ None) ⊎ IsOpen flows k steps)

@@ -22,8 +22,8 @@ fn check_table<L: Lookup>(
     findings: &mut Vec<Finding>,
 ) -> Result<(), AllocError>
     requires { table < 16 }
-    ensures { OnOk result (AreFindings (entries_below table switch.now.core.forwarding.tables) switch.now.core.forwarding.tables findings.old.items →
-        AreFindings (entries_below (suc table) switch.now.core.forwarding.tables) switch.now.core.forwarding.tables findings.new.items) }
+    ensures { OnOk result (AreFindings (entries_below table switch.now.core.forwarding.tables) switch.now.core.forwarding.tables steps findings.old.items →
+        AreFindings (entries_below (suc table) switch.now.core.forwarding.tables) switch.now.core.forwarding.tables steps findings.new.items) }
 {
     let mut place = 0;
     for _entry in switch.datapath().entries(table) {
@@ -44,7 +44,7 @@ pub fn check<L: Lookup>(
     switch: &Switch<L>,
     steps: usize,
 ) -> Result<Vec<Finding>, AllocError>
-    ensures { IfOk result (λ findings. Checks switch.now.core.forwarding.tables findings.items) }
+    ensures { IfOk result (λ findings. Checks switch.now.core.forwarding.tables steps findings.items) }
 {
     let mut findings = Vec::new(alloc);
     for table in 0..TABLES {

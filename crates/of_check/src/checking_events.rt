@@ -18,7 +18,7 @@ fn write_state<L: Lookup, W: Sink>(
     writer: &mut W,
 ) -> Result<bool, Ended>
     requires { W.failures writer.old ≡ 0 }
-    ensures output { Writes (findings_on result switch.now) (ended_as result) (W.taken writer.old) (W.taken writer.new) }
+    ensures output { Writes (findings_on result steps switch.now) (ended_as result) (W.taken writer.old) (W.taken writer.new) }
     ensures write_fault { (ended_as result ≡ Ended.WriteFault) ↔ (0 < W.failures writer.new) }
 {
     match switch.config() {
@@ -40,7 +40,7 @@ pub fn check_events<L: Lookup, S: Source, W: Sink>(
 ) -> Result<bool, Ended>
     requires reads { S.reads reader.old ≡ 0 }
     requires failures { W.failures writer.old ≡ 0 }
-    ensures output { Runs event_file (findings_on result) (ended_as result) (S.answers reader.old) (S.answers reader.new) (S.ends reader.old)
+    ensures output { Runs event_file (findings_on result steps) (ended_as result) (S.answers reader.old) (S.answers reader.new) (S.ends reader.old)
         (S.ends reader.new) (W.taken writer.old) (W.taken writer.new) }
     ensures faults { Faults (ended_as result) (S.reads reader.new) (S.ends reader.old) (S.ends reader.new) (S.failures reader.old) (S.failures reader.new)
         (W.failures writer.new) }

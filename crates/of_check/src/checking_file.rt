@@ -37,7 +37,7 @@ pub fn write_findings<L: Lookup, W: Sink>(
     writer: &mut W,
 ) -> Result<bool, Ended>
     requires { W.failures writer.old ≡ 0 }
-    ensures output { Writes (IsFindings result switch.now.core.forwarding.tables config.now) (ended_as result) (W.taken writer.old) (W.taken writer.new) }
+    ensures output { Writes (IsFindings result steps switch.now.core.forwarding.tables config.now) (ended_as result) (W.taken writer.old) (W.taken writer.new) }
     ensures write_fault { (ended_as result ≡ Ended.WriteFault) ↔ (0 < W.failures writer.new) }
 {
     let Ok(findings) = check(alloc, switch, steps) else {
@@ -68,7 +68,7 @@ pub fn check_file<L: Lookup, S: Source, W: Sink>(
 ) -> Result<bool, Ended>
     requires reads { S.reads reader.old ≡ 0 }
     requires failures { W.failures writer.old ≡ 0 }
-    ensures output { Runs flow_text (findings_in result) (ended_as result) (S.answers reader.old) (S.answers reader.new) (S.ends reader.old) (S.ends reader.new)
+    ensures output { Runs flow_text (findings_in result steps) (ended_as result) (S.answers reader.old) (S.answers reader.new) (S.ends reader.old) (S.ends reader.new)
         (W.taken writer.old) (W.taken writer.new) }
     ensures faults { Faults (ended_as result) (S.reads reader.new) (S.ends reader.old) (S.ends reader.new) (S.failures reader.old) (S.failures reader.new)
         (W.failures writer.new) }

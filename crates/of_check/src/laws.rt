@@ -92,10 +92,10 @@ pub fn last_actions_are_unseen()
 ///
 /// What is left of a reader and held by a writer is as `files_come_whole` of of_replay says.
 pub fn findings_come_whole()
-    ensures flows { (found : Bool) (file : List ℕ) (known : Known) (ends ends' : ℕ) (old new : Option (List ℕ)) →
-        Runs flow_text (findings_in (Ok found)) Done (Left (Some file)) known ends ends' old new → ends < ends' →
-        TextOf flow_text (findings_in (Ok found)) file old new }
-    ensures events { (found : Bool) (file : List ℕ) (known : Known) (ends ends' : ℕ) (old new : Option (List ℕ)) →
-        Runs event_file (findings_on (Ok found)) Done (Left (Some file)) known ends ends' old new → ends < ends' →
-        TextOf event_file (findings_on (Ok found)) file old new }
+    ensures flows { (found : Bool) (steps : ℕ) (file : List ℕ) (known : Known) (ends ends' : ℕ) (old new : Option (List ℕ)) →
+        Runs flow_text (findings_in (Ok found) steps) Done (Left (Some file)) known ends ends' old new → ends < ends' →
+        TextOf flow_text (findings_in (Ok found) steps) file old new }
+    ensures events { (found : Bool) (steps : ℕ) (file : List ℕ) (known : Known) (ends ends' : ℕ) (old new : Option (List ℕ)) →
+        Runs event_file (findings_on (Ok found) steps) Done (Left (Some file)) known ends ends' old new → ends < ends' →
+        TextOf event_file (findings_on (Ok found) steps) file old new }
 {}

@@ -1,20 +1,15 @@
 //! Which flow entries can never win a lookup.
 #![tactic(auto)]
 
-mod begin;
 mod checking;
 mod checking_events;
 mod checking_file;
 mod finding;
-mod frames;
 mod laws;
-mod look;
-mod piece;
 mod printing;
 mod rivals;
 mod search;
 mod ties;
-mod trying;
 mod verdict;
 
 pub use checking::{check, some_found, some_never};

@@ -16,6 +16,6 @@ pub enum Verdict {
         by: Vec<usize>,
         tie: bool,
     },
-    /// It was not decided.
+    /// It was not decided, or no packet with which it wins comes in by a port that a switch may have.
     Open,
 }

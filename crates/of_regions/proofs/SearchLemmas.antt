@@ -82,8 +82,10 @@ module _ (own : List MatchField) (rivals : List Rival) where
         where
           first_rest : Rest
           first_rest = record { region = r; from = 0 }
+
           only : Contains (first_rest ∷ []) x → first_rest ≡ x
           only c = elim (Contains-push_cases [] first_rest x c) as (λ w. first_rest ≡ x) [ inl none ↦ absurd (none_of x none) | inr e ↦ e ]
+
       rest_of : (regions : List Region) (r : Region) → Contains regions r → (fields : Field → Option ℕ) → In r fields → InRests (map (λ r. record { region = r; from = 0 }) regions) fields
       rest_of regions r c fields h =
           let x : Rest = record { region = r; from = 0 } in

@@ -145,7 +145,7 @@ frame_in r frame is size bytes = record {
       let b = metadata_known r.shape (mask_at r.masks) (value r.known) r.tagging r.each in
       let known = is_known r.shape (mask_at r.masks) (value r.known) r.tagging r.each in
       let there : IsAmong (mask_at r.masks) (value r.known) (field_map (layers_of frame) a.value b.value) =
-          rw bytes (among r.shape (unwrap_or r.tagging Untagged) (mask_at r.masks) (value r.known) a.value b.value known a.known_is b.known_is) in
+      rw bytes (among r.shape (unwrap_or r.tagging Untagged) (mask_at r.masks) (value r.known) a.value b.value known a.known_is b.known_is) in
       at_port (mask_at r.masks) (value r.known) (layers_of frame) a.value port b.value metadata there p m;
 }
 
@@ -174,6 +174,7 @@ bit_ingress mask rest port w b = inl (omega (arith, pow_pos b.place, b.is), most
   where
     below : port < 2 ^ 32
     below = bit_low mask rest port w b
+
     place_low : b.place < 32
     place_low = elim (cases_lt b.place 32) as (λ x. b.place < 32) [
       | inl lt ↦ lt
@@ -182,6 +183,7 @@ bit_ingress mask rest port w b = inl (omega (arith, pow_pos b.place, b.is), most
         | inr same ↦ (let e : b.place ≡ 32 = omega (arith, le, same) in absurd (omega (arith, below, b.is ∙ ap (λ (n : ℕ). 2 ^ n) e)))
       ]
     ]
+
     most : port ≤ 4294967040
     most = elim (cases_lt b.place 31) as (λ x. port ≤ 4294967040) [
       | inl lt ↦ omega (arith, b.is, pow_below b.place 31 lt)

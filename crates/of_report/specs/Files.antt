@@ -23,17 +23,17 @@ report_text Findings lines tables findings remarks = report_words false lines ta
 report_text All lines tables findings remarks = report_words true lines tables findings remarks
 report_text Json lines tables findings remarks = report_json lines tables findings remarks
 
--- the text of the report on these tables and on this configuration, whose entries have these lines; and whether something was found
-abbrev pub IsReport : Result Bool Ended → Form → List (List ℕ) → Tables → Configuration → List ℕ → Type 0
-IsReport result form lines ts c text =
-    (findings : List Finding) × Checks ts findings × (text ≡ report_text form lines c.tables findings (remarks_on c)) × IsFound result (is_found findings (remarks_on c))
+-- the text of the report on these tables, after so many steps at most for each entry, and on this configuration, whose entries have these lines; and whether something was found
+abbrev pub IsReport : Result Bool Ended → ℕ → Form → List (List ℕ) → Tables → Configuration → List ℕ → Type 0
+IsReport result steps form lines ts c text =
+    (findings : List Finding) × Checks ts steps findings × (text ≡ report_text form lines c.tables findings (remarks_on c)) × IsFound result (is_found findings (remarks_on c))
 
 -- of a configuration, and of a switch
-abbrev pub report_in : Result Bool Ended → Form → List (List ℕ) → Configuration → List ℕ → Type 0
-report_in result form lines c = IsReport result form lines (tables_in c) c
+abbrev pub report_in : Result Bool Ended → ℕ → Form → List (List ℕ) → Configuration → List ℕ → Type 0
+report_in result steps form lines c = IsReport result steps form lines (tables_in c) c
 
-abbrev pub report_on : Result Bool Ended → Form → State → List ℕ → Type 0
-report_on result form s = IsReport result form [] s.core.forwarding.tables (config_of s)
+abbrev pub report_on : Result Bool Ended → ℕ → Form → State → List ℕ → Type 0
+report_on result steps form s = IsReport result steps form [] s.core.forwarding.tables (config_of s)
 
 -- as they lie in memory
 abbrev pub view_lines : List (Vec ℕ) → List (List ℕ)

@@ -38,7 +38,7 @@ pub fn report_flows<L: Lookup, S: Source, W: Sink>(
 ) -> Result<bool, Ended>
     requires reads { S.reads reader.old ≡ 0 }
     requires failures { W.failures writer.old ≡ 0 }
-    ensures output { Runs flow_text (report_in result form (view_lines lines.now)) (ended_as result) (S.answers reader.old) (S.answers reader.new)
+    ensures output { Runs flow_text (report_in result steps form (view_lines lines.now)) (ended_as result) (S.answers reader.old) (S.answers reader.new)
         (S.ends reader.old) (S.ends reader.new) (W.taken writer.old) (W.taken writer.new) }
     ensures faults { Faults (ended_as result) (S.reads reader.new) (S.ends reader.old) (S.ends reader.new) (S.failures reader.old) (S.failures reader.new)
         (W.failures writer.new) }

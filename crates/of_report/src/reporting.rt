@@ -57,7 +57,7 @@ pub fn write_report<L: Lookup, W: Sink>(
     writer: &mut W,
 ) -> Result<bool, Ended>
     requires { W.failures writer.old ≡ 0 }
-    ensures output { Writes (IsReport result form (view_lines lines.now) switch.now.core.forwarding.tables config.now) (ended_as result)
+    ensures output { Writes (IsReport result steps form (view_lines lines.now) switch.now.core.forwarding.tables config.now) (ended_as result)
         (W.taken writer.old) (W.taken writer.new) }
     ensures write_fault { (ended_as result ≡ Ended.WriteFault) ↔ (0 < W.failures writer.new) }
 {

@@ -13,11 +13,11 @@ loop-entry-preserved g c =
     record {
       few = grind (arith, common_steps);
       left = grind (arith, common_steps);
-      found = λ h. rw items (one_more (entries_below c.args.table ts) c.args.table c.loop-entry.place (c.loop-entry.place + 1) ts c.loop-entry.findings.items _ refl refl next (c.loop-entry.invariant.found h) c.in_ok-verdict.ensures);
+      found = λ h. rw items (one_more (entries_below c.args.table ts) c.args.table c.loop-entry.place (c.loop-entry.place + 1) ts c.args.steps c.loop-entry.findings.items _ refl refl next (c.loop-entry.invariant.found h) c.in_ok-verdict.ensures);
     }
 
 pub returns : goal.returns
 returns g c =
     let ts = c.args.switch.now.core.forwarding.tables in
     let all : c.loop-entry.place ≡ length (table_at c.args.table ts).flows = grind (arith, common_steps) in
-    λ h. table_done c.args.table c.loop-entry.place ts c.loop-entry.findings.items all (c.loop-entry.invariant.found h)
+    λ h. table_done c.args.table c.loop-entry.place ts c.args.steps c.loop-entry.findings.items all (c.loop-entry.invariant.found h)

@@ -9,5 +9,5 @@ invariant-loop-entry g l =
     record {
       few : l.place + length l._entry-iterator ≤ 4096;
       left : l.place + length l._entry-iterator ≡ length (table_at l.table ts).flows;
-      found : AreFindings (entries_below l.table ts) ts l.fn.findings.items → AreFindings (entries_below l.table ts ++ first_entries l.table l.place) ts l.findings.items;
+      found : AreFindings (entries_below l.table ts) ts l.steps l.fn.findings.items → AreFindings (entries_below l.table ts ++ first_entries l.table l.place) ts l.steps l.findings.items;
     }

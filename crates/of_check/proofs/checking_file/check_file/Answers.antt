@@ -5,7 +5,7 @@ use Rattle.of_check.specs.Files.{findings_in}
 use Rattle.of_check.proofs.checking_file.check_file.Goals as goal
 
 pub returns-in-Err-clause-output : goal.returns-in-Err-clause-output
-returns-in-Err-clause-output g c = runs_unread flow_text (findings_in (Err c.in-Err.ended)) c.in-Err.ended _ _ _ _ (g.W.Sink.taken c.args.writer.now) c.in-Err.ensures.config
+returns-in-Err-clause-output g c = runs_unread flow_text (findings_in (Err c.in-Err.ended) c.args.steps) c.in-Err.ended _ _ _ _ (g.W.Sink.taken c.args.writer.now) c.in-Err.ensures.config
 
 pub returns-in-Err-clause-faults : goal.returns-in-Err-clause-faults
 returns-in-Err-clause-faults g c =
@@ -14,11 +14,11 @@ returns-in-Err-clause-faults g c =
 
 pub returns-in-Ok-switch_with-clause-output : goal.returns-in-Ok-switch_with-clause-output
 returns-in-Ok-switch_with-clause-output g c =
-    runs_read flow_text (findings_in c.write_findings.result) c.in-Ok.config (ended_as c.write_findings.result) _ _ _ _ (g.W.Sink.taken c.args.writer.now) (g.W.Sink.taken c.write_findings.new.writer) c.in-Ok.ensures.config
+    runs_read flow_text (findings_in c.write_findings.result c.args.steps) c.in-Ok.config (ended_as c.write_findings.result) _ _ _ _ (g.W.Sink.taken c.args.writer.now) (g.W.Sink.taken c.write_findings.new.writer) c.in-Ok.ensures.config
     (rw c.in-Ok-switch_with.ensures at c.write_findings.ensures.output)
 
 pub returns-in-Ok-switch_with-clause-faults : goal.returns-in-Ok-switch_with-clause-faults
 returns-in-Ok-switch_with-clause-faults g c =
     let r = c.read_config.new.reader in
-    faults_written (findings_in c.write_findings.result c.in-Ok.config) (ended_as c.write_findings.result) (g.W.Sink.taken c.args.writer.now) (g.W.Sink.taken c.write_findings.new.writer) (g.S.Source.reads r) (g.S.Source.ends c.args.reader.now) (g.S.Source.ends r)
+    faults_written (findings_in c.write_findings.result c.args.steps c.in-Ok.config) (ended_as c.write_findings.result) (g.W.Sink.taken c.args.writer.now) (g.W.Sink.taken c.write_findings.new.writer) (g.S.Source.reads r) (g.S.Source.ends c.args.reader.now) (g.S.Source.ends r)
     (g.S.Source.failures c.args.reader.now) (g.S.Source.failures r) (g.W.Sink.failures c.write_findings.new.writer) c.in-Ok.ensures.faults (rw c.in-Ok-switch_with.ensures at c.write_findings.ensures.output) c.write_findings.ensures.write_fault

@@ -1,6 +1,7 @@
 use Rattle.std.proofs.Common.{◌+◌, ◌≤◌, length}
+use Rattle.of_table.specs.Entries.{entry_of}
 use Rattle.of_table.specs.Tables.{table_at}
-use Rattle.of_check.specs.Search.{AreRivals}
+use Rattle.of_check.proofs.RivalLemmas.{AreRivalsBelow}
 use Rattle.of_check.proofs.WalkLemmas.{StandsAt}
 use Rattle.of_check.proofs.rivals.rivals_of.Given as goal
 
@@ -10,5 +11,5 @@ invariant-loop-entry g l =
     record {
       few : l.at + length l.entry-iterator ≤ 4096;
       stands : StandsAt flows l.at l.entry-iterator;
-      kept : AreRivals flows l.rivals.items;
+      kept : AreRivalsBelow flows l.place (entry_of l.own) l.rivals.items l.at;
     }

@@ -53,7 +53,7 @@ pub returns-in-Some-clause-found : goal.returns-in-Some-clause-found
 returns-in-Some-clause-found c own s =
     let rivals = c.args.rivals.now in
     let found : IsReceived c.in-Some.packet × In c.args.rest.region (fields_in c.in-Some.packet) =
-        subst (λ (o : Option Packet). IfSome o (λ p. IsReceived p × In c.args.rest.region (fields_in p))) c.in-Some.is c.in_ok-packet-in-Free.ensures.some in
+    subst (λ (o : Option Packet). IfSome o (λ p. IsReceived p × In c.args.rest.region (fields_in p))) c.in-Some.is c.in_ok-packet-in-Free.ensures.some in
     record {
       received = found.0;
       matched = last_within own rivals c.args.search.now.rests.items c.args.rest c.args.search.now.names.items c.args.search.now.unreceived s (fields_in c.in-Some.packet) found.1;
