@@ -8,8 +8,9 @@ use Rattle.of_headers.specs.FieldMap.{field_map}
 use Rattle.of_oxm.specs.Relations.{covers_match, matches_map, overlaps_match}
 use Rattle.of_regions.specs.declared.region.Region.{Region}
 use Rattle.of_regions.specs.declared.rival.Rival.{Rival}
+use Rattle.of_regions.specs.Conditions.{AreConditions}
 use Rattle.of_regions.specs.Naming.{AreAscending}
-use Rattle.of_regions.specs.Searching.{IsUndecided, IsUnreceived}
+use Rattle.of_regions.specs.Searching.{IsStart, IsUndecided, IsUnreceived}
 use Rattle.of_regions.specs.Witness.{IsIngress}
 use Rattle.of_table.specs.Table.{FlowEntry, winner_place}
 use Rattle.of_check.specs.declared.verdict.Verdict.{Verdict}
@@ -87,7 +88,8 @@ pub record Covers (flows : List FlowEntry) (j k : ℕ) : Type 0 where
 
 -- the entries that go before the one at k, each with its place as its name; one may be left out if no packet has its match and that of the one at k
 pub record AreRivals (flows : List FlowEntry) (k : ℕ) (own : FlowEntry) (rivals : List Rival) : Type 0 where
-  pub each : (q : Rival) → Contains rivals q → (b : GoesBefore flows q.name k) × (q.matched.now ≡ b.first.flow.fields)
+  pub each : (q : Rival) → Contains rivals q → (b : GoesBefore flows q.name k) × (q.fields.now ≡ b.first.flow.fields)
+  pub conditions : (q : Rival) → Contains rivals q → AreConditions q.fields.now
   pub all : (j : ℕ) (b : GoesBefore flows j k) → ((q : Rival) × Contains rivals q × (q.name ≡ j)) ⊎ (overlaps_match b.first.flow.fields own.flow.fields ≡ false)
 
 -- of the entry at k either no switch receives a packet with which it wins, since none has such a port; or the search took so many steps, and was not done
@@ -96,7 +98,9 @@ pub record IsOpen (flows : List FlowEntry) (k steps : ℕ) : Type 0 where
   pub there : slice_get flows k ≡ Some own
   pub rivals : List Rival
   pub are : AreRivals flows k own rivals
-  pub undecided : ((r : Region) × IsUnreceived own.flow.fields rivals r) ⊎ IsUndecided own.flow.fields rivals steps
+  pub start : List Region
+  pub begins : IsStart own.flow.fields start
+  pub undecided : ((r : Region) × IsUnreceived start rivals r) ⊎ IsUndecided start rivals steps
 
 -- a verdict on the entry at k after so many steps at most; `Open` says that no one entry covers it, and that there is no such entry, or why it is not decided
 abbrev pub Holds : List FlowEntry → ℕ → ℕ → Verdict → Type 0

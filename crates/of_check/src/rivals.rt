@@ -74,9 +74,10 @@ pub fn rivals_of<'a, L: Lookup>(
     let mut at = 0;
     for entry in switch.datapath().entries(table) {
         if is_rival(entry, at, own, place) {
+            entry.flow.fields.known();
             rivals.push(Rival {
                 name: at,
-                matched: &entry.flow.fields,
+                fields: entry.flow.fields.fields(),
             })?;
         }
         at += 1;

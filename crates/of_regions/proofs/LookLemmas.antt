@@ -5,7 +5,7 @@ use Rattle.std.specs.List.{Contains}
 use Rattle.std.specs.Option.{option_or}
 use Rattle.std.proofs.lemmas.List.Elements.{All-contains, All-from_recursion}
 use Rattle.of_oxm.specs.declared.match_field.MatchField.{MatchField}
-use Rattle.of_oxm.specs.NormalForm.{IsKept, IsMatch}
+use Rattle.of_regions.specs.Conditions.{AreConditions, IsCondition}
 use Rattle.of_regions.specs.declared.meeting.Meeting.TheVariants.{Apart, Crosses}
 use Rattle.of_regions.specs.declared.region.Region.{Region}
 use Rattle.of_regions.specs.declared.rival.Rival.{Rival}
@@ -17,8 +17,8 @@ abbrev pub IsSplitSoFar : List Rival → Region → ℕ → Option (ℕ × Match
 IsSplitSoFar rivals r n None = AreApartBefore rivals r n
 IsSplitSoFar rivals r n (Some at) = IsSplit rivals r at.0 at.1
 
-pub passed_on : (rivals : List Rival) (r : Region) (n : ℕ) (split : Option (ℕ × MatchField)) (q : Rival) → slice_get rivals n ≡ Some q → Meets r q.matched.now Apart → IsSplitSoFar rivals r n split → IsSplitSoFar rivals r (n + 1) split
-passed_on rivals r n None q at apart s = λ i x lt there. below_more (λ (i : ℕ). (x : Rival) → slice_get rivals i ≡ Some x → Meets r x.matched.now Apart) n (λ i lt x there. s i x lt there) (λ x there. (let same : q ≡ x = cc in subst (λ (y : Rival). Meets r y.matched.now Apart) same apart)) i lt x there
+pub passed_on : (rivals : List Rival) (r : Region) (n : ℕ) (split : Option (ℕ × MatchField)) (q : Rival) → slice_get rivals n ≡ Some q → Meets r q.fields.now Apart → IsSplitSoFar rivals r n split → IsSplitSoFar rivals r (n + 1) split
+passed_on rivals r n None q at apart s = λ i x lt there. below_more (λ (i : ℕ). (x : Rival) → slice_get rivals i ≡ Some x → Meets r x.fields.now Apart) n (λ i lt x there. s i x lt there) (λ x there. (let same : q ≡ x = cc in subst (λ (y : Rival). Meets r y.fields.now Apart) same apart)) i lt x there
 passed_on rivals r n (Some found) q at apart s = s
 
 -- the first of two that is there
@@ -30,10 +30,10 @@ pub or_is : (split : Option (ℕ × MatchField)) (at : ℕ × MatchField) → op
 or_is None at = refl
 or_is (Some found) at = refl
 
-pub crossed_on : (rivals : List Rival) (r : Region) (n : ℕ) (split : Option (ℕ × MatchField)) (q : Rival) (e : MatchField) → slice_get rivals n ≡ Some q → Meets r q.matched.now (Crosses e) → IsKept e → IsSplitSoFar rivals r n split → (new : Option (ℕ × MatchField)) → new ≡ first_or split (n, e) → IsSplitSoFar rivals r (n + 1) new
-crossed_on rivals r n None q e at crosses kept s new is = subst (IsSplitSoFar rivals r (n + 1)) (sym is) (record { rival = q; there = at; crosses = crosses; kept = kept; first = s })
+pub crossed_on : (rivals : List Rival) (r : Region) (n : ℕ) (split : Option (ℕ × MatchField)) (q : Rival) (e : MatchField) → slice_get rivals n ≡ Some q → Meets r q.fields.now (Crosses e) → IsCondition e → IsSplitSoFar rivals r n split → (new : Option (ℕ × MatchField)) → new ≡ first_or split (n, e) → IsSplitSoFar rivals r (n + 1) new
+crossed_on rivals r n None q e at crosses kept s new is = subst (IsSplitSoFar rivals r (n + 1)) (sym is) (record { rival = q; there = at; crosses = crosses; condition = kept; first = s })
 crossed_on rivals r n (Some found) q e at crosses kept s new is = subst (IsSplitSoFar rivals r (n + 1)) (sym is) s
 
--- each field of a match is in normal form
-pub kept_in : (m : List MatchField) (e : MatchField) → IsMatch m → Contains m e → IsKept e
-kept_in m e is c = All-contains IsKept m e (All-from_recursion IsKept m is.each) c
+-- each field of a rival is a condition
+pub condition_in : (m : List MatchField) (e : MatchField) → AreConditions m → Contains m e → IsCondition e
+condition_in m e are c = All-contains IsCondition m e (All-from_recursion IsCondition m are) c

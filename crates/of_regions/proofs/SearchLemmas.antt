@@ -61,13 +61,13 @@ regions_begun (r ∷ regions) = ap (λ (rs : List Region). r ∷ rs) (regions_be
 
 -- ---- the state of a search
 
-module _ (own : List MatchField) (rivals : List Rival) where
+module _ (start : List Region) (rivals : List Rival) where
   -- at the start
-  pub begun : (regions : List Region) → IsStart own regions → IsState own rivals (map (λ r. record { region = r; from = 0 }) regions) [] None
-  begun regions s = record {
-    passed = λ x c i q lt at. (let from = fresh regions x c in absurd (omega (arith, lt, from.2)));
-    within = λ x c. (let from = fresh regions x c in subst (λ (r : Region). (fields : Field → Option ℕ) → In r fields → matches_map own fields ≡ true) (sym from.1.1) (s.matched from.0 from.1.0));
-    covered = λ none shape t fields a b m. (let r = s.all shape t fields a b m in inl (rest_of regions r.0 r.1 fields r.2));
+  pub begun : IsState start rivals (map (λ r. record { region = r; from = 0 }) start) [] None
+  begun = record {
+    passed = λ x c i q lt at. (let from = fresh start x c in absurd (omega (arith, lt, from.2)));
+    within = λ x c fields h. (let from = fresh start x c in (from.0, from.1.0, subst (λ (r : Region). In r fields) from.1.1 h));
+    covered = λ none shape t fields a b m. inl (rest_of start m.0 m.1 fields m.2);
     named = λ j c. absurd (none_of j c);
     ascending = tt;
     kept = tt;
@@ -92,7 +92,7 @@ module _ (own : List MatchField) (rivals : List Rival) where
           (x, (c.0, rw (length-map {B = Rest} regions (λ (r : Region). record { region = r; from = 0 })) c.1, get_or-map (λ (r : Region). record { region = r; from = 0 }) regions c.0 r x c.1 ∙ ap (λ (s : Region). record { region = s; from = 0 }) c.2), h)
 
   -- at the end
-  pub taking : (names : List ℕ) (rests : List Rest) → rests ≡ [] → IsState own rivals rests names None → AreTaking own rivals names
+  pub taking : (names : List ℕ) (rests : List Rest) → rests ≡ [] → IsState start rivals rests names None → AreTaking start rivals names
   taking names rests e s = record {
     named = s.named;
     covered = λ frame port metadata is m.
@@ -104,19 +104,19 @@ module _ (own : List MatchField) (rivals : List Rival) where
     ascending = s.ascending;
   }
 
-  module _ (rests : List Rest) (x : Rest) (names : List ℕ) (unreceived : Option Region) (s : IsState own rivals (rests ++ x ∷ []) names unreceived) where
+  module _ (rests : List Rest) (x : Rest) (names : List ℕ) (unreceived : Option Region) (s : IsState start rivals (rests ++ x ∷ []) names unreceived) where
     others_in : (y : Rest) → Contains rests y → Contains (rests ++ x ∷ []) y
     others_in y c = Contains-append_left rests (x ∷ []) y c
 
     pub last_passed : AreApartBefore rivals x.region x.from
     last_passed = s.passed x (Contains-push rests x)
 
-    pub last_within : (fields : Field → Option ℕ) → In x.region fields → matches_map own fields ≡ true
+    pub last_within : (fields : Field → Option ℕ) → In x.region fields → InSome start fields
     last_within = s.within x (Contains-push rests x)
 
     -- what was covered is, if what was in the last region is in what comes in its place
     covers : (P : (Field → Option ℕ) → Type 0) → ((fields : Field → Option ℕ) (s : Shape) (t : Tagging) → HasShape s fields → IsTagging t fields → In x.region fields → P fields) → unreceived ≡ None
-        → (s : Shape) (t : Tagging) (fields : Field → Option ℕ) → HasShape s fields → IsTagging t fields → matches_map own fields ≡ true → (InRests rests fields ⊎ P fields) ⊎ IsRivalled rivals names fields
+        → (s : Shape) (t : Tagging) (fields : Field → Option ℕ) → HasShape s fields → IsTagging t fields → InSome start fields → (InRests rests fields ⊎ P fields) ⊎ IsRivalled rivals names fields
     covers P f none shape t fields a b m = elim (s.covered none shape t fields a b m) as (λ w. (InRests rests fields ⊎ P fields) ⊎ IsRivalled rivals names fields) [
       | inl left ↦ inl (elim (Contains-push_cases rests x left.0 left.1) as (λ w. InRests rests fields ⊎ P fields) [
         | inl old ↦ inl (left.0, old, left.2)
@@ -126,14 +126,14 @@ module _ (own : List MatchField) (rivals : List Rival) where
     ]
 
     -- a rival takes the last region
-    pub taken_state : (i : ℕ) (t : IsTaken rivals x.region i) → IsState own rivals rests (named t.rival.name names) unreceived
+    pub taken_state : (i : ℕ) (t : IsTaken rivals x.region i) → IsState start rivals rests (named t.rival.name names) unreceived
     taken_state i t =
         let n = is_named t.rival.name names in
         let there = contains_at rivals i t.rival t.there in
         record {
           passed = λ y c. s.passed y (others_in y c);
           within = λ y c. s.within y (others_in y c);
-          covered = λ none shape tag fields a b m. elim (covers (λ fields. matches_map t.rival.matched.now fields ≡ true) (λ fields s u h g i. t.whole fields i) none shape tag fields a b m) as (λ w. InRests rests fields ⊎ IsRivalled rivals (named t.rival.name names) fields) [
+          covered = λ none shape tag fields a b m. elim (covers (λ fields. matches_map t.rival.fields.now fields ≡ true) (λ fields s u h g i. t.whole fields i) none shape tag fields a b m) as (λ w. InRests rests fields ⊎ IsRivalled rivals (named t.rival.name names) fields) [
             | inl left ↦ elim left as (λ w. InRests rests fields ⊎ IsRivalled rivals (named t.rival.name names) fields) [
               | inl old ↦ inl old
               | inr whole ↦ inr (t.rival, there, n.there, whole)
@@ -148,7 +148,7 @@ module _ (own : List MatchField) (rivals : List Rival) where
           kept = s.kept;
         }
 
-    pub taken_step : (i : ℕ) (t : IsTaken rivals x.region i) → IsStep own rivals (regions_in (rests ++ x ∷ [])) (regions_in rests)
+    pub taken_step : (i : ℕ) (t : IsTaken rivals x.region i) → IsStep start rivals (regions_in (rests ++ x ∷ [])) (regions_in rests)
     taken_step i t = IsStep.taken x.region t.rival (map_push (λ (y : Rest). y.region) rests x) (contains_at rivals i t.rival t.there) t.whole
 
     -- the last region is divided
@@ -162,7 +162,7 @@ module _ (own : List MatchField) (rivals : List Rival) where
         ])
       ]
 
-      pub split_state : IsState own rivals (rests ++ a ∷ b ∷ []) names unreceived
+      pub split_state : IsState start rivals (rests ++ a ∷ b ∷ []) names unreceived
       split_state = record {
         passed = λ y c. elim (part_cases y c) as (λ w. AreApartBefore rivals y.region y.from) [
           | inl old ↦ s.passed y (others_in y old)
@@ -171,11 +171,11 @@ module _ (own : List MatchField) (rivals : List Rival) where
             | inr second ↦ subst (λ (z : Rest). AreApartBefore rivals z.region z.from) second (λ j q lt at fields h. k.first j q (subst (λ (n : ℕ). j < n) b_from lt) at fields (p.within fields (inr h)))
           ]
         ];
-        within = λ y c. elim (part_cases y c) as (λ w. (fields : Field → Option ℕ) → In y.region fields → matches_map own fields ≡ true) [
+        within = λ y c. elim (part_cases y c) as (λ w. (fields : Field → Option ℕ) → In y.region fields → InSome start fields) [
           | inl old ↦ s.within y (others_in y old)
-          | inr new ↦ elim new as (λ w. (fields : Field → Option ℕ) → In y.region fields → matches_map own fields ≡ true) [
-            | inl first ↦ subst (λ (z : Rest). (fields : Field → Option ℕ) → In z.region fields → matches_map own fields ≡ true) first (λ fields h. last_within fields (p.within fields (inl h)))
-            | inr second ↦ subst (λ (z : Rest). (fields : Field → Option ℕ) → In z.region fields → matches_map own fields ≡ true) second (λ fields h. last_within fields (p.within fields (inr h)))
+          | inr new ↦ elim new as (λ w. (fields : Field → Option ℕ) → In y.region fields → InSome start fields) [
+            | inl first ↦ subst (λ (z : Rest). (fields : Field → Option ℕ) → In z.region fields → InSome start fields) first (λ fields h. last_within fields (p.within fields (inl h)))
+            | inr second ↦ subst (λ (z : Rest). (fields : Field → Option ℕ) → In z.region fields → InSome start fields) second (λ fields h. last_within fields (p.within fields (inr h)))
           ]
         ];
         covered = λ none shape tag fields g h m. elim (covers (λ fields. In a.region fields ⊎ In b.region fields) (λ fields s u g h i. p.all fields (u, h) i) none shape tag fields g h m) as (λ w. InRests (rests ++ a ∷ b ∷ []) fields ⊎ IsRivalled rivals names fields) [
@@ -193,15 +193,15 @@ module _ (own : List MatchField) (rivals : List Rival) where
         kept = s.kept;
       }
 
-      pub split_step : IsStep own rivals (regions_in (rests ++ x ∷ [])) (regions_in (rests ++ a ∷ b ∷ []))
+      pub split_step : IsStep start rivals (regions_in (rests ++ x ∷ [])) (regions_in (rests ++ a ∷ b ∷ []))
       split_step = IsStep.divided (regions_in rests) x.region a.region b.region k.rival e (map_push (λ (y : Rest). y.region) rests x) (map-append (λ (y : Rest). y.region) rests (a ∷ b ∷ [])) (contains_at rivals i k.rival k.there) k.crosses p
 
     -- no switch receives the last region
     module _ (apart : AreApartBefore rivals x.region (length rivals)) (none : HasNoIngress x.region) where
-      pub unreceived_is : IsUnreceived own rivals x.region
-      unreceived_is = record { matched = last_within; unrivalled = unrivalled rivals x.region apart; ports = none }
+      pub unreceived_is : IsUnreceived start rivals x.region
+      unreceived_is = record { within = last_within; unrivalled = unrivalled rivals x.region apart; ports = none }
 
-      pub unreceived_state : IsState own rivals rests names (Some x.region)
+      pub unreceived_state : IsState start rivals rests names (Some x.region)
       unreceived_state = record {
         passed = λ y c. s.passed y (others_in y c);
         within = λ y c. s.within y (others_in y c);
@@ -211,22 +211,22 @@ module _ (own : List MatchField) (rivals : List Rival) where
         kept = unreceived_is;
       }
 
-      pub unreceived_step : IsStep own rivals (regions_in (rests ++ x ∷ [])) (regions_in rests)
+      pub unreceived_step : IsStep start rivals (regions_in (rests ++ x ∷ [])) (regions_in rests)
       unreceived_step = IsStep.unreceived x.region (map_push (λ (y : Rest). y.region) rests x) unreceived_is
 
 -- ---- steps
 
-pub one_more : (own : List MatchField) (rivals : List Rival) (start : List Region) (n : ℕ) (before after : List Region) → AreSteps own rivals start n before → IsStep own rivals before after → AreSteps own rivals start (n + 1) after
-one_more own rivals start n before after steps step = subst (λ (k : ℕ). AreSteps own rivals start k after) (let e : suc n ≡ n + 1 = omega arith in e) (before, steps, step)
+pub one_more : (start : List Region) (rivals : List Rival) (n : ℕ) (before after : List Region) → AreSteps start rivals n before → IsStep start rivals before after → AreSteps start rivals (n + 1) after
+one_more start rivals n before after steps step = subst (λ (k : ℕ). AreSteps start rivals k after) (let e : suc n ≡ n + 1 = omega arith in e) (before, steps, step)
 
 left_or_not : (rests : List Rest) → (rests ≡ []) ⊎ ((rests ≡ [] → ⊥) × (regions_in rests ≡ [] → ⊥))
 left_or_not [] = inl refl
 left_or_not (x ∷ rests) = inr (λ e. absurd cc, λ e. absurd cc)
 
 -- what is found after the last step
-pub found_at_end : (own : List MatchField) (rivals : List Rival) (steps : ℕ) (found : Found) (rests : List Rest) (names : List ℕ) (unreceived : Option Region) → IsState own rivals rests names unreceived
-    → (start : List Region) → IsStart own start → AreSteps own rivals start steps (regions_in rests) → (¬ (rests ≡ []) → found ≡ Undecided) → (IsState own rivals rests names unreceived → rests ≡ [] → IsFound own rivals steps found) → IsFound own rivals steps found
-found_at_end own rivals steps found rests names unreceived s start begins taken left decided = elim (left_or_not rests) as (λ w. IsFound own rivals steps found) [
+pub found_at_end : (start : List Region) (rivals : List Rival) (steps : ℕ) (found : Found) (rests : List Rest) (names : List ℕ) (unreceived : Option Region) → IsState start rivals rests names unreceived
+    → AreSteps start rivals steps (regions_in rests) → (¬ (rests ≡ []) → found ≡ Undecided) → (IsState start rivals rests names unreceived → rests ≡ [] → IsFound start rivals steps found) → IsFound start rivals steps found
+found_at_end start rivals steps found rests names unreceived s taken left decided = elim (left_or_not rests) as (λ w. IsFound start rivals steps found) [
   | inl empty ↦ decided s empty
-  | inr some ↦ subst (IsFound own rivals steps) (sym (left some.0)) (record { start = start; begins = begins; end = regions_in rests; left = some.1; taken = taken })
+  | inr some ↦ subst (IsFound start rivals steps) (sym (left some.0)) (record { end = regions_in rests; left = some.1; taken = taken })
 ]

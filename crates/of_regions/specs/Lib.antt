@@ -1,6 +1,7 @@
 pub mod Known
 pub mod Regions
 pub mod Meeting
+pub mod Conditions
 pub mod Joining
 pub mod Building
 pub mod Dividing

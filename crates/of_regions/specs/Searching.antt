@@ -1,11 +1,10 @@
--- A SEARCH FOR A PACKET that a match matches and none of its rivals: matches that go before it (OpenFlow 1.3.5, 5.3).
+-- A SEARCH FOR A PACKET of some regions that no rival matches: rivals are matches that go before (OpenFlow 1.3.5, 5.3).
 use Rattle.std.specs.Prelude.{◌≡◌, ◌<◌, ◌≤◌, ◌⊎◌, ◌++◌, ℕ, zero, suc, true, false, List, [], ◌∷◌, length, Option, Some, None, IfSome, map, slice_get}
 use Rattle.std.specs.List.{Contains}
 use Rattle.of_layers.specs.declared.field.Field.{Field}
 use Rattle.of_layers.specs.Reading.{layers_of}
 use Rattle.of_headers.specs.FieldMap.{field_map}
 use Rattle.of_oxm.specs.declared.match_field.MatchField.{MatchField}
-use Rattle.of_oxm.specs.NormalForm.{IsKept}
 use Rattle.of_oxm.specs.Relations.{matches_map}
 use Rattle.of_rewrite.specs.Frames.{IsFrame}
 use Rattle.of_shapes.specs.declared.shape.Shape.{Shape}
@@ -20,6 +19,7 @@ use Rattle.of_regions.specs.declared.looking.Look.TheVariants.{Free, Taken, Spli
 use Rattle.of_regions.specs.declared.searching.Found.{Found}
 use Rattle.of_regions.specs.declared.searching.Found.TheVariants as found
 use Rattle.of_regions.specs.declared.witness.Packet.{Packet}
+use Rattle.of_regions.specs.Conditions.{IsCondition}
 use Rattle.of_regions.specs.Meeting.{Meets}
 use Rattle.of_regions.specs.Naming.{AreAscending}
 use Rattle.of_regions.specs.Regions.{AreParts, In}
@@ -27,86 +27,91 @@ use Rattle.of_regions.specs.Witness.{HasNoIngress, IsReceived, fields_in}
 
 -- no rival matches it
 abbrev pub IsUnrivalled : List Rival → (Field → Option ℕ) → Type 0
-IsUnrivalled rivals fields = (q : Rival) → Contains rivals q → matches_map q.matched.now fields ≡ false
+IsUnrivalled rivals fields = (q : Rival) → Contains rivals q → matches_map q.fields.now fields ≡ false
 
 -- one of the rivals of these names matches it
 abbrev pub IsRivalled : List Rival → List ℕ → (Field → Option ℕ) → Type 0
-IsRivalled rivals names fields = (q : Rival) × Contains rivals q × Contains names q.name × (matches_map q.matched.now fields ≡ true)
+IsRivalled rivals names fields = (q : Rival) × Contains rivals q × Contains names q.name × (matches_map q.fields.now fields ≡ true)
 
 abbrev pub InSome : List Region → (Field → Option ℕ) → Type 0
 InSome regions fields = (r : Region) × Contains regions r × In r fields
 
 -- ---- what is found
 
--- a packet that the match matches and no rival
-pub record IsFreePacket (own : List MatchField) (rivals : List Rival) (p : Packet) : Type 0 where
+-- a packet of the regions that no rival matches
+pub record IsFreePacket (start : List Region) (rivals : List Rival) (p : Packet) : Type 0 where
   pub received : IsReceived p
-  pub matched : matches_map own (fields_in p) ≡ true
+  pub within : InSome start (fields_in p)
   pub unrivalled : IsUnrivalled rivals (fields_in p)
 
--- each packet that the match matches is matched by one of the rivals of these names
-pub record AreTaking (own : List MatchField) (rivals : List Rival) (names : List ℕ) : Type 0 where
+-- each packet of the regions is matched by one of the rivals of these names
+pub record AreTaking (start : List Region) (rivals : List Rival) (names : List ℕ) : Type 0 where
   pub named : (j : ℕ) → Contains names j → (q : Rival) × Contains rivals q × (q.name ≡ j)
-  pub covered : (frame : List ℕ) (port metadata : ℕ) → IsFrame frame → matches_map own (field_map (layers_of frame) port metadata) ≡ true → IsRivalled rivals names (field_map (layers_of frame) port metadata)
+  pub covered : (frame : List ℕ) (port metadata : ℕ) → IsFrame frame → InSome start (field_map (layers_of frame) port metadata) → IsRivalled rivals names (field_map (layers_of frame) port metadata)
   pub ascending : AreAscending names
 
--- packets that the match matches and no rival, but no switch receives them by such a port
-pub record IsUnreceived (own : List MatchField) (rivals : List Rival) (r : Region) : Type 0 where
-  pub matched : (fields : Field → Option ℕ) → In r fields → matches_map own fields ≡ true
+-- packets of the regions that no rival matches, but no switch receives them by such a port
+pub record IsUnreceived (start : List Region) (rivals : List Rival) (r : Region) : Type 0 where
+  pub within : (fields : Field → Option ℕ) → In r fields → InSome start fields
   pub unrivalled : (fields : Field → Option ℕ) → In r fields → IsUnrivalled rivals fields
   pub ports : HasNoIngress r
 
 -- ---- steps
 
--- the regions with which a search begins: by the shapes of packets, at most ten, with a tag and without
+-- one step: the last region is dropped, since a rival matches all of it, or since it is one that no switch receives; or it is divided, where a rival may match some of it
+pub data IsStep (start : List Region) (rivals : List Rival) (old new : List Region) : Type 0 where
+  taken : (r : Region) (q : Rival) → old ≡ new ++ r ∷ [] → Contains rivals q → Meets r q.fields.now Whole → IsStep start rivals old new
+  unreceived : (r : Region) → old ≡ new ++ r ∷ [] → IsUnreceived start rivals r → IsStep start rivals old new
+  divided : (others : List Region) (r first second : Region) (q : Rival) (e : MatchField) → old ≡ others ++ r ∷ [] → new ≡ others ++ first ∷ second ∷ [] → Contains rivals q → Meets r q.fields.now (Crosses e) → AreParts r first second → IsStep start rivals old new
+
+-- so many steps lead from the regions at the start to these
+abbrev pub AreSteps : List Region → List Rival → ℕ → List Region → Type 0
+AreSteps start rivals zero end = end ≡ start
+AreSteps start rivals (suc n) end = (before : List Region) × AreSteps start rivals n before × IsStep start rivals before end
+
+-- so many steps were taken, and regions are left
+pub record IsUndecided (start : List Region) (rivals : List Rival) (steps : ℕ) : Type 0 where
+  pub end : List Region
+  pub left : ¬ (end ≡ [])
+  pub taken : AreSteps start rivals steps end
+
+-- WHAT A SEARCH OF AT MOST SO MANY STEPS FINDS among regions
+abbrev pub IsFound : List Region → List Rival → ℕ → Found → Type 0
+IsFound start rivals steps (found.Free p) = IsFreePacket start rivals p
+IsFound start rivals steps (found.Taken names) = AreTaking start rivals names.items
+IsFound start rivals steps (found.Unreceived r) = IsUnreceived start rivals r
+IsFound start rivals steps found.Undecided = IsUndecided start rivals steps
+
+-- ---- the regions of a match
+
+-- those with which a search for a packet of a match begins: by the shapes of packets, at most ten, with a tag and without
 pub record IsStart (own : List MatchField) (regions : List Region) : Type 0 where
   pub few : length regions ≤ 20
   pub matched : (r : Region) → Contains regions r → (fields : Field → Option ℕ) → In r fields → matches_map own fields ≡ true
   pub all : (s : Shape) (t : Tagging) (fields : Field → Option ℕ) → HasShape s fields → IsTagging t fields → matches_map own fields ≡ true → InSome regions fields
 
--- one step: the last region is dropped, since a rival matches all of it, or since it is one that no switch receives; or it is divided, where a rival may match some of it
-pub data IsStep (own : List MatchField) (rivals : List Rival) (old new : List Region) : Type 0 where
-  taken : (r : Region) (q : Rival) → old ≡ new ++ r ∷ [] → Contains rivals q → Meets r q.matched.now Whole → IsStep own rivals old new
-  unreceived : (r : Region) → old ≡ new ++ r ∷ [] → IsUnreceived own rivals r → IsStep own rivals old new
-  divided : (others : List Region) (r first second : Region) (q : Rival) (e : MatchField) → old ≡ others ++ r ∷ [] → new ≡ others ++ first ∷ second ∷ [] → Contains rivals q → Meets r q.matched.now (Crosses e) → AreParts r first second → IsStep own rivals old new
-
-abbrev pub AreSteps : List MatchField → List Rival → List Region → ℕ → List Region → Type 0
-AreSteps own rivals start zero end = end ≡ start
-AreSteps own rivals start (suc n) end = (before : List Region) × AreSteps own rivals start n before × IsStep own rivals before end
-
--- so many steps were taken, and regions are left
-pub record IsUndecided (own : List MatchField) (rivals : List Rival) (steps : ℕ) : Type 0 where
-  pub start : List Region
-  pub begins : IsStart own start
-  pub end : List Region
-  pub left : ¬ (end ≡ [])
-  pub taken : AreSteps own rivals start steps end
-
--- WHAT A SEARCH OF AT MOST SO MANY STEPS FINDS
-abbrev pub IsFound : List MatchField → List Rival → ℕ → Found → Type 0
-IsFound own rivals steps (found.Free p) = IsFreePacket own rivals p
-IsFound own rivals steps (found.Taken names) = AreTaking own rivals names.items
-IsFound own rivals steps (found.Unreceived r) = IsUnreceived own rivals r
-IsFound own rivals steps found.Undecided = IsUndecided own rivals steps
+-- AMONG THE PACKETS OF A MATCH
+abbrev pub Finds : List MatchField → List Rival → ℕ → Found → Type 0
+Finds own rivals steps f = (start : List Region) × IsStart own start × IsFound start rivals steps f
 
 -- ---- inside a search
 
 -- none of the rivals before an index matches any of the region
 abbrev pub AreApartBefore : List Rival → Region → ℕ → Type 0
-AreApartBefore rivals r n = (i : ℕ) (q : Rival) → i < n → slice_get rivals i ≡ Some q → Meets r q.matched.now Apart
+AreApartBefore rivals r n = (i : ℕ) (q : Rival) → i < n → slice_get rivals i ≡ Some q → Meets r q.fields.now Apart
 
 -- the rival of an index matches all of the region
 pub record IsTaken (rivals : List Rival) (r : Region) (i : ℕ) : Type 0 where
   pub rival : Rival
   pub there : slice_get rivals i ≡ Some rival
-  pub whole : Meets r rival.matched.now Whole
+  pub whole : Meets r rival.fields.now Whole
 
 -- the rival of an index is the first that may match some of the region
 pub record IsSplit (rivals : List Rival) (r : Region) (i : ℕ) (e : MatchField) : Type 0 where
   pub rival : Rival
   pub there : slice_get rivals i ≡ Some rival
-  pub crosses : Meets r rival.matched.now (Crosses e)
-  pub kept : IsKept e
+  pub crosses : Meets r rival.fields.now (Crosses e)
+  pub condition : IsCondition e
   pub first : AreApartBefore rivals r i
 
 abbrev pub IsLook : List Rival → Region → Look → Type 0
@@ -122,10 +127,10 @@ abbrev pub regions_in : List Rest → List Region
 regions_in rests = map (λ x. x.region) rests
 
 -- the state of a search
-pub record IsState (own : List MatchField) (rivals : List Rival) (rests : List Rest) (names : List ℕ) (unreceived : Option Region) : Type 0 where
+pub record IsState (start : List Region) (rivals : List Rival) (rests : List Rest) (names : List ℕ) (unreceived : Option Region) : Type 0 where
   pub passed : (x : Rest) → Contains rests x → AreApartBefore rivals x.region x.from
-  pub within : (x : Rest) → Contains rests x → (fields : Field → Option ℕ) → In x.region fields → matches_map own fields ≡ true
-  pub covered : unreceived ≡ None → (s : Shape) (t : Tagging) (fields : Field → Option ℕ) → HasShape s fields → IsTagging t fields → matches_map own fields ≡ true → InRests rests fields ⊎ IsRivalled rivals names fields
+  pub within : (x : Rest) → Contains rests x → (fields : Field → Option ℕ) → In x.region fields → InSome start fields
+  pub covered : unreceived ≡ None → (s : Shape) (t : Tagging) (fields : Field → Option ℕ) → HasShape s fields → IsTagging t fields → InSome start fields → InRests rests fields ⊎ IsRivalled rivals names fields
   pub named : (j : ℕ) → Contains names j → (q : Rival) × Contains rivals q × (q.name ≡ j)
   pub ascending : AreAscending names
-  pub kept : IfSome unreceived (IsUnreceived own rivals)
+  pub kept : IfSome unreceived (IsUnreceived start rivals)

@@ -8,6 +8,7 @@ ghost use Rattle.of_shapes.specs.declared.shape.Tagging.TheVariants.{Tagged, Unt
 ghost use Rattle.of_oxm.specs.Masks.{mask_at};
 ghost use Rattle.of_oxm.specs.NormalForm.{IsKept};
 ghost use Rattle.of_shapes.specs.Rules.{IsTagging};
+ghost use Rattle.of_regions.specs.Conditions.{IsCondition};
 ghost use Rattle.of_regions.specs.Dividing.{AreWithout, IsBitOf};
 ghost use Rattle.of_regions.specs.Known.{is_known_by, rule_in};
 ghost use Rattle.of_regions.specs.Meeting.{IsCrossed};
@@ -153,7 +154,7 @@ impl Region {
     /// Two parts by the first bit that a field of a match looks at and that is not known: each packet is in one of them (if it is one
     /// with a tag or without), and none is in both. The match agrees less with the second.
     pub fn divided(self, e: &MatchField) -> (Region, Region)
-        requires kept { IsKept e.now }
+        requires condition { IsCondition e.now }
         requires crossed { IsCrossed self e.now }
         ensures { AreParts self result.0 result.1 }
     {

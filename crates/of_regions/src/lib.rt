@@ -16,5 +16,6 @@ mod witness;
 pub use meeting::Meeting;
 pub use region::Region;
 pub use rival::Rival;
-pub use searching::{Found, search};
+pub use searching::{Found, search, search_among};
+pub use starting::regions_of;
 pub use witness::Packet;

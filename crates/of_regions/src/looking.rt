@@ -1,5 +1,7 @@
 //! What the rivals of a match do with a region that is left.
-ghost use Rattle.std.specs.Prelude.{ℕ};
+ghost use Rattle.std.specs.List.{Contains};
+ghost use Rattle.of_regions.specs.declared.rival.Rival.{Rival as TheRival};
+ghost use Rattle.of_regions.specs.Conditions.{AreConditions};
 ghost use Rattle.of_regions.specs.Searching.{AreApartBefore, IsLook};
 
 use crate::meeting::Meeting;
@@ -27,14 +29,14 @@ pub enum Look {
 
 /// What rivals do with a region. One that matches all of it comes before one that may match some.
 pub fn look_at(rivals: &[Rival<'_>], rest: &Rest) -> Look
-    requires { AreApartBefore rivals.now rest.now.region rest.now.from }
+    requires passed { AreApartBefore rivals.now rest.now.region rest.now.from }
+    requires conditions { (q : TheRival) → Contains rivals.now q → AreConditions q.fields.now }
     ensures { IsLook rivals.now rest.now.region result }
 {
     let mut split = None;
     for index in rest.from..rivals.len() {
         let rival = rivals[index];
-        rival.matched.known();
-        match rest.region.meet(rival.matched.fields()) {
+        match rest.region.meet(rival.fields) {
             Meeting::Apart => {}
             Meeting::Whole => return Look::Taken(index),
             Meeting::Crosses(e) => split = split.or(Some((index, e))),

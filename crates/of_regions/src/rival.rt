@@ -1,9 +1,9 @@
-//! Matches that go before another.
-use of_oxm::Match;
+//! Matches that go before.
+use of_oxm::MatchField;
 
-/// A match that goes before another, and its name.
+/// The fields of a match that goes before, and its name.
 #[derive(Clone, Copy)]
 pub struct Rival<'a> {
     pub name: usize,
-    pub matched: &'a Match,
+    pub fields: &'a [MatchField],
 }

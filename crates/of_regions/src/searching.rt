@@ -1,11 +1,12 @@
 //! A search for a packet that a match matches and none of its rivals.
 ghost use Rattle.std.specs.Prelude.{◌≡◌, ◌<◌, ◌++◌, ◌∷◌, [], ℕ, nat_le, List, None, IfNone, IfOk, IfSome, OnOk, map};
-ghost use Rattle.std.specs.List.{position};
-ghost use Rattle.of_oxm.specs.declared.match_field.MatchField.{MatchField};
+ghost use Rattle.std.specs.List.{Contains, position};
+ghost use Rattle.of_regions.specs.declared.region.Region.{Region as TheRegion};
 ghost use Rattle.of_regions.specs.declared.rival.Rival.{Rival as TheRival};
 ghost use Rattle.of_regions.specs.declared.searching.Found.TheVariants.{Undecided};
+ghost use Rattle.of_regions.specs.Conditions.{AreConditions};
 ghost use Rattle.of_regions.specs.Naming.{named};
-ghost use Rattle.of_regions.specs.Searching.{AreApartBefore, IsFound, IsFreePacket, IsState, IsStep, regions_in};
+ghost use Rattle.of_regions.specs.Searching.{AreApartBefore, Finds, IsFound, IsFreePacket, IsState, IsStep, regions_in};
 
 use crate::looking::{Look, Rest, look_at};
 use crate::region::Region;
@@ -94,13 +95,14 @@ fn step(
     search: &mut State,
     rest: Rest,
 ) -> Result<Option<Packet>, AllocError>
-    requires { AreApartBefore rivals.now rest.region rest.from }
-    ensures found { (own : List MatchField) → IsState own rivals.now (search.old.rests.items ++ rest ∷ []) search.old.names.items search.old.unreceived →
-        IfOk result (λ found. IfSome found (IsFreePacket own rivals.now)) }
-    ensures state { (own : List MatchField) → IsState own rivals.now (search.old.rests.items ++ rest ∷ []) search.old.names.items search.old.unreceived →
-        IfOk result (λ found. IfNone found (IsState own rivals.now search.new.rests.items search.new.names.items search.new.unreceived)) }
-    ensures step { (own : List MatchField) → IsState own rivals.now (search.old.rests.items ++ rest ∷ []) search.old.names.items search.old.unreceived →
-        IfOk result (λ found. IfNone found (IsStep own rivals.now (regions_in (search.old.rests.items ++ rest ∷ [])) (regions_in search.new.rests.items))) }
+    requires passed { AreApartBefore rivals.now rest.region rest.from }
+    requires conditions { (q : TheRival) → Contains rivals.now q → AreConditions q.fields.now }
+    ensures found { (start : List TheRegion) → IsState start rivals.now (search.old.rests.items ++ rest ∷ []) search.old.names.items search.old.unreceived →
+        IfOk result (λ found. IfSome found (IsFreePacket start rivals.now)) }
+    ensures state { (start : List TheRegion) → IsState start rivals.now (search.old.rests.items ++ rest ∷ []) search.old.names.items search.old.unreceived →
+        IfOk result (λ found. IfNone found (IsState start rivals.now search.new.rests.items search.new.names.items search.new.unreceived)) }
+    ensures step { (start : List TheRegion) → IsState start rivals.now (search.old.rests.items ++ rest ∷ []) search.old.names.items search.old.unreceived →
+        IfOk result (λ found. IfNone found (IsStep start rivals.now (regions_in (search.old.rests.items ++ rest ∷ [])) (regions_in search.new.rests.items))) }
 {
     match look_at(rivals, &rest) {
         Look::Taken(at) => {
@@ -139,8 +141,8 @@ impl State {
     // What is found when a search ends.
     fn ended(self) -> Found
         ensures left { ¬ (self.rests.items ≡ []) → result ≡ Undecided }
-        ensures found { (own : List MatchField) (rivals : List TheRival) (steps : ℕ) → IsState own rivals self.rests.items self.names.items self.unreceived →
-            self.rests.items ≡ [] → IsFound own rivals steps result }
+        ensures found { (start : List TheRegion) (rivals : List TheRival) (steps : ℕ) → IsState start rivals self.rests.items self.names.items self.unreceived →
+            self.rests.items ≡ [] → IsFound start rivals steps result }
     {
         let State {
             rests,
@@ -157,20 +159,19 @@ impl State {
     }
 }
 
-/// Searches for a packet that a match matches and none of its rivals, in so many steps at most: the matches that go before it in a flow table
-/// leave it such a packet, or not (OpenFlow 1.3.5, 5.3).
+/// Searches for a packet of some regions that no rival matches, in so many steps at most.
 ///
 /// A step drops a region of packets, if a rival matches all of it or no switch receives any of it, or divides it in two.
-pub fn search(
+pub fn search_among(
     alloc: Global,
-    own: &Match,
+    regions: &[Region],
     rivals: &[Rival<'_>],
     steps: usize,
 ) -> Result<Found, AllocError>
-    ensures { IfOk result (IsFound own.now rivals.now steps) }
+    requires { (q : TheRival) → Contains rivals.now q → AreConditions q.fields.now }
+    ensures { IfOk result (IsFound regions.now rivals.now steps) }
 {
-    let regions = regions_of(alloc, own)?;
-    let mut search = State::begin(alloc, &regions)?;
+    let mut search = State::begin(alloc, regions)?;
     for turn in 0..steps {
         let Some(rest) = search.rests.pop() else {
             return Ok(search.ended());
@@ -180,4 +181,19 @@ pub fn search(
         }
     }
     Ok(search.ended())
+}
+
+/// Searches for a packet that a match matches and none of its rivals, in so many steps at most: the matches that go before it in a flow table
+/// leave it such a packet, or not (OpenFlow 1.3.5, 5.3).
+pub fn search(
+    alloc: Global,
+    own: &Match,
+    rivals: &[Rival<'_>],
+    steps: usize,
+) -> Result<Found, AllocError>
+    requires { (q : TheRival) → Contains rivals.now q → AreConditions q.fields.now }
+    ensures { IfOk result (Finds own.now rivals.now steps) }
+{
+    let regions = regions_of(alloc, own)?;
+    search_among(alloc, &regions, rivals, steps)
 }

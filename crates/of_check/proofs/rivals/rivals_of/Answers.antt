@@ -21,7 +21,7 @@ loop-entry-preserved g c =
       kept = elim c.if-is_rival.branch [
         | then-is_rival+in_ok-push w ↦
             rw (w.rivals-is, w.in_ok-push.ensures.items)
-            (one_kept flows c.args.place (entry_of c.args.own.now) c.requires.there c.loop-entry.rivals.items c.loop-entry.at (entry_of x) here c.loop-entry.invariant.kept _ refl refl (c.is_rival.ensures.0 w.if-is_rival.true).0)
+            (one_kept flows c.args.place (entry_of c.args.own.now) c.requires.there c.loop-entry.rivals.items c.loop-entry.at (entry_of x) here c.loop-entry.invariant.kept _ refl w.fields.ensures w.known.ensures (c.is_rival.ensures.0 w.if-is_rival.true).0)
         | else-is_rival w ↦
             rw w.rivals-is
             (one_passed flows c.args.place (entry_of c.args.own.now) c.requires.there c.loop-entry.rivals.items c.loop-entry.at (entry_of x) here c.loop-entry.invariant.kept

@@ -22,50 +22,51 @@ within rivals i q there = elim (slice_get_cases rivals i).1 as (λ w. i < length
 ]
 
 pub returns-in_ok-add_name-in-Taken-clause-state : goal.returns-in_ok-add_name-in-Taken-clause-state
-returns-in_ok-add_name-in-Taken-clause-state c own s =
+returns-in_ok-add_name-in-Taken-clause-state c start s =
     let rivals = c.args.rivals.now in
     let names = c.args.search.now.names.items in
     let rests = c.args.search.now.rests.items in
     let t = c.in-Taken.ensures in
-    let same = name_of rivals c.in-Taken.at t.rival c.index-rivals-at.result t.there (within rivals c.in-Taken.at t.rival t.there) in
+    let d : Rival = record { name = 0; fields = record { ref_ptr = (0, 0); now = [] } } in
+    let same = name_of rivals c.in-Taken.at t.rival d t.there (within rivals c.in-Taken.at t.rival t.there) in
     let more : c.add_name.new.names.items ≡ named t.rival.name names = c.in_ok-add_name-in-Taken.ensures ∙ ap (λ (q : Rival). named q.name names) same in
-    rw more (taken_state own rivals rests c.args.rest names c.args.search.now.unreceived s c.in-Taken.at t)
+    rw more (taken_state start rivals rests c.args.rest names c.args.search.now.unreceived s c.in-Taken.at t)
 
 pub returns-in_ok-add_name-in-Taken-clause-step : goal.returns-in_ok-add_name-in-Taken-clause-step
-returns-in_ok-add_name-in-Taken-clause-step c own s =
-    taken_step own c.args.rivals.now c.args.search.now.rests.items c.args.rest c.args.search.now.names.items c.args.search.now.unreceived s c.in-Taken.at c.in-Taken.ensures
+returns-in_ok-add_name-in-Taken-clause-step c start s =
+    taken_step start c.args.rivals.now c.args.search.now.rests.items c.args.rest c.args.search.now.names.items c.args.search.now.unreceived s c.in-Taken.at c.in-Taken.ensures
 
 pub returns-in_ok-push_parts-in-Splits-clause-state : goal.returns-in_ok-push_parts-in-Splits-clause-state
-returns-in_ok-push_parts-in-Splits-clause-state c own s =
+returns-in_ok-push_parts-in-Splits-clause-state c start s =
     let i = c.in-Splits.at in
     let a : Rest = record { region = c.divided.result.0; from = i } in
     let b : Rest = record { region = c.divided.result.1; from = i } in
-    rw c.in_ok-push_parts-in-Splits.ensures (split_state own c.args.rivals.now c.args.search.now.rests.items c.args.rest c.args.search.now.names.items c.args.search.now.unreceived s i a b refl refl c.divided.ensures c.in-Splits.e c.in-Splits.ensures)
+    rw c.in_ok-push_parts-in-Splits.ensures (split_state start c.args.rivals.now c.args.search.now.rests.items c.args.rest c.args.search.now.names.items c.args.search.now.unreceived s i a b refl refl c.divided.ensures c.in-Splits.e c.in-Splits.ensures)
 
 pub returns-in_ok-push_parts-in-Splits-clause-step : goal.returns-in_ok-push_parts-in-Splits-clause-step
-returns-in_ok-push_parts-in-Splits-clause-step c own s =
+returns-in_ok-push_parts-in-Splits-clause-step c start s =
     let i = c.in-Splits.at in
     let a : Rest = record { region = c.divided.result.0; from = i } in
     let b : Rest = record { region = c.divided.result.1; from = i } in
-    rw c.in_ok-push_parts-in-Splits.ensures (split_step own c.args.rivals.now c.args.search.now.rests.items c.args.rest c.args.search.now.names.items c.args.search.now.unreceived s i a b refl refl c.divided.ensures c.in-Splits.e c.in-Splits.ensures)
+    rw c.in_ok-push_parts-in-Splits.ensures (split_step start c.args.rivals.now c.args.search.now.rests.items c.args.rest c.args.search.now.names.items c.args.search.now.unreceived s i a b refl refl c.divided.ensures c.in-Splits.e c.in-Splits.ensures)
 
 pub returns-in-Some-clause-found : goal.returns-in-Some-clause-found
-returns-in-Some-clause-found c own s =
+returns-in-Some-clause-found c start s =
     let rivals = c.args.rivals.now in
     let found : IsReceived c.in-Some.packet × In c.args.rest.region (fields_in c.in-Some.packet) =
     subst (λ (o : Option Packet). IfSome o (λ p. IsReceived p × In c.args.rest.region (fields_in p))) c.in-Some.is c.in_ok-packet-in-Free.ensures.some in
     record {
       received = found.0;
-      matched = last_within own rivals c.args.search.now.rests.items c.args.rest c.args.search.now.names.items c.args.search.now.unreceived s (fields_in c.in-Some.packet) found.1;
+      within = last_within start rivals c.args.search.now.rests.items c.args.rest c.args.search.now.names.items c.args.search.now.unreceived s (fields_in c.in-Some.packet) found.1;
       unrivalled = unrivalled rivals c.args.rest.region c.in-Free.ensures (fields_in c.in-Some.packet) found.1;
     }
 
 pub returns-in-None-clause-state : goal.returns-in-None-clause-state
-returns-in-None-clause-state c own s =
+returns-in-None-clause-state c start s =
     let none : HasNoIngress c.args.rest.region = subst (λ (o : Option Packet). IfNone o (HasNoIngress c.args.rest.region)) c.in-None.is c.in_ok-packet-in-Free.ensures.none in
-    unreceived_state own c.args.rivals.now c.args.search.now.rests.items c.args.rest c.args.search.now.names.items c.args.search.now.unreceived s c.in-Free.ensures none
+    unreceived_state start c.args.rivals.now c.args.search.now.rests.items c.args.rest c.args.search.now.names.items c.args.search.now.unreceived s c.in-Free.ensures none
 
 pub returns-in-None-clause-step : goal.returns-in-None-clause-step
-returns-in-None-clause-step c own s =
+returns-in-None-clause-step c start s =
     let none : HasNoIngress c.args.rest.region = subst (λ (o : Option Packet). IfNone o (HasNoIngress c.args.rest.region)) c.in-None.is c.in_ok-packet-in-Free.ensures.none in
-    unreceived_step own c.args.rivals.now c.args.search.now.rests.items c.args.rest c.args.search.now.names.items c.args.search.now.unreceived s c.in-Free.ensures none
+    unreceived_step start c.args.rivals.now c.args.search.now.rests.items c.args.rest c.args.search.now.names.items c.args.search.now.unreceived s c.in-Free.ensures none
