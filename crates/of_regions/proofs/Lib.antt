@@ -12,3 +12,4 @@ pub mod NamingLemmas
 pub mod LookLemmas
 pub mod SearchLemmas
 pub mod StartLemmas
+pub mod NarrowingLemmas

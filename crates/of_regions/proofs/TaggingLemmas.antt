@@ -31,7 +31,7 @@ free_known ones None None h = refl
 free_known ones None (Some k) h = absurd cc
 free_known ones (Some m) known h = absurd cc
 
-unknown_free : (ones : ℕ) (rule : Rule) (mask known : Option ℕ) → is_known_by ones rule mask known ≡ true → mask ≡ None → rule ≡ Free
+pub unknown_free : (ones : ℕ) (rule : Rule) (mask known : Option ℕ) → is_known_by ones rule mask known ≡ true → mask ≡ None → rule ≡ Free
 unknown_free ones Free mask known h n = refl
 unknown_free ones Absent None known h n = absurd cc
 unknown_free ones Absent (Some m) known h n = absurd cc

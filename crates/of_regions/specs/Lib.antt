@@ -9,3 +9,4 @@ pub mod Witness
 pub mod Naming
 pub mod Searching
 pub mod Starting
+pub mod Narrowing

@@ -54,7 +54,7 @@ pub fn lowest(bits: u128) -> u128
 
 impl Region {
     // The same, with these bits of a field that has it.
-    fn learned(self, field: Field, mask: u128, known: u128) -> Region
+    pub fn learned(self, field: Field, mask: u128, known: u128) -> Region
         requires { is_known_by (ones_of field) (rule_in self.shape self.tagging field) (Some mask) (Some known) ≡ true }
         ensures masks { (f : TheField) → mask_at result.masks f ≡ (if number_of f == number_of field then Some mask else mask_at self.masks f) }
         ensures known { (f : TheField) → value result.known f ≡ (if number_of f == number_of field then Some known else value self.known f) }
@@ -88,11 +88,12 @@ impl Region {
     }
 
     // Those without a tag (OpenFlow 1.3.5, 7.2.3.7: VLAN_VID is OFPVID_NONE).
-    fn untagged(self) -> Region
+    pub fn untagged(self) -> Region
         requires { self.tagging ≡ None }
         ensures within { (map : TheField → Option ℕ) → In result map → In self map }
         ensures all { (map : TheField → Option ℕ) → IsTagging Untagged map → In self map → In result map }
         ensures vid { (map : TheField → Option ℕ) → In result map → seen (Some 0x1fff) (map VlanVid) ≡ Some 0 }
+        ensures known { result.tagging ≡ Some Untagged }
     {
         Region {
             shape: self.shape,
@@ -109,11 +110,12 @@ impl Region {
     }
 
     // Those with a tag (7.2.3.7: VLAN_VID has the bit OFPVID_PRESENT).
-    fn tagged(self) -> Region
+    pub fn tagged(self) -> Region
         requires { self.tagging ≡ None }
         ensures within { (map : TheField → Option ℕ) → In result map → In self map }
         ensures all { (map : TheField → Option ℕ) → IsTagging Tagged map → In self map → In result map }
         ensures vid { (map : TheField → Option ℕ) → In result map → seen (Some 0x1000) (map VlanVid) ≡ Some 0x1000 }
+        ensures known { result.tagging ≡ Some Tagged }
     {
         Region {
             shape: self.shape,

@@ -7,6 +7,7 @@ mod dividing;
 mod joining;
 mod looking;
 mod meeting;
+mod narrowing;
 mod region;
 mod rival;
 mod searching;
@@ -14,6 +15,7 @@ mod starting;
 mod witness;
 
 pub use meeting::Meeting;
+pub use narrowing::narrowed;
 pub use region::Region;
 pub use rival::Rival;
 pub use searching::{Found, search, search_among};

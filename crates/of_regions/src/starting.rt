@@ -68,7 +68,7 @@ fn asks_tag(own: &Match) -> bool
 }
 
 // Appends a region, if there is one.
-fn push_some(regions: &mut Vec<Region>, region: Option<Region>) -> Result<(), AllocError>
+pub fn push_some(regions: &mut Vec<Region>, region: Option<Region>) -> Result<(), AllocError>
     ensures { OnOk result (regions.new.items ≡ regions.old.items ++ listed region) }
 {
     match region {

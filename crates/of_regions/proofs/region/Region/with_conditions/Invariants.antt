@@ -1,0 +1,14 @@
+use Rattle.std.proofs.Common.{◌≡◌, ℕ, Option, None, false, true, take}
+use Rattle.std.specs.List.{list_any}
+use Rattle.of_layers.specs.declared.field.Field.{Field}
+use Rattle.of_oxm.specs.Relations.{matches_map}
+use Rattle.of_regions.specs.Narrowing.{is_tag_field}
+use Rattle.of_regions.specs.Regions.{In}
+use Rattle.of_regions.proofs.region.Region.with_conditions.Given as goal
+
+abbrev pub invariant-loop-e : goal.invariant-loop-e
+invariant-loop-e l = record {
+  within : (map : Field → Option ℕ) → In l.region map → In l.fn.self map × (matches_map (take l.e-index l.fields) map ≡ true);
+  all : (map : Field → Option ℕ) → In l.fn.self map → matches_map (take l.e-index l.fields) map ≡ true → In l.region map;
+  same : (l.region.shape ≡ l.fn.self.shape) × (l.region.tagging ≡ l.fn.self.tagging);
+}
