@@ -7,6 +7,7 @@ import hashlib
 import os
 import re
 import shutil
+import signal
 import subprocess
 
 TOP = os.path.dirname(os.path.dirname(os.path.realpath(__file__)))
@@ -32,7 +33,7 @@ class Crates:
     """The crates that crates.txt lists, lowest first, and the libraries that each uses."""
 
     def __init__(self, kit, top=TOP):
-        self.kit, self.top, self.uses, self.sums = kit, top, {}, {}
+        self.kit, self.top, self.uses, self.sums, self.running = kit, top, {}, {}, set()
         with open(f"{top}/crates.txt", encoding="utf-8") as lines:
             named = [it.split("#")[0].split(":") for it in lines if ":" in it.split("#")[0]]
         listed = {name.split()[0]: libraries.split() for name, libraries in named}
@@ -109,7 +110,23 @@ class Crates:
     def call(self, name, words, log, nice=0):
         """Calls a tool in the crate's folder, which gives way to others by how nice it is, and returns its status."""
         words = ["nice", "-n", str(nice), *words] if nice else words
-        return subprocess.run(words, cwd=self.folder(name), stdin=subprocess.DEVNULL, stdout=log, stderr=subprocess.STDOUT).returncode
+        with subprocess.Popen(words, cwd=self.folder(name), stdin=subprocess.DEVNULL, stdout=log, stderr=subprocess.STDOUT, start_new_session=True) as child:
+            self.running.add(child)
+            try:
+                return child.wait()
+            except BaseException:
+                self.stop()
+                raise
+            finally:
+                self.running.discard(child)
+
+    def stop(self):
+        """Ends all checks that run, with the processes that they started."""
+        for child in list(self.running):
+            try:
+                os.killpg(child.pid, signal.SIGKILL)
+            except ProcessLookupError:
+                pass
 
     def build_library(self, name, jobs, log, nice=0):
         """Proves a library and builds it; returns the status."""
