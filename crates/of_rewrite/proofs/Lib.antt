@@ -26,5 +26,6 @@ pub mod Layering
 pub mod Calling
 pub mod Widths
 pub mod Looking
+pub mod Viewing
 pub mod OffLayers
 pub mod StayingOff
