@@ -1,0 +1,3 @@
+pub mod Actions
+pub mod Tags
+pub mod Overlays

@@ -1,0 +1,15 @@
+//! What rewriting actions make of a frame.
+ghost use Rattle.std.specs.Prelude.{ℕ, List};
+ghost use Rattle.of_actions.specs.declared.action.Action.{Action};
+ghost use Rattle.of_rewrite.specs.Frames.{IsFrame};
+ghost use Rattle.of_rewrite.specs.Views.{IsView, View};
+ghost use Rattle.of_symbolic.specs.Actions.{AreRewriting, frame_of_actions, view_of_actions};
+
+/// After rewriting actions a frame has the view that they make of its view before (OpenFlow 1.3.5, 5.12).
+///
+/// `frame`: it stays a frame, so that other actions may follow.
+pub fn rewritten_frames_have_views()
+    ensures view { (actions : List Action) (frame : List ℕ) (v : View) → IsFrame frame → AreRewriting actions → IsView v frame →
+        IsView (view_of_actions actions v) (frame_of_actions actions frame) }
+    ensures frame { (actions : List Action) (frame : List ℕ) → IsFrame frame → AreRewriting actions → IsFrame (frame_of_actions actions frame) }
+{}

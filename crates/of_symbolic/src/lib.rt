@@ -1,0 +1,8 @@
+//! Packets that actions rewrote, in terms of the frame that came in (OpenFlow 1.3.5, 5.3 and 5.12).
+#![tactic(auto)]
+
+mod laws;
+mod overlay;
+
+pub use laws::rewritten_frames_have_views;
+pub use overlay::{Overlay, PushedTag, ReceivedTag, TagNumber};
