@@ -76,7 +76,7 @@ fn new_tag(pushed: Option<PushedTag>, own: Option<ReceivedTag>) -> PushedTag
     }
 }
 
-fn first_tag(tags: &[PushedTag]) -> Option<PushedTag>
+pub fn first_tag(tags: &[PushedTag]) -> Option<PushedTag>
     ensures { result ≡ slice_get tags.now 0 }
 {
     tags.first().copied()
