@@ -1,11 +1,11 @@
 -- WHAT IS KNOWN OF A PACKET that actions rewrote, in terms of the frame that came in (OpenFlow 1.3.5, 5.12).
-use Rattle.std.specs.Prelude.{◌≡◌, ℕ, ◌%◌, ◌^◌, ◌<◌, ◌==◌, if◌then◌else◌, IfSome, List, Option, Some, None}
-use Rattle.std.specs.List.{fold}
+use Rattle.std.specs.Prelude.{◌≡◌, ℕ, ◌%◌, ◌^◌, ◌<◌, ◌==◌, if◌then◌else◌, List, Option, Some, None}
+use Rattle.std.specs.List.{AllByRecursion, fold}
 use Rattle.std.specs.Option.{option_map}
 use Rattle.of_layers.specs.declared.field.Field.{Field}
 use Rattle.of_layers.specs.Fields.{number_of, bits_of}
 use Rattle.of_headers.specs.FieldMap.{value}
-use Rattle.of_rewrite.specs.Views.{View, outermost}
+use Rattle.of_rewrite.specs.Views.{Tag, View}
 use Rattle.of_actions.specs.declared.action.Action.{Action}
 use Rattle.of_actions.specs.declared.action.Action.TheVariants as actions
 use Rattle.of_symbolic.specs.declared.overlay.Overlay.{Overlay}
@@ -40,6 +40,6 @@ pub record Shows (set : Field → Option ℕ) (k : Tags) (received packet : View
   pub fields : (f : Field) → packet.fields f ≡ with_value (set f) (received.fields f)
   pub tags : AreTags k.pushed k.own received.tags packet.tags
 
--- the VID of the outermost tag has 12 bits
-abbrev pub HasVid : View → Type 0
-HasVid v = IfSome (outermost v.tags) (λ t. t.vid < 2 ^ 12)
+-- the VID of each tag has 12 bits (IEEE 802.1Q, 9.6)
+abbrev pub HasVids : View → Type 0
+HasVids v = AllByRecursion (λ (t : Tag). t.vid < 2 ^ 12) v.tags

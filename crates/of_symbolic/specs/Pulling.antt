@@ -16,16 +16,16 @@ use Rattle.of_symbolic.specs.declared.overlay.TagNumber.TheVariants.{Received, U
 use Rattle.of_symbolic.specs.declared.pulling.Pulled.{Pulled}
 use Rattle.of_symbolic.specs.declared.pulling.Pulled.TheVariants.{Never, Unknown, When}
 use Rattle.of_symbolic.specs.Actions.{view_of_actions}
-use Rattle.of_symbolic.specs.Overlays.{HasVid}
+use Rattle.of_symbolic.specs.Overlays.{HasVids}
 
 -- ---- what is pulled
 
 -- The match on the packet after these actions, with this metadata, never matches, or matches exactly if these fields match the frame that came in, with metadata 0.
 abbrev pub IsPulled : List Action → ℕ → List MatchField → Pulled → Type 0
-IsPulled l metadata m Never = (v : View) (port : ℕ) → HasVid v → matches_map m (fields_seen (view_of_actions l v) port metadata) ≡ false
+IsPulled l metadata m Never = (v : View) (port : ℕ) → HasVids v → matches_map m (fields_seen (view_of_actions l v) port metadata) ≡ false
 IsPulled l metadata m Unknown = ⊤
 IsPulled l metadata m (When fields) =
-    (v : View) (port : ℕ) → HasVid v → matches_map m (fields_seen (view_of_actions l v) port metadata) ≡ matches_map fields.items (fields_seen v port 0)
+    (v : View) (port : ℕ) → HasVids v → matches_map m (fields_seen (view_of_actions l v) port metadata) ≡ matches_map fields.items (fields_seen v port 0)
 
 -- a field of a match in normal form, or one that agrees with each value of the field
 abbrev pub IsKeptOrAny : MatchField → Type 0

@@ -6,7 +6,7 @@ ghost use Rattle.of_rewrite.specs.Frames.{IsFrame};
 ghost use Rattle.of_rewrite.specs.Views.{IsView, View};
 ghost use Rattle.of_symbolic.specs.declared.overlay.Overlay.{Overlay};
 ghost use Rattle.of_symbolic.specs.Actions.{AreRewriting, frame_of_actions, view_of_actions};
-ghost use Rattle.of_symbolic.specs.Overlays.{HasVid, IsOverlay, Shows, tags_in};
+ghost use Rattle.of_symbolic.specs.Overlays.{HasVids, IsOverlay, Shows, tags_in};
 
 /// After rewriting actions a frame has the view that they make of its view before (OpenFlow 1.3.5, 5.12).
 ///
@@ -15,7 +15,7 @@ pub fn rewritten_frames_have_views()
     ensures view { (actions : List Action) (frame : List ℕ) (v : View) → IsFrame frame → AreRewriting actions → IsView v frame →
         IsView (view_of_actions actions v) (frame_of_actions actions frame) }
     ensures frame { (actions : List Action) (frame : List ℕ) → IsFrame frame → AreRewriting actions → IsFrame (frame_of_actions actions frame) }
-    ensures vid { (frame : List ℕ) (v : View) → IsFrame frame → IsView v frame → HasVid v }
+    ensures vid { (frame : List ℕ) (v : View) → IsFrame frame → IsView v frame → HasVids v }
 {}
 
 /// What an overlay says about a packet is so, for each frame that came in.
