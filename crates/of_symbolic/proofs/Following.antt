@@ -1,18 +1,12 @@
 -- What is known of a packet after one more action.
-use Rattle.std.proofs.Common.{◌≡◌, ℕ, ◌+◌, ◌-◌, ◌%◌, ◌^◌, Bool, true, false, cond, eqb, List, [], ◌∷◌, ◌++◌, Option, Some, None, refl, sym, ap, ◌∙◌}
+use Rattle.std.proofs.Common.{◌≡◌, ℕ, ◌%◌, ◌^◌, Bool, true, false, cond, eqb, Option, Some, refl, sym, ap, ◌∙◌}
 use Rattle.std.specs.Prelude.{bit_and}
 use Rattle.std.proofs.lemmas.Bool.{eqb-true}
-use Rattle.std.proofs.lemmas.List.Sums.{fold_push}
 use Rattle.std.proofs.lemmas.Nat.{and_mask}
 use Rattle.of_layers.specs.declared.field.Field.{Field}
 use Rattle.of_layers.specs.declared.field.Field.TheVariants.{InPort}
 use Rattle.of_layers.specs.Fields.{row_of, number_of, bits_of, ones_of}
 use Rattle.of_layers.proofs.Table.{same_number}
-use Rattle.of_headers.specs.FieldMap.{value}
-use Rattle.of_actions.specs.declared.action.Action.{Action}
-use Rattle.of_symbolic.specs.declared.overlay.Overlay.{Overlay}
-use Rattle.of_symbolic.specs.Overlays.{IsOverlay, value_by, value_set, tags_in}
-use Rattle.of_symbolic.specs.Tags.{Tags, tags_after, tags_of_actions, no_tags}
 
 -- the bits of a field are the low bits of a number
 low_bits : (v : ℕ) (f : Field) → bit_and v (ones_of f) ≡ v % 2 ^ bits_of f
@@ -28,9 +22,3 @@ set_low field v n old new is h f = h f ∙ by_test (eqb (number_of f) (number_of
         let same : f ≡ field = same_number f field (eqb-true _ _ e) in
         ap (λ (k : ℕ). Some (bit_and v k)) (is ∙ sym (ap ones_of same)) ∙ ap (λ (k : ℕ). Some k) (low_bits v f)
     by_test false e = refl
-
-pub after_one : (o n : Overlay) (a : Action) (l : List Action) → ((f : Field) → value n.set f ≡ value_by a f (value o.set f)) → tags_in n ≡ tags_after a (tags_in o) → IsOverlay o l → IsOverlay n (l ++ a ∷ [])
-after_one o n a l set tags h = record {
-  set = λ f. set f ∙ ap (value_by a f) (h.set f) ∙ sym (fold_push (λ old b. value_by b f old) None l a);
-  tags = tags ∙ ap (tags_after a) h.tags ∙ sym (fold_push (λ k b. tags_after b k) no_tags l a);
-}

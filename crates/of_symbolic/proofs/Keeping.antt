@@ -1,5 +1,5 @@
 -- What is asked of the frame that came in is a field of a match in normal form, or one that agrees with each value; and what is open is unknown.
-use Rattle.std.proofs.Common.{◌≡◌, ℕ, ◌+◌, ◌-◌, ◌/◌, ◌%◌, ◌^◌, ◌<◌, ◌≤◌, ◌≢◌, ◌⊎◌, inl, inr, Bool, true, false, cond, eqb, Option, Some, None, refl, sym, ap, ◌∙◌, arith}
+use Rattle.std.proofs.Common.{◌≡◌, ℕ, ◌-◌, ◌/◌, ◌%◌, ◌^◌, ◌≤◌, ◌≢◌, inl, inr, Bool, true, false, cond, eqb, Option, Some, None, refl, sym, ap, ◌∙◌, arith}
 use Rattle.std.specs.Prelude.{bit_and, IfSome, not, slice_get, unwrap_or, ◌&&◌, ◌||◌, ⊤}
 use Rattle.std.proofs.lemmas.Bool.{eqb-false}
 use Rattle.std.proofs.lemmas.Nat.{and_mask, and_mod}
@@ -18,7 +18,7 @@ use Rattle.of_symbolic.specs.declared.overlay.PushedTag.{PushedTag}
 use Rattle.of_symbolic.specs.declared.overlay.ReceivedTag.{ReceivedTag}
 use Rattle.of_symbolic.specs.declared.overlay.TagNumber.{TagNumber}
 use Rattle.of_symbolic.specs.declared.overlay.TagNumber.TheVariants.{Value, Received, IfTagged, Unknown}
-use Rattle.of_symbolic.specs.Asking.{any_value, asked_at, by_tag, field_asked, own_pcp, own_vid, pcp_asked, pushed_pcp, pushed_vid, tagged_vid, vid_asked, vid_bits, with_tag, without_tag}
+use Rattle.of_symbolic.specs.Asking.{any_value, asked_at, by_tag, field_asked, own_pcp, own_vid, pcp_asked, pushed_pcp, pushed_vid, vid_asked, vid_bits, with_tag, without_tag}
 use Rattle.of_symbolic.specs.Pulling.{IsKeptOrAny, is_pcp_unknown, is_unknown_at, is_vid_unknown, is_not_known, is_received}
 use Rattle.of_symbolic.proofs.Holding.{IsVid}
 
@@ -70,13 +70,16 @@ unfolding row_of
 vid_bits_kept e k n =
     let ne : bits_looked_at e % 4096 ≢ 0 = eqb-false _ _ n in
     let within : bit_and (bits_looked_at e % 4096) (2 ^ 13 - 1) ≡ bits_looked_at e % 4096 = and_mask (bits_looked_at e % 4096) 13 ∙ omega arith in
-    record { value = omega arith; mask = record {
-      maskable = refl;
-      some = omega (arith, ne);
-      not_all = omega arith;
-      within = within;
-      covers = sym (and_mod e.value (bits_looked_at e) 12) ∙ ap (λ (x : ℕ). x % 4096) k.covered;
-    } }
+    record {
+      value = omega arith;
+      mask = record {
+        maskable = refl;
+        some = omega (arith, ne);
+        not_all = omega arith;
+        within = within;
+        covers = sym (and_mod e.value (bits_looked_at e) 12) ∙ ap (λ (x : ℕ). x % 4096) k.covered;
+      };
+    }
 
 tagged_kept : (e : MatchField) (rest : Asked) (t u : Bool) → (u ≡ false → KeptIfAsked rest) → KeptIfAsked (cond (not t) Never (cond u Nothing rest))
 tagged_kept e rest true true h = tt
@@ -104,6 +107,7 @@ pcp_kept (Some p) own e h = by_number p.pcp
     by_test : (b : Bool) → KeptIfAsked (cond b Open (Asks e))
     by_test true = tt
     by_test false = inl h
+
     by_number : (k : TagNumber) → KeptIfAsked (pushed_pcp k e)
     by_number (Value n) = by_tag_kept _ _
     by_number (IfTagged n) = by_tag_kept _ _

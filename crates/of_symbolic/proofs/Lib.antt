@@ -6,3 +6,5 @@ pub mod Holding
 pub mod Keeping
 pub mod Vids
 pub mod SoFar
+pub mod Popping
+pub mod Lookups

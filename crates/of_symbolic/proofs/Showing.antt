@@ -5,9 +5,9 @@ use Rattle.std.specs.List.{fold}
 use Rattle.std.specs.Option.{option_map}
 use Rattle.of_layers.specs.declared.field.Field.{Field}
 use Rattle.of_layers.specs.declared.field.Field.TheVariants.{VlanVid, VlanPcp}
-use Rattle.of_layers.specs.Fields.{row_of, number_of, bits_of}
+use Rattle.of_layers.specs.Fields.{number_of, bits_of}
 use Rattle.of_headers.specs.FieldMap.{value}
-use Rattle.of_rewrite.specs.Views.{Tag, View, outermost, outermost_set, tag_set, view_pushed}
+use Rattle.of_rewrite.specs.Views.{Tag, View, outermost, outermost_set, tag_set}
 use Rattle.of_actions.specs.declared.action.Action.{Action}
 use Rattle.of_actions.specs.declared.action.Action.TheVariants as actions
 use Rattle.of_symbolic.specs.declared.overlay.Overlay.{Overlay}
@@ -15,7 +15,7 @@ use Rattle.of_symbolic.specs.declared.overlay.PushedTag.{PushedTag}
 use Rattle.of_symbolic.specs.declared.overlay.ReceivedTag.{ReceivedTag}
 use Rattle.of_symbolic.specs.Actions.{call_of, view_by, view_of_actions}
 use Rattle.of_symbolic.specs.Overlays.{IsOverlay, Shows, tags_in, value_by, value_set, with_value}
-use Rattle.of_symbolic.specs.Tags.{Tags, AreOwn, AreTags, IsNumber, IsPushed, copied, new_tag, no_tags, own_tag, own_tags, pushed_set, received_set, tags_after, tags_of_actions, tags_popped, tags_set}
+use Rattle.of_symbolic.specs.Tags.{Tags, AreTags, IsNumber, IsPushed, copied, new_tag, no_tags, own_tag, own_tags, pushed_set, received_set, tags_after, tags_of_actions, tags_popped, tags_set}
 
 -- ---- a tag is pushed
 

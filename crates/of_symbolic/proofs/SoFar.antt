@@ -1,10 +1,8 @@
 -- What the fields of a match ask, one after the other.
-use Rattle.std.proofs.Common.{◌≡◌, ℕ, zero, suc, ◌+◌, ◌<◌, ◌≤◌, Bool, true, false, cond, List, [], ◌∷◌, ◌++◌, length, get_or, take, take_all, Option, Some, None, refl, sym, ap, subst, ◌∙◌, arith}
-use Rattle.std.specs.Prelude.{◌&&◌, ◌||◌, IfSome}
+use Rattle.std.proofs.Common.{◌≡◌, ℕ, zero, suc, ◌+◌, ◌<◌, ◌≤◌, Bool, true, false, List, [], ◌∷◌, ◌++◌, length, get_or, take, take_all, refl, sym, ap, subst, ◌∙◌, arith}
+use Rattle.std.specs.Prelude.{◌&&◌, ◌||◌}
 use Rattle.std.specs.List.{AllByRecursion, list_all, list_any}
 use Rattle.std.proofs.lemmas.List.{take_more}
-use Rattle.of_layers.specs.declared.field.Field.{Field}
-use Rattle.of_headers.specs.FieldMap.{value}
 use Rattle.of_oxm.specs.declared.match_field.MatchField.{MatchField}
 use Rattle.of_oxm.specs.NormalForm.{IsKept}
 use Rattle.of_oxm.specs.Relations.{agrees, matches_map}
@@ -17,7 +15,7 @@ use Rattle.of_symbolic.specs.Actions.{view_of_actions}
 use Rattle.of_symbolic.specs.Asking.{asked_of}
 use Rattle.of_symbolic.specs.Overlays.{IsOverlay, HasVids}
 use Rattle.of_symbolic.specs.Pulling.{IsKeptOrAny, is_unknown_at, is_unknown_in}
-use Rattle.of_symbolic.proofs.Holding.{Holds, IsVid, Says, at_holds}
+use Rattle.of_symbolic.proofs.Holding.{Holds, Says, at_holds}
 use Rattle.of_symbolic.proofs.Keeping.{KeptIfAsked, at_kept, kept_vid, open_unknown}
 use Rattle.of_symbolic.proofs.Showing.{overlay_shows}
 use Rattle.of_symbolic.proofs.Vids.{all_small, first_small}
@@ -99,9 +97,9 @@ pub nothing_more : (o : Overlay) (metadata : ℕ) (m : List MatchField) (e : Mat
 nothing_more o metadata m e t fields k is h = record {
   unknown = λ u. still_unknown o m e (h.unknown u);
   same = λ u l g v port s.
-    let map = fields_seen (view_of_actions l v) port metadata in
-    let holds : Holds Nothing (agrees e (map e.field)) (fields_seen v port 0) = subst (λ (a : Asked). Holds a (agrees e (map e.field)) (fields_seen v port 0)) is (one_holds o metadata e k l g v port s) in
-    all_more (λ x. agrees x (map x.field)) m e ∙ and_same _ _ _ (h.same u l g v port s) holds;
+      let map = fields_seen (view_of_actions l v) port metadata in
+      let holds : Holds Nothing (agrees e (map e.field)) (fields_seen v port 0) = subst (λ (a : Asked). Holds a (agrees e (map e.field)) (fields_seen v port 0)) is (one_holds o metadata e k l g v port s) in
+      all_more (λ x. agrees x (map x.field)) m e ∙ and_same _ _ _ (h.same u l g v port s) holds;
   kept = h.kept;
 }
 
@@ -109,10 +107,10 @@ pub field_more : (o : Overlay) (metadata : ℕ) (m : List MatchField) (e x : Mat
 field_more o metadata m e x t fields k is h = record {
   unknown = λ u. still_unknown o m e (h.unknown u);
   same = λ u l g v port s.
-    let map = fields_seen (view_of_actions l v) port metadata in
-    let own = fields_seen v port 0 in
-    let holds : Holds (Asks x) (agrees e (map e.field)) own = subst (λ (a : Asked). Holds a (agrees e (map e.field)) own) is (one_holds o metadata e k l g v port s) in
-    all_more (λ y. agrees y (map y.field)) m e ∙ both_same _ _ _ _ (h.same u l g v port s) holds ∙ sym (all_more (λ y. agrees y (own y.field)) fields x);
+      let map = fields_seen (view_of_actions l v) port metadata in
+      let own = fields_seen v port 0 in
+      let holds : Holds (Asks x) (agrees e (map e.field)) own = subst (λ (a : Asked). Holds a (agrees e (map e.field)) own) is (one_holds o metadata e k l g v port s) in
+      all_more (λ y. agrees y (map y.field)) m e ∙ both_same _ _ _ _ (h.same u l g v port s) holds ∙ sym (all_more (λ y. agrees y (own y.field)) fields x);
   kept = kept_more IsKeptOrAny fields x h.kept (subst KeptIfAsked is (at_kept o metadata e k e.field refl));
 }
   where

@@ -1,5 +1,5 @@
 -- The VIDs of tags have 12 bits, also after actions.
-use Rattle.std.proofs.Common.{◌≡◌, ℕ, ◌+◌, ◌%◌, ◌^◌, ◌<◌, List, [], ◌∷◌, drop, get_or, Option, Some, None, refl, sym, ap, subst, arith}
+use Rattle.std.proofs.Common.{ℕ, ◌^◌, ◌<◌, List, [], ◌∷◌, drop, sym, subst, arith}
 use Rattle.std.specs.Prelude.{IfSome, map, unwrap_or}
 use Rattle.std.specs.List.{AllByRecursion}
 use Rattle.of_layers.specs.declared.field.Field.{Field}

@@ -1,11 +1,14 @@
 -- WHAT A MATCH ON A PACKET that actions rewrote ASKS OF THE FRAME THAT CAME IN (OpenFlow 1.3.5, 5.3 and 7.2.3.7).
-use Rattle.std.specs.Prelude.{◌≡◌, ◌⊎◌, ℕ, ◌%◌, ◌==◌, Bool, true, false, not, ◌&&◌, ◌||◌, List, [], ◌∷◌, Option, Some, None, slice_get, ⊤}
+use Rattle.std.specs.Prelude.{◌≡◌, ◌⊎◌, ℕ, ◌%◌, ◌==◌, Bool, true, false, not, ◌&&◌, ◌||◌, List, Option, Some, None, slice_get, ⊤}
 use Rattle.std.specs.List.{AllByRecursion, list_any}
 use Rattle.of_layers.specs.declared.field.Field.{Field}
 use Rattle.of_layers.specs.declared.field.Field.TheVariants.{VlanVid, VlanPcp}
+use Rattle.of_layers.specs.Reading.{layers_of}
+use Rattle.of_headers.specs.FieldMap.{field_map}
 use Rattle.of_oxm.specs.declared.match_field.MatchField.{MatchField}
 use Rattle.of_oxm.specs.NormalForm.{IsKept}
 use Rattle.of_oxm.specs.Relations.{bits_looked_at, matches_map}
+use Rattle.of_rewrite.specs.Frames.{IsFrame}
 use Rattle.of_rewrite.specs.Views.{View, fields_seen}
 use Rattle.of_actions.specs.declared.action.Action.{Action}
 use Rattle.of_symbolic.specs.declared.overlay.Overlay.{Overlay}
@@ -15,17 +18,26 @@ use Rattle.of_symbolic.specs.declared.overlay.TagNumber.{TagNumber}
 use Rattle.of_symbolic.specs.declared.overlay.TagNumber.TheVariants.{Received, Unknown as NotKnown}
 use Rattle.of_symbolic.specs.declared.pulling.Pulled.{Pulled}
 use Rattle.of_symbolic.specs.declared.pulling.Pulled.TheVariants.{Never, Unknown, When}
-use Rattle.of_symbolic.specs.Actions.{view_of_actions}
+use Rattle.of_symbolic.specs.Actions.{frame_of_actions, view_of_actions}
 use Rattle.of_symbolic.specs.Overlays.{HasVids}
 
 -- ---- what is pulled
 
--- The match on the packet after these actions, with this metadata, never matches, or matches exactly if these fields match the frame that came in, with metadata 0.
+-- The match on the packet after these actions, with this metadata, never matches, or matches exactly if these fields match the frame that came in. The metadata of that one is 0 (5.1).
 abbrev pub IsPulled : List Action → ℕ → List MatchField → Pulled → Type 0
 IsPulled l metadata m Never = (v : View) (port : ℕ) → HasVids v → matches_map m (fields_seen (view_of_actions l v) port metadata) ≡ false
 IsPulled l metadata m Unknown = ⊤
 IsPulled l metadata m (When fields) =
     (v : View) (port : ℕ) → HasVids v → matches_map m (fields_seen (view_of_actions l v) port metadata) ≡ matches_map fields.items (fields_seen v port 0)
+
+-- the same about frames
+abbrev pub IsTrueOfFrames : List Action → ℕ → List MatchField → Pulled → Type 0
+IsTrueOfFrames l metadata m Never =
+    (frame : List ℕ) (port : ℕ) → IsFrame frame → matches_map m (field_map (layers_of (frame_of_actions l frame)) port metadata) ≡ false
+IsTrueOfFrames l metadata m Unknown = ⊤
+IsTrueOfFrames l metadata m (When fields) =
+    (frame : List ℕ) (port : ℕ) → IsFrame frame →
+    matches_map m (field_map (layers_of (frame_of_actions l frame)) port metadata) ≡ matches_map fields.items (field_map (layers_of frame) port 0)
 
 -- a field of a match in normal form, or one that agrees with each value of the field
 abbrev pub IsKeptOrAny : MatchField → Type 0

@@ -1,5 +1,5 @@
 -- WHAT IS KNOWN OF THE VLAN TAGS of a packet after actions, in terms of the tags of the frame that came in (OpenFlow 1.3.5, 5.12).
-use Rattle.std.specs.Prelude.{◌≡◌, ℕ, ◌%◌, ◌^◌, List, [], ◌∷◌, Option, Some, None, slice_get, unwrap_or, ⊤}
+use Rattle.std.specs.Prelude.{◌≡◌, ℕ, ◌%◌, ◌^◌, List, [], ◌∷◌, ◌++◌, Option, Some, None, slice_get, unwrap_or, ⊤}
 use Rattle.std.specs.List.{fold}
 use Rattle.std.specs.Option.{option_map, option_map_or}
 use Rattle.of_layers.specs.declared.field.Field.{Field}
@@ -63,6 +63,13 @@ no_tags = record { pushed = []; own = Some (record { vid = None; pcp = None }) }
 -- after actions, the first one first
 abbrev pub tags_of_actions : List Action → Tags
 tags_of_actions = fold (λ k a. tags_after a k) no_tags
+
+-- one of the actions is a POP_VLAN before which no pushed tag was left
+pub record PopsOwn (l : List Action) : Type 0 where
+  pub before : List Action
+  pub after : List Action
+  pub is : l ≡ before ++ actions.PopVlan ∷ after
+  pub none : (tags_of_actions before).pushed ≡ []
 
 -- ---- what that says about tags
 

@@ -119,10 +119,7 @@ fn own_vid(vid: Option<u16>, e: &MatchField) -> Asked
 {
     match vid {
         None => Asked::Asks(*e),
-        Some(vid) => by_tag(
-            agrees_with(e, PRESENT + u128::from(vid)),
-            agrees_with(e, 0),
-        ),
+        Some(vid) => by_tag(agrees_with(e, PRESENT + u128::from(vid)), agrees_with(e, 0)),
     }
 }
 
@@ -144,9 +141,7 @@ fn pushed_pcp(pcp: TagNumber, e: &MatchField) -> Asked
             let agrees = agrees_with(e, u128::from(pcp));
             by_tag(agrees, agrees)
         }
-        TagNumber::IfTagged(pcp) => {
-            by_tag(agrees_with(e, u128::from(pcp)), agrees_with(e, 0))
-        }
+        TagNumber::IfTagged(pcp) => { by_tag(agrees_with(e, u128::from(pcp)), agrees_with(e, 0)) }
         TagNumber::Received if e.value != 0 => Asked::Asks(*e),
         TagNumber::Received | TagNumber::Unknown => Asked::Open,
     }

@@ -6,6 +6,6 @@ mod laws;
 mod overlay;
 mod pulling;
 
-pub use laws::{overlays_show_views, rewritten_frames_have_views};
+pub use laws::{overlays_show_views, pulled_matches_are_of_frames, rewritten_frames_have_views};
 pub use overlay::{Overlay, PushedTag, ReceivedTag, TagNumber};
 pub use pulling::{Pulled, pull};

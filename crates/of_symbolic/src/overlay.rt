@@ -1,10 +1,10 @@
 //! What is known of a packet that actions rewrote.
-ghost use Rattle.std.specs.Prelude.{◌≡◌, ◌∷◌, ◌++◌, ◌%◌, ◌^◌, ◌==◌, if◌then◌else◌, List, [], OnErr, OnOk, Some, slice_get};
+ghost use Rattle.std.specs.Prelude.{◌≡◌, ◌∷◌, ◌++◌, List, [], OnErr, OnOk, slice_get};
 ghost use Rattle.of_layers.specs.declared.field.Field.{Field as TheField};
-ghost use Rattle.of_layers.specs.Fields.{bits_of, number_of};
 ghost use Rattle.of_headers.specs.FieldMap.{value as value_in};
 ghost use Rattle.of_actions.specs.declared.action.Action.{Action as TheAction};
-ghost use Rattle.of_symbolic.specs.Overlays.{IsOverlay, tags_in};
+ghost use Rattle.of_actions.specs.declared.action.Action.TheVariants.{SetField};
+ghost use Rattle.of_symbolic.specs.Overlays.{IsOverlay, tags_in, value_by};
 ghost use Rattle.of_symbolic.specs.Tags.{copied as as_copied, new_tag as tag_above, pushed_set, received_set, tags_popped, tags_set};
 
 use of_actions::Action;
@@ -147,6 +147,7 @@ impl Overlay {
         Ok(())
     }
 
+    // PUSH_VLAN.
     fn push_tag(&mut self) -> Result<(), AllocError>
         ensures ok { OnOk result (self.new.pushed.items ≡ tag_above (slice_get self.old.pushed.items 0) self.old.own ∷ self.old.pushed.items) }
         ensures err { OnErr result (self.new.pushed.items ≡ self.old.pushed.items) }
@@ -157,6 +158,7 @@ impl Overlay {
         Ok(())
     }
 
+    // POP_VLAN.
     fn pop_tag(&mut self)
         ensures tags { tags_in self.new ≡ tags_popped self.old.pushed.items self.old.own }
         ensures same { self.new.set ≡ self.old.set }
@@ -168,9 +170,10 @@ impl Overlay {
         }
     }
 
+    // SET_FIELD.
     fn set_field(&mut self, field: Field, value: u128)
         ensures tags { tags_in self.new ≡ tags_set field value self.old.pushed.items self.old.own }
-        ensures set { (f : TheField) → value_in self.new.set f ≡ (if number_of f == number_of field then Some (value % 2 ^ bits_of f) else value_in self.old.set f) }
+        ensures set { (f : TheField) → value_in self.new.set f ≡ value_by (SetField field value) f (value_in self.old.set f) }
     {
         self.set.put(field, value & field.row().ones);
         match first_tag(&self.pushed) {

@@ -22,7 +22,12 @@ pub enum Pulled {
 }
 
 /// What a match on a packet, with this metadata, asks of the frame that came in (OpenFlow 1.3.5, 5.3).
-pub fn pull(alloc: Global, overlay: &Overlay, metadata: u64, m: &Match) -> Result<Pulled, AllocError>
+pub fn pull(
+    alloc: Global,
+    overlay: &Overlay,
+    metadata: u64,
+    m: &Match,
+) -> Result<Pulled, AllocError>
     ensures is { IfOk result (λ r. (l : List Action) → IsOverlay overlay.now l → IsPulled l metadata m.now r) }
     ensures kept { IfOk result AreKeptOrAny }
     ensures unknown { IfOk result (λ r. r ≡ Unknown → is_unknown_in overlay.now m.now ≡ true) }

@@ -1,4 +1,4 @@
-use Rattle.std.proofs.Common.{◌≡◌, ◌+◌, ◌<◌, length, get_or, take, ap, sym, subst, ◌∙◌, arith, List, None}
+use Rattle.std.proofs.Common.{◌≡◌, get_or, take, ap, sym, ◌∙◌, List, None}
 use Rattle.of_layers.specs.declared.field.Field.TheVariants.{InPort}
 use Rattle.of_oxm.specs.declared.match_field.MatchField.{MatchField}
 use Rattle.of_oxm.specs.NormalForm.{IsKept}

@@ -1,5 +1,4 @@
-use Rattle.std.proofs.Common.{◌≡◌, ap}
-use Rattle.of_layers.specs.Fields.{ones_of}
+use Rattle.std.proofs.Common.{ap}
 use Rattle.of_headers.specs.FieldMap.{value}
 use Rattle.of_symbolic.proofs.Following.{set_low}
 use Rattle.of_symbolic.proofs.overlay.Overlay.set_field.Goals as goal
