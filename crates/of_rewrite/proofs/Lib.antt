@@ -22,6 +22,10 @@ pub mod RightLayers
 pub mod StayingRight
 pub mod CoveredWords
 pub mod KeptPlaces
+pub mod Layering
 pub mod Calling
+pub mod Widths
+pub mod Looking
+pub mod Viewing
 pub mod OffLayers
 pub mod StayingOff

@@ -9,3 +9,4 @@ pub mod Calls
 pub mod Tagging
 pub mod Spans
 pub mod Renewal
+pub mod Views

@@ -1,11 +1,16 @@
-//! What the update of a checksum keeps, and what calls keep of what is known.
+//! What the update of a checksum keeps, what calls keep of what is known, and what lookups see after them.
 
-ghost use Rattle.std.specs.Prelude.{ℕ, ◌≡◌, ◌<◌, ◌+◌, ◌%◌, ◌∷◌, ◌++◌, IsTrue, List, length, sum};
+ghost use Rattle.std.specs.Prelude.{ℕ, ◌≡◌, ◌<◌, ◌+◌, ◌%◌, ◌∷◌, ◌++◌, IsTrue, List, false, is_some, length, sum};
+ghost use Rattle.of_layers.specs.declared.field.Field.{Field};
+ghost use Rattle.of_layers.specs.Fields.{is_settable};
+ghost use Rattle.of_layers.specs.Reading.{layers_of};
+ghost use Rattle.of_headers.specs.FieldMap.{field_map};
 ghost use Rattle.of_headers.specs.declared.known.Known.{Known};
 ghost use Rattle.of_headers.specs.Known.{IsKnownOf};
 ghost use Rattle.of_rewrite.specs.Frames.{IsFrame};
-ghost use Rattle.of_rewrite.specs.Calls.{Call, AreAllowed, frame_after_all, known_after_all};
+ghost use Rattle.of_rewrite.specs.Calls.{Call, AreAllowed, IsAllowed, frame_after, frame_after_all, known_after_all};
 ghost use Rattle.of_rewrite.specs.Checksum.{updated, never_zero, sums_to_ones, AreWords};
+ghost use Rattle.of_rewrite.specs.Views.{IsAction, IsView, View, fields_seen, view_after, view_of};
 
 /// A checksum that was right is right after it is updated: with all the words that it covers it sums up to all ones (RFC 1071, 1).
 ///
@@ -29,4 +34,28 @@ pub fn stays_right()
 pub fn known_stays_right()
     ensures { (calls : List Call) (known : Known) (frame : List ℕ) → IsFrame frame → AreAllowed calls frame → IsKnownOf known frame →
         IsKnownOf (known_after_all calls frame known) (frame_after_all calls frame) }
+{}
+
+/// After an action a frame has the view that the action makes of its view before (OpenFlow 1.3.5, 5.12).
+///
+/// `view`: that holds for each action that rewrites a frame, so also for several, one after the other.
+/// `frame`: a frame stays a frame, so that another call may follow.
+/// `present`: no action adds a header or removes one, except for VLAN tags.
+/// `fixed`: a field that SET_FIELD may not set, such as ETH_TYPE or IP_PROTO, keeps its value.
+pub fn views_follow()
+    ensures view { (call : Call) (frame : List ℕ) (v : View) → IsFrame frame → IsAction call → IsAllowed call frame → IsView v frame →
+        IsView (view_after call v) (frame_after call frame) }
+    ensures frame { (call : Call) (frame : List ℕ) → IsFrame frame → IsAllowed call frame → IsFrame (frame_after call frame) }
+    ensures present { (call : Call) (v : View) (f : Field) → is_some ((view_after call v).fields f) ≡ is_some (v.fields f) }
+    ensures fixed { (call : Call) (frame : List ℕ) (v : View) (f : Field) → IsAllowed call frame → is_settable f ≡ false →
+        (view_after call v).fields f ≡ v.fields f }
+{}
+
+/// The view of a frame, an ingress port and metadata are all that a lookup sees of a packet (OpenFlow 1.3.5, 5.3).
+///
+/// `view`: each frame has a view. `fields`: the fields of the packet are those that the view gives.
+pub fn views_tell_lookups()
+    ensures view { (frame : List ℕ) → IsView (view_of frame) frame }
+    ensures fields { (frame : List ℕ) (v : View) (port metadata : ℕ) (f : Field) → IsFrame frame → IsView v frame →
+        field_map (layers_of frame) port metadata f ≡ fields_seen v port metadata f }
 {}

@@ -12,4 +12,4 @@ mod tags;
 mod writing;
 
 pub use frame::{Frame, Ttl};
-pub use laws::{known_stays_right, stays_right};
+pub use laws::{known_stays_right, stays_right, views_follow, views_tell_lookups};

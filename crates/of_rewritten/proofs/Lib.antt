@@ -1,5 +1,3 @@
-pub mod Layering
 pub mod Tagging
-pub mod Widths
 pub mod Setting
 pub mod Pushing

@@ -1,5 +1,5 @@
 -- The fields of a frame of which a tag was pushed or popped.
-use Rattle.std.proofs.Common.{◌≡◌, ℕ, List, ◌∷◌, refl, sym, ap, ◌∙◌}
+use Rattle.std.proofs.Common.{◌≡◌, ℕ, List, ◌∷◌, sym, ap, ◌∙◌}
 use Rattle.std.specs.Prelude.{IsTrue}
 use Rattle.of_layers.specs.declared.field.Field.{Field}
 use Rattle.of_layers.specs.Layers.{Layers}
@@ -9,8 +9,8 @@ use Rattle.of_headers.specs.FieldMap.{field_map}
 use Rattle.of_headers.specs.Tags.{inner_tags, tag_before}
 use Rattle.of_rewrite.specs.Frames.{IsFrame, frame_popped, frame_pushed}
 use Rattle.of_rewrite.proofs.Framing.{pushed_frame, popped_frame}
+use Rattle.of_rewrite.proofs.Layering.{layers_after_push, layers_after_pop}
 use Rattle.of_rewritten.specs.Rewritten.{fields_tagged}
-use Rattle.of_rewritten.proofs.Layering.{layers_after_push, layers_after_pop}
 use Rattle.of_rewritten.proofs.Tagging.{other_tags}
 
 pub tags_pushed : (type : ℕ) (frame : List ℕ) → IsFrame frame → IsTrue (is_tag_type type) → (layers_of (frame_pushed type frame)).tags ≡ tag_before type (layers_of frame).tags ∷ (layers_of frame).tags

@@ -1,5 +1,5 @@
 -- How many bits the cell of a field has.
-use Rattle.std.proofs.Common.{◌≡◌, ℕ, zero, suc, ◌%◌, ◌^◌, Bool, true, false, cond, eqb, ◌&&◌, List, [], ◌∷◌, ◌++◌, Option, Some, None, refl, ap, ◌∙◌}
+use Rattle.std.proofs.Common.{◌≡◌, ℕ, ◌%◌, ◌^◌, ◌<◌, Bool, true, false, cond, eqb, ◌&&◌, List, [], ◌∷◌, ◌++◌, Some, refl, ap}
 use Rattle.std.specs.Prelude.{◌||◌, not, IsTrue}
 use Rattle.std.specs.Option.{option_map}
 use Rattle.std.proofs.lemmas.Bool.{eqb-true}
@@ -8,8 +8,9 @@ use Rattle.of_layers.specs.declared.field.Field.TheVariants.{InPort, Metadata, E
 use Rattle.of_layers.specs.declared.transport.Transport.{Transport}
 use Rattle.of_layers.specs.declared.transport.Transport.TheVariants.{Nothing}
 use Rattle.of_layers.specs.Fields.{row_of, number_of, bits_of, is_settable}
-use Rattle.of_layers.specs.Layers.{Item, Cell, Carried, Extension, Options, Fragment, Body, Plain, Arp, Ipv4, Ipv6, Layers, cells_in, byte_cells, inner_cells, tag_cells, extension_cells, carried_cells, body_cells, cells, next_before, addresses, outer_tag, inner_tag, ether_type, arp, ipv4, ipv6, options, fragment, items_of}
+use Rattle.of_layers.specs.Layers.{Item, Cell, Carried, Extension, Options, Fragment, Body, Plain, Arp, Ipv4, Ipv6, Layers, cells_in, byte_cells, inner_cells, tag_cells, extension_cells, carried_cells, body_cells, cells, next_before, addresses, outer_tag, inner_tag, ether_type, arp, ipv4, ipv6, options, fragment, items_of, ttl}
 use Rattle.of_layers.specs.Looking.{name_is, look_up}
+use Rattle.of_rewrite.proofs.Finding.{Sound}
 use Rattle.of_rewrite.proofs.Kept.{cut_at}
 
 -- each cell of this name has this width
@@ -120,6 +121,20 @@ settable_wide f h = record {
   in_transport = λ t. elim t as (λ t. wide (number_of f) (cell_bits f) (items_of t) ≡ true) [ Nothing ↦ refl | _ ↦ refl ];
 }
 
+pub ttl_wide : IsWide ttl 8
+unfolding row_of
+ttl_wide = record {
+  ends = refl;
+  tag = refl;
+  type = refl;
+  in_arp = refl;
+  in_ipv4 = refl;
+  in_ipv6 = λ es. next_wide ttl 8 es ipv6 refl (λ e rest. refl);
+  in_options = λ es. next_wide ttl 8 es options refl (λ e rest. refl);
+  in_fragment = λ es. next_wide ttl 8 es fragment refl (λ e rest. refl);
+  in_transport = λ t. elim t as (λ t. wide ttl 8 (items_of t) ≡ true) [ Nothing ↦ refl | _ ↦ refl ];
+}
+
 -- ---- what is found in cells one of which was changed
 
 pub look_cut : (n w : ℕ) (f : ℕ → ℕ) (cs : List Cell) → HasWidth n w cs → look_up n (cut_at n f cs) ≡ option_map (λ x. f x % 2 ^ w) (look_up n cs)
@@ -129,3 +144,12 @@ look_cut n w f (c ∷ cs) h =
       | true ↦ λ t. let same : c.width ≡ w = h.0 t in rw t (ap (λ (k : ℕ). Some (f c.value % 2 ^ k)) same)
       | false ↦ λ t. rw t (look_cut n w f cs h.1)
     ] refl
+
+-- a number that is found is within its bits
+pub found_small : (n w x : ℕ) (cs : List Cell) → HasWidth n w cs → Sound cs → look_up n cs ≡ Some x → x < 2 ^ w
+found_small n w x [] h s e = absurd cc
+found_small n w x (c ∷ cs) h s e =
+    elim (name_is n c.name) as (λ t. name_is n c.name ≡ t → cond t (Some c.value) (look_up n cs) ≡ Some x → x < 2 ^ w) [
+      | true ↦ λ t g. let is : c.value ≡ x = cc in let same : c.width ≡ w = h.0 t in let small : c.value < 2 ^ c.width = s.0 in rw (← same, ← is) small
+      | false ↦ λ t g. found_small n w x cs h.1 s.1 g
+    ] refl e

@@ -1,12 +1,12 @@
 -- The layers of a frame after an action.
-use Rattle.std.proofs.Common.{◌≡◌, ℕ, zero, suc, ◌+◌, ◌-◌, ◌*◌, ◌/◌, ◌%◌, ◌^◌, ◌<◌, ◌≤◌, Bool, true, false, cond, List, [], ◌∷◌, ◌++◌, length, take, drop, Option, Some, None, refl, sym, ap, ◌∙◌, arith}
+use Rattle.std.proofs.Common.{◌≡◌, ℕ, zero, suc, ◌+◌, ◌-◌, ◌*◌, ◌/◌, ◌%◌, ◌^◌, ◌<◌, true, false, cond, List, [], ◌∷◌, ◌++◌, length, take, drop, Option, Some, None, refl, sym, ap, ◌∙◌, arith}
 use Rattle.std.specs.Prelude.{IsTrue, nat_le}
 use Rattle.std.proofs.lemmas.Bool.Decides.{nat_tests}
 use Rattle.std.proofs.lemmas.List.{take-append-drop, length-take-le, length-drop}
 use Rattle.of_layers.specs.Bits.{bits, bits_of}
 use Rattle.of_layers.specs.declared.field.Field.{Field}
 use Rattle.of_layers.specs.Fields.{number_of, is_settable}
-use Rattle.of_layers.specs.Layers.{Cell, Layers, cells, encoded, ttl}
+use Rattle.of_layers.specs.Layers.{Cell, cells, encoded, ttl}
 use Rattle.of_layers.specs.Reading.{is_tag_type, layers_of}
 use Rattle.of_layers.specs.WellFormed.{AreBytes}
 use Rattle.of_layers.proofs.BitLemmas.{bits_parts}
@@ -59,18 +59,18 @@ bits_in n cs e =
 
 -- ---- a number is replaced
 
-replaced : (n v : ℕ) (s : List ℕ) → IsFrame s → Replaceable n → LeavesLayers n → layers_of (bytes_in (number_set n v (layers_of s))) ≡ layers_set n v (layers_of s)
-replaced n v s h free leaves =
+layers_replaced : (n v : ℕ) (s : List ℕ) → IsFrame s → Replaceable n → LeavesLayers n → layers_of (bytes_in (number_set n v (layers_of s))) ≡ layers_set n v (layers_of s)
+layers_replaced n v s h free leaves =
     let cs : List Cell = number_set n v (layers_of s) in
     layers_are n v s (bytes_in (number_set n v (layers_of s))) free leaves h.1 h.0 (bytes_below cs) (bits_in (length s) cs (width_set n v (layers_of s) ∙ frame_width s h))
 
 pub layers_after_set : (f : Field) (v : ℕ) (s : List ℕ) → IsFrame s → IsTrue (is_settable f) → layers_of (frame_set f v s) ≡ layers_set (number_of f) v (layers_of s)
 unfolding frame_set
-layers_after_set f v s h settable = replaced (number_of f) v s h (replaceable f) (leaves f settable)
+layers_after_set f v s h settable = layers_replaced (number_of f) v s h (replaceable f) (leaves f settable)
 
 pub layers_after_ttl : (v : ℕ) (s : List ℕ) → IsFrame s → layers_of (frame_ttl v s) ≡ layers_set ttl v (layers_of s)
 unfolding frame_ttl
-layers_after_ttl v s h = replaced ttl v s h (omega arith, omega arith) leaves_ttl
+layers_after_ttl v s h = layers_replaced ttl v s h (omega arith, omega arith) leaves_ttl
 
 same_cells : (s : List ℕ) → IsFrame s → layers_of (bytes_in (cells (layers_of s))) ≡ layers_of s
 same_cells s h = sym (ap layers_of (bytes_are (cells (layers_of s)) s h.1 (frame_encoded s h.1 h.0)))
@@ -79,7 +79,7 @@ aged_by : (s : List ℕ) (h : IsFrame s) (o : Option ℕ) → layers_of (bytes_i
 aged_by s h None = same_cells s h
 aged_by s h (Some t) = elim (nat_le t 1) as (λ b. layers_of (bytes_in (cond b (cells (layers_of s)) (number_set ttl (t - 1) (layers_of s)))) ≡ cond b (layers_of s) (layers_set ttl (t - 1) (layers_of s))) [
   | true ↦ same_cells s h
-  | false ↦ replaced ttl (t - 1) s h (omega arith, omega arith) leaves_ttl
+  | false ↦ layers_replaced ttl (t - 1) s h (omega arith, omega arith) leaves_ttl
 ]
 
 pub layers_after_decrement : (s : List ℕ) → IsFrame s → layers_of (frame_ttl_decremented s) ≡ layers_ttl_decremented (ttl_of (layers_of s)) (layers_of s)

@@ -1,0 +1,113 @@
+-- What is known of a packet is so after each action.
+use Rattle.std.proofs.Common.{◌≡◌, ℕ, ◌%◌, ◌^◌, Bool, true, false, cond, eqb, List, [], ◌∷◌, drop, Option, Some, None, refl, sym, ap, subst, ◌∙◌}
+use Rattle.std.specs.Prelude.{slice_get, unwrap_or}
+use Rattle.std.specs.List.{fold}
+use Rattle.std.specs.Option.{option_map}
+use Rattle.of_layers.specs.declared.field.Field.{Field}
+use Rattle.of_layers.specs.declared.field.Field.TheVariants.{VlanVid, VlanPcp}
+use Rattle.of_layers.specs.Fields.{number_of, bits_of}
+use Rattle.of_headers.specs.FieldMap.{value}
+use Rattle.of_rewrite.specs.Views.{Tag, View, outermost, outermost_set, tag_set}
+use Rattle.of_actions.specs.declared.action.Action.{Action}
+use Rattle.of_actions.specs.declared.action.Action.TheVariants as actions
+use Rattle.of_symbolic.specs.declared.overlay.Overlay.{Overlay}
+use Rattle.of_symbolic.specs.declared.overlay.PushedTag.{PushedTag}
+use Rattle.of_symbolic.specs.declared.overlay.ReceivedTag.{ReceivedTag}
+use Rattle.of_symbolic.specs.Actions.{call_of, view_by, view_of_actions}
+use Rattle.of_symbolic.specs.Overlays.{IsOverlay, Shows, tags_in, value_by, value_set, with_value}
+use Rattle.of_symbolic.specs.Tags.{Tags, AreTags, IsNumber, IsPushed, copied, new_tag, no_tags, own_tag, own_tags, pushed_set, received_set, tags_after, tags_of_actions, tags_popped, tags_set}
+
+-- ---- a tag is pushed
+
+abbrev no_tag : Tag
+no_tag = record { vid = 0; pcp = 0 }
+
+copied_none : (n : Option ℕ) → IsNumber (copied n) None 0
+copied_none None = refl
+copied_none (Some n) = refl
+
+copied_some : (n : Option ℕ) (x : ℕ) → IsNumber (copied n) (Some x) (unwrap_or n x)
+copied_some None x = refl
+copied_some (Some n) x = refl
+
+above_own : (k : ReceivedTag) (received : List Tag) → IsPushed (new_tag None (Some k)) (outermost received) (unwrap_or (outermost (own_tags k received)) no_tag)
+above_own k [] = record { vid = copied_none k.vid; pcp = copied_none k.pcp }
+above_own k (t ∷ ts) = record { vid = copied_some k.vid t.vid; pcp = copied_some k.pcp t.pcp }
+
+new_pushed : (ps : List PushedTag) (own : Option ReceivedTag) (received tags : List Tag) → AreTags ps own received tags → IsPushed (new_tag (slice_get ps 0) own) (outermost received) (unwrap_or (outermost tags) no_tag)
+new_pushed [] None received tags h = record { vid = tt; pcp = tt }
+new_pushed [] (Some k) received tags h = subst (λ (ts : List Tag). IsPushed (new_tag None (Some k)) (outermost received) (unwrap_or (outermost ts) no_tag)) (sym h) (above_own k received)
+new_pushed (p ∷ ps) own received [] h = absurd h
+new_pushed (p ∷ ps) own received (t ∷ tags) h = h.0
+
+-- ---- a tag is popped
+
+popped_tags : (ps : List PushedTag) (own : Option ReceivedTag) (received tags : List Tag) → AreTags ps own received tags → AreTags (tags_popped ps own).pushed (tags_popped ps own).own received (drop 1 tags)
+popped_tags [] own received tags h = tt
+popped_tags (p ∷ ps) own received [] h = absurd h
+popped_tags (p ∷ ps) own received (t ∷ tags) h = h.1
+
+-- ---- a field is set
+
+pushed_is_set : (f : Field) (v : ℕ) (p : PushedTag) (received : Option Tag) (t : Tag) → IsPushed p received t → IsPushed (pushed_set f v p) received (tag_set f v t)
+pushed_is_set VlanVid v p received t h = record { vid = refl; pcp = h.pcp }
+pushed_is_set VlanPcp v p received t h = record { vid = h.vid; pcp = refl }
+pushed_is_set f v p received t h = h
+
+own_is_set : (f : Field) (v : ℕ) (k : ReceivedTag) (t : Tag) → tag_set f v (own_tag k t) ≡ own_tag (received_set f v k) t
+own_is_set VlanVid v k t = refl
+own_is_set VlanPcp v k t = refl
+own_is_set f v k t = refl
+
+own_are_set : (f : Field) (v : ℕ) (k : ReceivedTag) (received : List Tag) → outermost_set f v (own_tags k received) ≡ own_tags (received_set f v k) received
+own_are_set f v k [] = refl
+own_are_set f v k (t ∷ ts) = ap (λ (u : Tag). u ∷ ts) (own_is_set f v k t)
+
+set_tags : (f : Field) (v : ℕ) (ps : List PushedTag) (own : Option ReceivedTag) (received tags : List Tag) → AreTags ps own received tags →
+    AreTags (tags_set f v ps own).pushed (tags_set f v ps own).own received (outermost_set f v tags)
+set_tags f v [] None received tags h = tt
+set_tags f v [] (Some k) received tags h = ap (outermost_set f v) h ∙ own_are_set f v k received
+set_tags f v (p ∷ ps) own received [] h = absurd h
+set_tags f v (p ∷ ps) own received (t ∷ tags) h = (pushed_is_set f v p (outermost received) t h.0, h.1)
+
+set_over : (n : ℕ) (o x : Option ℕ) → option_map (λ (y : ℕ). n) (with_value o x) ≡ option_map (λ (y : ℕ). n) x
+set_over n None x = refl
+set_over n (Some m) None = refl
+set_over n (Some m) (Some x) = refl
+
+field_set_by : (b : Bool) (n : ℕ) (o x y : Option ℕ) → y ≡ with_value o x → cond b (option_map (λ (z : ℕ). n) y) y ≡ with_value (cond b (Some n) o) x
+field_set_by true n o x y h = ap (option_map (λ (z : ℕ). n)) h ∙ set_over n o x
+field_set_by false n o x y h = h
+
+-- ---- an action, and several
+
+one_shows : (a : Action) (set : Field → Option ℕ) (k : Tags) (v w : View) → Shows set k v w → Shows (λ f. value_by a f (set f)) (tags_after a k) v (view_by (call_of a) w)
+one_shows (actions.PushVlan type) set k v w h = record { fields = h.fields; tags = (new_pushed k.pushed k.own v.tags w.tags h.tags, h.tags) }
+one_shows actions.PopVlan set k v w h = record { fields = h.fields; tags = popped_tags k.pushed k.own v.tags w.tags h.tags }
+one_shows (actions.SetNwTtl ttl) set k v w h = record { fields = h.fields; tags = h.tags }
+one_shows actions.DecNwTtl set k v w h = record { fields = h.fields; tags = h.tags }
+one_shows (actions.SetField f n) set k v w h = record {
+  fields = λ g. field_set_by (eqb (number_of g) (number_of f)) (n % 2 ^ bits_of g) (set g) (v.fields g) (w.fields g) (h.fields g);
+  tags = set_tags f n k.pushed k.own v.tags w.tags h.tags;
+}
+one_shows (actions.Output port max) set k v w h = record { fields = h.fields; tags = h.tags }
+one_shows (actions.Group group) set k v w h = record { fields = h.fields; tags = h.tags }
+
+all_show : (l : List Action) (set : Field → Option ℕ) (k : Tags) (v w : View) → Shows set k v w → Shows (λ f. fold (λ old a. value_by a f old) (set f) l) (fold (λ j a. tags_after a j) k l) v (view_of_actions l w)
+all_show [] set k v w h = record { fields = h.fields; tags = h.tags }
+all_show (a ∷ l) set k v w h = all_show l (λ f. value_by a f (set f)) (tags_after a k) v (view_by (call_of a) w) (one_shows a set k v w h)
+
+own_same : (t : Tag) → t ≡ own_tag (record { vid = None; pcp = None }) t
+own_same t = refl
+
+tags_same : (ts : List Tag) → ts ≡ own_tags (record { vid = None; pcp = None }) ts
+tags_same [] = refl
+tags_same (t ∷ ts) = refl
+
+pub overlay_shows : (o : Overlay) (l : List Action) (v : View) → IsOverlay o l → Shows (value o.set) (tags_in o) v (view_of_actions l v)
+overlay_shows o l v h =
+    let all : Shows (value_set l) (tags_of_actions l) v (view_of_actions l v) = all_show l (λ f. None) no_tags v v (record { fields = λ f. refl; tags = tags_same v.tags }) in
+    record {
+      fields = λ f. all.fields f ∙ ap (λ (x : Option ℕ). with_value x (v.fields f)) (sym (h.set f));
+      tags = subst (λ (k : Tags). AreTags k.pushed k.own v.tags (view_of_actions l v).tags) (sym h.tags) all.tags;
+    }

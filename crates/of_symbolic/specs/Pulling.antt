@@ -1,0 +1,80 @@
+-- WHAT A MATCH ON A PACKET that actions rewrote ASKS OF THE FRAME THAT CAME IN (OpenFlow 1.3.5, 5.3 and 7.2.3.7).
+use Rattle.std.specs.Prelude.{◌≡◌, ◌⊎◌, ℕ, ◌%◌, ◌==◌, Bool, true, false, not, ◌&&◌, ◌||◌, List, Option, Some, None, slice_get, ⊤}
+use Rattle.std.specs.List.{AllByRecursion, list_any}
+use Rattle.of_layers.specs.declared.field.Field.{Field}
+use Rattle.of_layers.specs.declared.field.Field.TheVariants.{VlanVid, VlanPcp}
+use Rattle.of_layers.specs.Reading.{layers_of}
+use Rattle.of_headers.specs.FieldMap.{field_map}
+use Rattle.of_oxm.specs.declared.match_field.MatchField.{MatchField}
+use Rattle.of_oxm.specs.NormalForm.{IsKept}
+use Rattle.of_oxm.specs.Relations.{bits_looked_at, matches_map}
+use Rattle.of_rewrite.specs.Frames.{IsFrame}
+use Rattle.of_rewrite.specs.Views.{View, fields_seen}
+use Rattle.of_actions.specs.declared.action.Action.{Action}
+use Rattle.of_symbolic.specs.declared.overlay.Overlay.{Overlay}
+use Rattle.of_symbolic.specs.declared.overlay.PushedTag.{PushedTag}
+use Rattle.of_symbolic.specs.declared.overlay.ReceivedTag.{ReceivedTag}
+use Rattle.of_symbolic.specs.declared.overlay.TagNumber.{TagNumber}
+use Rattle.of_symbolic.specs.declared.overlay.TagNumber.TheVariants.{Received, Unknown as NotKnown}
+use Rattle.of_symbolic.specs.declared.pulling.Pulled.{Pulled}
+use Rattle.of_symbolic.specs.declared.pulling.Pulled.TheVariants.{Never, Unknown, When}
+use Rattle.of_symbolic.specs.Actions.{frame_of_actions, view_of_actions}
+use Rattle.of_symbolic.specs.Overlays.{HasVids}
+
+-- ---- what is pulled
+
+-- The match on the packet after these actions, with this metadata, never matches, or matches exactly if these fields match the frame that came in. The metadata of that one is 0 (5.1).
+abbrev pub IsPulled : List Action → ℕ → List MatchField → Pulled → Type 0
+IsPulled l metadata m Never = (v : View) (port : ℕ) → HasVids v → matches_map m (fields_seen (view_of_actions l v) port metadata) ≡ false
+IsPulled l metadata m Unknown = ⊤
+IsPulled l metadata m (When fields) =
+    (v : View) (port : ℕ) → HasVids v → matches_map m (fields_seen (view_of_actions l v) port metadata) ≡ matches_map fields.items (fields_seen v port 0)
+
+-- the same about frames
+abbrev pub IsTrueOfFrames : List Action → ℕ → List MatchField → Pulled → Type 0
+IsTrueOfFrames l metadata m Never =
+    (frame : List ℕ) (port : ℕ) → IsFrame frame → matches_map m (field_map (layers_of (frame_of_actions l frame)) port metadata) ≡ false
+IsTrueOfFrames l metadata m Unknown = ⊤
+IsTrueOfFrames l metadata m (When fields) =
+    (frame : List ℕ) (port : ℕ) → IsFrame frame →
+    matches_map m (field_map (layers_of (frame_of_actions l frame)) port metadata) ≡ matches_map fields.items (field_map (layers_of frame) port 0)
+
+-- a field of a match in normal form, or one that agrees with each value of the field
+abbrev pub IsKeptOrAny : MatchField → Type 0
+IsKeptOrAny e = IsKept e ⊎ ((e.value ≡ 0) × (e.mask ≡ Some 0))
+
+abbrev pub AreKeptOrAny : Pulled → Type 0
+AreKeptOrAny Never = ⊤
+AreKeptOrAny Unknown = ⊤
+AreKeptOrAny (When fields) = AllByRecursion IsKeptOrAny fields.items
+
+-- ---- what is unknown
+
+abbrev pub is_not_known : TagNumber → Bool
+is_not_known NotKnown = true
+is_not_known other = false
+
+abbrev pub is_received : TagNumber → Bool
+is_received Received = true
+is_received other = false
+
+-- VLAN_VID of an unknown tag: of a tag that was pushed the bit 0x1000 is known
+abbrev pub is_vid_unknown : Option PushedTag → Option ReceivedTag → MatchField → Bool
+is_vid_unknown (Some tag) own e = is_not_known tag.vid && not (bits_looked_at e % 0x1000 == 0)
+is_vid_unknown None (Some tag) e = false
+is_vid_unknown None None e = true
+
+-- VLAN_PCP of an unknown tag. A PCP of 0 that was copied says: no tag, or a tag with that PCP. No list of fields says that.
+abbrev pub is_pcp_unknown : Option PushedTag → Option ReceivedTag → MatchField → Bool
+is_pcp_unknown (Some tag) own e = is_not_known tag.pcp || (is_received tag.pcp && (e.value == 0))
+is_pcp_unknown None (Some tag) e = false
+is_pcp_unknown None None e = true
+
+abbrev pub is_unknown_at : Overlay → MatchField → Field → Bool
+is_unknown_at o e VlanVid = is_vid_unknown (slice_get o.pushed.items 0) o.own e
+is_unknown_at o e VlanPcp = is_pcp_unknown (slice_get o.pushed.items 0) o.own e
+is_unknown_at o e f = false
+
+-- some field of the match asks what is not known of the outermost tag
+abbrev pub is_unknown_in : Overlay → List MatchField → Bool
+is_unknown_in o m = list_any (λ e. is_unknown_at o e e.field) m

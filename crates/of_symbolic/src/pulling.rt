@@ -1,0 +1,50 @@
+//! What a match on a packet that actions rewrote asks of the frame that came in.
+ghost use Rattle.std.specs.Prelude.{◌≡◌, true, IfOk, List};
+ghost use Rattle.of_actions.specs.declared.action.Action.{Action};
+ghost use Rattle.of_symbolic.specs.declared.pulling.Pulled.TheVariants.{Unknown};
+ghost use Rattle.of_symbolic.specs.Overlays.{IsOverlay};
+ghost use Rattle.of_symbolic.specs.Pulling.{AreKeptOrAny, IsPulled, is_unknown_in};
+
+use crate::asking::{Asked, ask};
+use crate::overlay::Overlay;
+use of_oxm::{Match, MatchField};
+use std::alloc::{AllocError, Global};
+
+/// What a match on a packet asks of the frame that came in.
+#[derive(Debug, Drop)]
+pub enum Pulled {
+    /// No frame that came in makes it match.
+    Never,
+    /// It is not known which frames make it match.
+    Unknown,
+    /// It matches if each of these fields agrees with the frame that came in.
+    When(Vec<MatchField>),
+}
+
+/// What a match on a packet, with this metadata, asks of the frame that came in (OpenFlow 1.3.5, 5.3).
+pub fn pull(
+    alloc: Global,
+    overlay: &Overlay,
+    metadata: u64,
+    m: &Match,
+) -> Result<Pulled, AllocError>
+    ensures is { IfOk result (λ r. (l : List Action) → IsOverlay overlay.now l → IsPulled l metadata m.now r) }
+    ensures kept { IfOk result AreKeptOrAny }
+    ensures unknown { IfOk result (λ r. r ≡ Unknown → is_unknown_in overlay.now m.now ≡ true) }
+{
+    m.known();
+    let mut fields = Vec::new(alloc);
+    let mut open = false;
+    for e in m.fields() {
+        match ask(overlay, metadata, e) {
+            Asked::Never => return Ok(Pulled::Never),
+            Asked::Open => open = true,
+            Asked::Nothing => {}
+            Asked::Asks(asked) => fields.push(asked)?,
+        }
+    }
+    if open {
+        return Ok(Pulled::Unknown);
+    }
+    Ok(Pulled::When(fields))
+}
