@@ -68,8 +68,8 @@ pub fn check_file<L: Lookup, S: Source, W: Sink>(
 ) -> Result<bool, Ended>
     requires reads { S.reads reader.old ≡ 0 }
     requires failures { W.failures writer.old ≡ 0 }
-    ensures output { Runs flow_text (findings_in result steps) (ended_as result) (S.answers reader.old) (S.answers reader.new) (S.ends reader.old) (S.ends reader.new)
-        (W.taken writer.old) (W.taken writer.new) }
+    ensures output { Runs flow_text (findings_in result steps) (ended_as result) (S.answers reader.old) (S.answers reader.new) (S.ends reader.old)
+        (S.ends reader.new) (W.taken writer.old) (W.taken writer.new) }
     ensures faults { Faults (ended_as result) (S.reads reader.new) (S.ends reader.old) (S.ends reader.new) (S.failures reader.old) (S.failures reader.new)
         (W.failures writer.new) }
     ensures reads { S.reads reader.new ≤ 1000000 }

@@ -11,8 +11,8 @@ ghost use Rattle.of_report.specs.declared.reporting.Form.{Form};
 ///
 /// What is left of a reader and held by a writer is as `files_come_whole` of of_replay says.
 pub fn reports_come_whole()
-    ensures flows { (found : Bool) (steps : ℕ) (form : Form) (lines : List (List ℕ)) (file : List ℕ) (known : Known) (ends ends' : ℕ) (old new : Option (List ℕ)) →
-        Runs flow_text (report_in (Ok found) steps form lines) Done (Left (Some file)) known ends ends' old new → ends < ends' →
+    ensures flows { (found : Bool) (steps : ℕ) (form : Form) (lines : List (List ℕ)) (file : List ℕ) (known : Known) (ends ends' : ℕ)
+        (old new : Option (List ℕ)) → Runs flow_text (report_in (Ok found) steps form lines) Done (Left (Some file)) known ends ends' old new → ends < ends' →
         TextOf flow_text (report_in (Ok found) steps form lines) file old new }
     ensures events { (found : Bool) (steps : ℕ) (form : Form) (file : List ℕ) (known : Known) (ends ends' : ℕ) (old new : Option (List ℕ)) →
         Runs event_file (report_on (Ok found) steps form) Done (Left (Some file)) known ends ends' old new → ends < ends' →

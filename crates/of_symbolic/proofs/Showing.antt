@@ -5,7 +5,7 @@ use Rattle.std.specs.List.{fold}
 use Rattle.std.specs.Option.{option_map}
 use Rattle.of_layers.specs.declared.field.Field.{Field}
 use Rattle.of_layers.specs.declared.field.Field.TheVariants.{VlanVid, VlanPcp}
-use Rattle.of_layers.specs.Fields.{number_of, bits_of}
+use Rattle.of_layers.specs.Fields.{number_of, bit_count}
 use Rattle.of_headers.specs.FieldMap.{value}
 use Rattle.of_rewrite.specs.Views.{Tag, View, outermost, outermost_set, tag_set}
 use Rattle.of_actions.specs.declared.action.Action.{Action}
@@ -87,7 +87,7 @@ one_shows actions.PopVlan set k v w h = record { fields = h.fields; tags = poppe
 one_shows (actions.SetNwTtl ttl) set k v w h = record { fields = h.fields; tags = h.tags }
 one_shows actions.DecNwTtl set k v w h = record { fields = h.fields; tags = h.tags }
 one_shows (actions.SetField f n) set k v w h = record {
-  fields = λ g. field_set_by (eqb (number_of g) (number_of f)) (n % 2 ^ bits_of g) (set g) (v.fields g) (w.fields g) (h.fields g);
+  fields = λ g. field_set_by (eqb (number_of g) (number_of f)) (n % 2 ^ bit_count g) (set g) (v.fields g) (w.fields g) (h.fields g);
   tags = set_tags f n k.pushed k.own v.tags w.tags h.tags;
 }
 one_shows (actions.Output port max) set k v w h = record { fields = h.fields; tags = h.tags }

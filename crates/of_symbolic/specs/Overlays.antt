@@ -3,7 +3,7 @@ use Rattle.std.specs.Prelude.{◌≡◌, ℕ, ◌%◌, ◌^◌, ◌<◌, ◌==�
 use Rattle.std.specs.List.{AllByRecursion, fold}
 use Rattle.std.specs.Option.{option_map}
 use Rattle.of_layers.specs.declared.field.Field.{Field}
-use Rattle.of_layers.specs.Fields.{number_of, bits_of}
+use Rattle.of_layers.specs.Fields.{number_of, bit_count}
 use Rattle.of_headers.specs.FieldMap.{value}
 use Rattle.of_rewrite.specs.Views.{Tag, View}
 use Rattle.of_actions.specs.declared.action.Action.{Action}
@@ -13,7 +13,7 @@ use Rattle.of_symbolic.specs.Tags.{Tags, AreTags, tags_of_actions}
 
 -- the value that SET_FIELD sets a field to: as many bits as the field has
 abbrev pub value_by : Action → Field → Option ℕ → Option ℕ
-value_by (actions.SetField field v) f old = if number_of f == number_of field then Some (v % 2 ^ bits_of f) else old
+value_by (actions.SetField field v) f old = if number_of f == number_of field then Some (v % 2 ^ bit_count f) else old
 value_by other f old = old
 
 -- the last value that a field was set to
