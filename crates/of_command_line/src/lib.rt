@@ -45,8 +45,8 @@ const NO_FRAME: &str =
   ofswitch trace FILE --port 1 0200000000a1020000000001
 ";
 
-/// What a trace without a port lacks.
-const NO_PORT: &str = "no port is given: write --port N, or in_port=N in the words of the frame";
+/// How a port is given.
+const PORT_WORDS: &str = "the port is --port N, or in_port=N in the words of the frame";
 
 /// What the user asks for.
 #[derive(Debug, PartialEq, Eq, Drop)]
@@ -398,7 +398,8 @@ fn port_of(alloc: Global, kind: FileKind, number: Option<u32>) -> Result<u32, No
 fn given_port_of(alloc: Global, kind: FileKind, port: Option<&str>) -> Result<u32, NoRequest> {
     match (port_of(alloc, kind, number_in(port.unwrap_or(""))), port) {
         (Err(NoRequest::Refused(why)), None) => Err(NoRequest::Refused(format!(in alloc;
-            "{why}{PORT_WORDS}\n"
+            "{why}{}\n",
+            PORT_WORDS
         )?)),
         (found, _) => found,
     }

@@ -98,7 +98,6 @@ fn say_import_hint(rt: &HostRuntime, bytes: &[u8]) {
     }
 }
 
-
 // Names what is wrong on standard error, except what other commands print at their end.
 fn say_error(rt: &HostRuntime, error: &ImportError) -> NotImported {
     match error {
