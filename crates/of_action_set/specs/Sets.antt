@@ -18,8 +18,8 @@ abbrev pub rank : Action → ℕ
 rank a = (said a).0.rank + field_place (said a).1
 
 -- a set is the list of its actions by ascending rank; this is its action of a kind
-abbrev pub held : ℕ → List Action → Option Action
-held kind set = find (λ a. rank a == kind) set
+abbrev pub held_action : ℕ → List Action → Option Action
+held_action kind set = find (λ a. rank a == kind) set
 
 -- an action takes the place of the one of its kind
 abbrev pub with_action : List Action → Action → List Action

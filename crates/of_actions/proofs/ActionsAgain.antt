@@ -18,7 +18,7 @@ use Rattle.of_actions.specs.Beginnings.{type_at, len_at}
 use Rattle.of_actions.specs.PortNumbers.{is_port}
 use Rattle.of_actions.specs.SetField.{settable, set_field_at, set_value_at, set_len, set_refusals}
 use Rattle.of_actions.specs.Supported.{is_supported, are_supported}
-use Rattle.of_actions.specs.Actions.{actions_of, AreActions, action_refusals, type_refusals, action_at}
+use Rattle.of_actions.specs.Actions.{actions_of, AreActions, wire_action_refusals, type_refusals, action_at}
 use Rattle.of_actions.specs.CanonicalActions.{canonical_action, canonical_actions, canonical_set_field}
 use Rattle.of_actions.proofs.ActionLists.{is_served_list}
 
@@ -29,8 +29,8 @@ IsPlain other = ⊤
 
 -- what stands before the type: over a variable, where nothing has computed to cells yet
 head_none : (packet_out : Bool) (seen : List Action) (rest : List ℕ) (n : ℕ) → length seen ≤ 63 → len_at rest ≡ n → 8 ≤ n → (n % 8) ≡ 0 → n ≤ length rest
-    → first_of (type_refusals packet_out rest) ≡ None → first_of (action_refusals packet_out seen rest) ≡ None
-unfolding action_refusals
+    → first_of (type_refusals packet_out rest) ≡ None → first_of (wire_action_refusals packet_out seen rest) ≡ None
+unfolding wire_action_refusals
 head_none packet_out seen rest n few len low eight whole kind =
     let room : ltb 63 (length seen) ≡ false = le-ltb _ _ few in
     let short : ltb (length rest) 4 ≡ false = le-ltb _ _ (omega arith) in

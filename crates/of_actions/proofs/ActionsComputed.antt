@@ -11,12 +11,12 @@ use Rattle.of_wire.proofs.ItemsRead.{items_are}
 use Rattle.of_wire.proofs.FirstLemmas.{none_applies, first_false}
 use Rattle.of_actions.specs.declared.action.Action.{Action}
 use Rattle.of_actions.specs.Beginnings.{len_at}
-use Rattle.of_actions.specs.Actions.{actions_of, action_refusals, actions_said, AreActions}
+use Rattle.of_actions.specs.Actions.{actions_of, wire_action_refusals, actions_said, AreActions}
 
 actions_take : (packet_out : Bool) → TakesBytes (actions_of packet_out)
-unfolding action_refusals
+unfolding wire_action_refusals
 actions_take packet_out seen bytes some none =
-    let low = first_false _ _ (first_false _ _ (none_applies (action_refusals packet_out seen bytes) none).1.1.0) in
+    let low = first_false _ _ (first_false _ _ (none_applies (wire_action_refusals packet_out seen bytes) none).1.1.0) in
     omega (arith, ltb-false (len_at bytes) 8 low)
 
 pub actions_are : (packet_out : Bool) (bytes : List ℕ) (actions : List Action) (fault : Option Code) → AreActions packet_out [] bytes actions fault → actions_said packet_out bytes ≡ outcome actions fault

@@ -11,10 +11,10 @@ use Rattle.of_actions.specs.declared.action.Action.{Action}
 use Rattle.of_actions.specs.declared.instruction.Instruction.{Instruction}
 use Rattle.of_actions.specs.declared.instruction.Instruction.TheVariants.{Apply, Clear, Write, Metadata, Goto}
 use Rattle.of_actions.specs.Actions.{actions_of}
-use Rattle.of_actions.specs.InstructionLists.{type_of, run_place, is_for, are_for}
+use Rattle.of_actions.specs.InstructionLists.{type_of_instruction, run_place, is_for, are_for}
 use Rattle.of_actions.specs.Headers.{Header, goto, metadata, write, apply, clear, kind_of}
 use Rattle.of_actions.specs.Unread.{leads_on}
-use Rattle.of_actions.specs.Instructions.{HasActions, HasFault, IsBody, IsFault, AreBodies}
+use Rattle.of_actions.specs.Instructions.{HasActions, HasFault, IsInstructionBody, IsFault, AreBodies}
 
 -- whatever the headers from this place on begin completes the whole
 pub record Reading (hs : List Header) (i : ℕ) (done : List Instruction) : Type 0 where
@@ -25,7 +25,7 @@ at_place hs i h lt is =
     let e : drop i hs ≡ get_or hs i h ∷ drop (suc i) hs = drop-cons hs i h lt in
     e ∙ rw add-one (ap (λ (x : Header). x ∷ drop (suc i) hs) (sym is))
 
-pub body_read : (hs : List Header) (i : ℕ) (h : Header) (done new : List Instruction) (v : Instruction) → Reading hs i done → i < length hs → h ≡ get_or hs i h → IsBody h v → new ≡ done ++ v ∷ [] → Reading hs (i + 1) new
+pub body_read : (hs : List Header) (i : ℕ) (h : Header) (done new : List Instruction) (v : Instruction) → Reading hs i done → i < length hs → h ≡ get_or hs i h → IsInstructionBody h v → new ≡ done ++ v ∷ [] → Reading hs (i + 1) new
 body_read hs i h done new v reading lt is body new_is =
     let next : Reading hs (i + 1) (done ++ v ∷ []) = record {
       completes = λ more fault rest.
@@ -48,7 +48,7 @@ all_read hs i done reading e =
 one_list : (bytes : List ℕ) (make : List Action → Instruction) (v w : Instruction) → HasActions bytes make v → HasActions bytes make w → v ≡ w
 one_list bytes make v w a b = a.is ∙ (ap make (one_walk (actions_of false) [] bytes a.actions b.actions None None a.encoded b.encoded).0 ∙ sym b.is)
 
-one_body : (h : Header) (v w : Instruction) → IsBody h v → IsBody h w → v ≡ w
+one_body : (h : Header) (v w : Instruction) → IsInstructionBody h v → IsInstructionBody h w → v ≡ w
 one_body (goto table) v w a b = a ∙ sym b
 one_body (metadata value mask) v w a b = a ∙ sym b
 one_body (write bytes) v w a b = one_list bytes Write v w a b
@@ -71,7 +71,7 @@ no_fault : (bytes : List ℕ) (make : List Action → Instruction) (v : Instruct
 no_fault bytes make v None a b = b
 no_fault bytes make v (Some c) a b = let same = (one_walk (actions_of false) [] bytes a.actions b.0 None (Some c) a.encoded b.1).1 in cc
 
-not_both : (h : Header) (v : Instruction) (o : Option Code) → IsBody h v → IsFault h o → ⊥
+not_both : (h : Header) (v : Instruction) (o : Option Code) → IsInstructionBody h v → IsFault h o → ⊥
 not_both (goto table) v o a b = b
 not_both (metadata value mask) v o a b = b
 not_both (write bytes) v o a b = no_fault bytes Write v o a b
@@ -92,12 +92,12 @@ one_bodies (h ∷ hs) (x ∷ xs) (y ∷ ys) o p a b =
 
 -- ---- no two are done at one place
 
-body_kind : (h : Header) (v : Instruction) → IsBody h v → kind_of h ≡ type_of v
-body_kind (goto table) v a = ap type_of (sym a)
-body_kind (metadata value mask) v a = ap type_of (sym a)
-body_kind (write bytes) v a = ap type_of (sym a.is)
-body_kind (apply bytes) v a = ap type_of (sym a.is)
-body_kind clear v a = ap type_of (sym a)
+body_kind : (h : Header) (v : Instruction) → IsInstructionBody h v → kind_of h ≡ type_of_instruction v
+body_kind (goto table) v a = ap type_of_instruction (sym a)
+body_kind (metadata value mask) v a = ap type_of_instruction (sym a)
+body_kind (write bytes) v a = ap type_of_instruction (sym a.is)
+body_kind (apply bytes) v a = ap type_of_instruction (sym a.is)
+body_kind clear v a = ap type_of_instruction (sym a)
 
 no_end : (h : Header) → IsFault h None → ⊥
 no_end (goto table) b = b
@@ -106,20 +106,20 @@ no_end (write bytes) b = b
 no_end (apply bytes) b = b
 no_end clear b = b
 
-used_same : (n : ℕ) (hs : List Header) (xs : List Instruction) → AreBodies hs xs None → is_used type_of n xs ≡ is_used kind_of n hs
+used_same : (n : ℕ) (hs : List Header) (xs : List Instruction) → AreBodies hs xs None → is_used type_of_instruction n xs ≡ is_used kind_of n hs
 used_same n [] [] a = refl
 used_same n [] (x ∷ xs) a = absurd a
 used_same n (h ∷ hs) [] a = absurd (no_end h a)
 used_same n (h ∷ hs) (x ∷ xs) a = let same = body_kind h x a.0 in rw (used_same n hs xs a.1, same) refl
 
-distinct_same : (hs : List Header) (xs : List Instruction) → AreBodies hs xs None → is_distinct type_of xs ≡ is_distinct kind_of hs
+distinct_same : (hs : List Header) (xs : List Instruction) → AreBodies hs xs None → is_distinct type_of_instruction xs ≡ is_distinct kind_of hs
 distinct_same [] [] a = refl
 distinct_same [] (x ∷ xs) a = absurd a
 distinct_same (h ∷ hs) [] a = absurd (no_end h a)
-distinct_same (h ∷ hs) (x ∷ xs) a = let same = body_kind h x a.0 in rw (same, used_same (type_of x) hs xs a.1, distinct_same hs xs a.1) refl
+distinct_same (h ∷ hs) (x ∷ xs) a = let same = body_kind h x a.0 in rw (same, used_same (type_of_instruction x) hs xs a.1, distinct_same hs xs a.1) refl
 
 -- two are of one type as they are done at one place
-same_test : (x y : Instruction) → eqb (run_place y) (run_place x) ≡ eqb (type_of y) (type_of x)
+same_test : (x y : Instruction) → eqb (run_place y) (run_place x) ≡ eqb (type_of_instruction y) (type_of_instruction x)
 same_test (Apply a) (Apply b) = refl
 same_test (Apply a) Clear = refl
 same_test (Apply a) (Write b) = refl
@@ -146,11 +146,11 @@ same_test (Goto u) (Write b) = refl
 same_test (Goto u) (Metadata v m) = refl
 same_test (Goto u) (Goto t) = refl
 
-pub used_place : (x : Instruction) (xs : List Instruction) → is_used run_place (run_place x) xs ≡ is_used type_of (type_of x) xs
+pub used_place : (x : Instruction) (xs : List Instruction) → is_used run_place (run_place x) xs ≡ is_used type_of_instruction (type_of_instruction x) xs
 used_place x [] = refl
 used_place x (y ∷ ys) = rw (same_test x y, used_place x ys) refl
 
-pub distinct_place : (xs : List Instruction) → is_distinct run_place xs ≡ is_distinct type_of xs
+pub distinct_place : (xs : List Instruction) → is_distinct run_place xs ≡ is_distinct type_of_instruction xs
 distinct_place [] = refl
 distinct_place (x ∷ xs) = rw (used_place x xs, distinct_place xs) refl
 
@@ -159,7 +159,7 @@ places_once hs xs a once = distinct_place xs ∙ (distinct_same hs xs a ∙ once
 
 -- ---- a GOTO_TABLE leads on
 
-body_for : (table : ℕ) (h : Header) (v : Instruction) → IsBody h v → leads_on table h ≡ true → is_for table v ≡ true
+body_for : (table : ℕ) (h : Header) (v : Instruction) → IsInstructionBody h v → leads_on table h ≡ true → is_for table v ≡ true
 body_for table (goto to) v a on = ap (is_for table) a ∙ on
 body_for table (metadata value mask) v a on = ap (is_for table) a
 body_for table (write bytes) v a on = ap (is_for table) a.is

@@ -10,7 +10,7 @@ use Rattle.of_actions.specs.declared.instruction.Instruction.{Instruction}
 use Rattle.of_actions.specs.Headers.{Header, AreHeaders, headers_of}
 use Rattle.of_actions.specs.Instructions.{AreBodies, EncodesInstructions, IsRefused}
 use Rattle.of_actions.specs.RunOrder.{in_run_order}
-use Rattle.of_actions.specs.Readings.{Reads, Refuses}
+use Rattle.of_actions.specs.Readings.{ReadsValue, Refuses}
 use Rattle.of_actions.proofs.Bodies.{one_bodies}
 
 pub one_list : (table : ℕ) (bytes : List ℕ) (some others : List Instruction) → EncodesInstructions table bytes some → EncodesInstructions table bytes others → some ≡ others
@@ -38,7 +38,7 @@ one_code table bytes c d (IsRefused.body hs walk before bodies) (IsRefused.body 
     let fault = (one_bodies hs before before' (Some c) (Some d) bodies (subst (λ (x : List Header). AreBodies x before' (Some d)) (sym same) bodies')).1 in cc
 
 -- what was read is what the bytes encode
-pub is_only : (table : ℕ) (bytes : List ℕ) (r : Result (List Instruction) ReadError) → IfOk r (λ list. EncodesInstructions table bytes list) → IfErr r (Fails (IsRefused table bytes)) → (list : List Instruction) → EncodesInstructions table bytes list → Reads r list
+pub is_only : (table : ℕ) (bytes : List ℕ) (r : Result (List Instruction) ReadError) → IfOk r (λ list. EncodesInstructions table bytes list) → IfErr r (Fails (IsRefused table bytes)) → (list : List Instruction) → EncodesInstructions table bytes list → ReadsValue r list
 is_only table bytes (Ok read) found refused list h = one_list table bytes read list found h
 is_only table bytes (Err errors.Memory) found refused list h = refl
 is_only table bytes (Err (errors.Refused code)) found refused list h = absurd (not_both table bytes list code h refused)

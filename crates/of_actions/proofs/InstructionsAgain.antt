@@ -16,8 +16,8 @@ use Rattle.of_actions.specs.declared.instruction.Instruction.{Instruction}
 use Rattle.of_actions.specs.declared.instruction.Instruction.TheVariants.{Apply, Clear, Write, Metadata, Goto}
 use Rattle.of_actions.specs.Beginnings.{type_at, len_at}
 use Rattle.of_actions.specs.Rising.{is_ascending}
-use Rattle.of_actions.specs.InstructionLists.{type_of, run_place, is_served_body, are_kept, is_for, are_for}
-use Rattle.of_actions.specs.Headers.{Header, goto, metadata, write, apply, clear, kind_of, is_known, is_size, is_next, table_at, headers_of, header_refusals, header_at}
+use Rattle.of_actions.specs.InstructionLists.{type_of_instruction, run_place, is_served_body, are_kept, is_for, are_for}
+use Rattle.of_actions.specs.Headers.{Header, goto, metadata, write, apply, clear, kind_of, is_known, is_size, is_next, goto_table_at, headers_of, header_refusals, header_at}
 use Rattle.of_actions.specs.Instructions.{AreBodies, EncodesInstructions}
 use Rattle.of_actions.specs.CanonicalActions.{canonical_actions}
 use Rattle.of_actions.specs.CanonicalInstructions.{after_type, canonical_instruction, canonical_instructions}
@@ -54,7 +54,7 @@ record IsServed (kind n : ℕ) : Type 0 where
 
 -- over a variable, where nothing has computed to cells yet
 head_none : (table : ℕ) (seen : List Header) (rest : List ℕ) (n kind : ℕ) → len_at rest ≡ n → 8 ≤ n → (n % 8) ≡ 0 → n ≤ length rest → type_at rest ≡ kind → IsServed kind n → is_used kind_of kind seen ≡ false
-    → ((kind == 1) && not (is_next table (table_at rest))) ≡ false → first_of (header_refusals table seen rest) ≡ None
+    → ((kind == 1) && not (is_next table (goto_table_at rest))) ≡ false → first_of (header_refusals table seen rest) ≡ None
 unfolding header_refusals
 head_none table seen rest n kind len low eight whole type served unused next =
     let short : ltb (length rest) 4 ≡ false = le-ltb _ _ (omega arith) in
@@ -74,7 +74,7 @@ goto_again : (table to : ℕ) (seen : List Header) (x : List ℕ) → is_next ta
 unfolding text_of header_at
 goto_again table to seen x next unused =
     let rest = text_of (goto to) ++ x in
-    let next' : ((1 == 1) && not (is_next table (table_at rest))) ≡ false = ap not next in
+    let next' : ((1 == 1) && not (is_next table (goto_table_at rest))) ≡ false = ap not next in
     record { some = omega arith; none = head_none table seen rest 8 1 refl (omega arith) refl (omega arith) refl (is_of 1 8 refl refl refl refl) unused next'; at = refl; size = refl }
 
 clear_again : (table : ℕ) (seen : List Header) (x : List ℕ) → is_used kind_of 5 seen ≡ false → Again (headers_of table) (text_of clear) clear seen x
@@ -144,7 +144,7 @@ record Fits (value mask : ℕ) : Type 0 where
 metadata_fits : (value mask : ℕ) → is_served_body (Metadata value mask) ≡ true → Fits value mask
 metadata_fits value mask served = record { value_fits = grind (arith, nat_tests); mask_fits = grind (arith, nat_tests) }
 
-again : (table : ℕ) (i : Instruction) (seen : List Header) (x : List ℕ) → is_served_body i ≡ true → is_for table i ≡ true → is_used kind_of (type_of i) seen ≡ false → Again (headers_of table) (text_of (header_of i)) (header_of i) seen x
+again : (table : ℕ) (i : Instruction) (seen : List Header) (x : List ℕ) → is_served_body i ≡ true → is_for table i ≡ true → is_used kind_of (type_of_instruction i) seen ≡ false → Again (headers_of table) (text_of (header_of i)) (header_of i) seen x
 again table (Goto to) seen x served valid unused =
     let next : is_next table to ≡ true = rw (valid, served) refl in goto_again table to seen x next unused
 again table (Metadata value mask) seen x served valid unused =
@@ -157,31 +157,31 @@ again table Clear seen x served valid unused = clear_again table seen x unused
 
 -- none of these is of the type of one before
 abbrev are_new : List Header → List Instruction → Bool
-are_new seen is = list_all (λ i. not (is_used kind_of (type_of i) seen)) is
+are_new seen is = list_all (λ i. not (is_used kind_of (type_of_instruction i) seen)) is
 
-new_more : (seen : List Header) (h : Header) (is : List Instruction) → are_new seen is ≡ true → is_used type_of (kind_of h) is ≡ false → are_new (seen ++ h ∷ []) is ≡ true
+new_more : (seen : List Header) (h : Header) (is : List Instruction) → are_new seen is ≡ true → is_used type_of_instruction (kind_of h) is ≡ false → are_new (seen ++ h ∷ []) is ≡ true
 new_more seen h [] new unused = refl
 new_more seen h (i ∷ is) new unused =
-    grind (arith, nat_tests, new_more seen h is, list_any-append (λ y. eqb (kind_of y) (type_of i)) seen (h ∷ []), eqb_tells (kind_of h) (type_of i), eqb_tells (type_of i) (kind_of h))
+    grind (arith, nat_tests, new_more seen h is, list_any-append (λ y. eqb (kind_of y) (type_of_instruction i)) seen (h ∷ []), eqb_tells (kind_of h) (type_of_instruction i), eqb_tells (type_of_instruction i) (kind_of h))
 
-kind_same : (i : Instruction) → kind_of (header_of i) ≡ type_of i
+kind_same : (i : Instruction) → kind_of (header_of i) ≡ type_of_instruction i
 kind_same (Goto table) = refl
 kind_same (Metadata value mask) = refl
 kind_same (Write actions) = refl
 kind_same (Apply actions) = refl
 kind_same Clear = refl
 
-all_again : (table : ℕ) (seen : List Header) (is : List Instruction) → list_all is_served_body is ≡ true → are_for table is ≡ true → are_new seen is ≡ true → is_distinct type_of is ≡ true → AllAgain (headers_of table) text_of seen (map header_of is)
+all_again : (table : ℕ) (seen : List Header) (is : List Instruction) → list_all is_served_body is ≡ true → are_for table is ≡ true → are_new seen is ≡ true → is_distinct type_of_instruction is ≡ true → AllAgain (headers_of table) text_of seen (map header_of is)
 all_again table seen [] served valid new once = tt
 all_again table seen (i ∷ is) served valid new once =
     let this : is_served_body i ≡ true = grind (arith, nat_tests) in
     let others : list_all is_served_body is ≡ true = grind (arith, nat_tests) in
     let this_for : is_for table i ≡ true = grind (arith, nat_tests) in
     let others_for : are_for table is ≡ true = grind (arith, nat_tests) in
-    let unused : is_used kind_of (type_of i) seen ≡ false = grind (arith, nat_tests) in
-    let later : is_used type_of (kind_of (header_of i)) is ≡ false = rw (kind_same i) (grind (arith, nat_tests)) in
+    let unused : is_used kind_of (type_of_instruction i) seen ≡ false = grind (arith, nat_tests) in
+    let later : is_used type_of_instruction (kind_of (header_of i)) is ≡ false = rw (kind_same i) (grind (arith, nat_tests)) in
     let new' : are_new seen is ≡ true = grind (arith, nat_tests) in
-    let once' : is_distinct type_of is ≡ true = grind (arith, nat_tests) in
+    let once' : is_distinct type_of_instruction is ≡ true = grind (arith, nat_tests) in
     (λ x. again table i seen x this this_for unused, all_again table (seen ++ header_of i ∷ []) is others others_for (new_more seen (header_of i) is new' later) once')
 
 text_same : (i : Instruction) → text_of (header_of i) ≡ canonical_instruction i
@@ -214,7 +214,7 @@ pub instructions_encoded : (table : ℕ) (is : List Instruction) → are_kept is
 instructions_encoded table is kept valid =
     let rising : is_ascending run_place is ≡ true = grind (arith, nat_tests) in
     let served : list_all is_served_body is ≡ true = grind (arith, nat_tests) in
-    let once : is_distinct type_of is ≡ true = sym (distinct_place is) ∙ rising_once is rising in
+    let once : is_distinct type_of_instruction is ≡ true = sym (distinct_place is) ∙ rising_once is rising in
     record {
       headers = map header_of is;
       whole = subst (λ (x : List ℕ). AreItems (headers_of table) [] x (map header_of is) None) (texts_same is) (written_items (headers_of table) text_of [] (map header_of is) (all_again table [] is served valid (all_new is) once));

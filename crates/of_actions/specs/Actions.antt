@@ -3,7 +3,7 @@ use Rattle.std.specs.Prelude.{ℕ, ◌%◌, ◌==◌, nat_lt, Bool, true, not, �
 use Rattle.std.specs.Option.{option_map, option_map_or, option_and_then}
 use Rattle.of_wire.specs.declared.codes.TheConstants.{OFPBAC_BAD_ARGUMENT, OFPBAC_BAD_EXPERIMENTER, OFPBAC_BAD_LEN, OFPBAC_BAD_OUT_PORT, OFPBAC_BAD_TYPE, OFPBAC_TOO_MANY}
 use Rattle.of_wire.specs.declared.code.Code.{Code}
-use Rattle.of_wire.specs.Items.{Items, AreItems, items_of}
+use Rattle.of_wire.specs.Items.{Items, AreItems, items_from}
 use Rattle.of_layers.specs.Reading.{is_tag_type}
 use Rattle.of_formats.specs.Structs.{numbers, size}
 use Rattle.of_formats.specs.Tables as tables
@@ -15,7 +15,7 @@ use Rattle.of_actions.specs.declared.argument.Argument.{Argument}
 use Rattle.of_actions.specs.declared.argument.Argument.TheVariants.{Nothing, Byte, Tag, Word, Port, Field}
 use Rattle.of_actions.specs.declared.rows.Form.{Form}
 use Rattle.of_actions.specs.declared.rows.Form.TheVariants as forms
-use Rattle.of_actions.specs.Rows.{row_of, action_saying}
+use Rattle.of_actions.specs.Rows.{action_row, action_saying}
 
 -- an action of another size: OFPBAC_BAD_LEN
 abbrev pub wrong_size : ℕ → List ℕ → Bool × Code
@@ -36,20 +36,20 @@ unknown_type type = if type == 0xffff then OFPBAC_BAD_EXPERIMENTER else OFPBAC_B
 
 -- The refusals of an action by its type, in order (7.4.4): those of the form of its row.
 unfoldable pub type_refusals : Bool → List ℕ → List (Bool × Code)
-type_refusals packet_out rest = option_map_or (λ r. form_refusals r.form packet_out rest) (row_of (type_at rest)) ((true, unknown_type (type_at rest)) ∷ [])
+type_refusals packet_out rest = option_map_or (λ r. form_refusals r.form packet_out rest) (action_row (type_at rest)) ((true, unknown_type (type_at rest)) ∷ [])
 
 -- The refusals of the action that begins `rest`, in order, after the actions `seen`: OFPBAC_TOO_MANY, OFPBAC_BAD_LEN, and those of its type.
-unfoldable pub action_refusals : Bool → List Action → List ℕ → List (Bool × Code)
-action_refusals packet_out seen rest =
+unfoldable pub wire_action_refusals : Bool → List Action → List ℕ → List (Bool × Code)
+wire_action_refusals packet_out seen rest =
     (nat_lt 63 (length seen), OFPBAC_TOO_MANY)
     ∷ (nat_lt (length rest) 4, OFPBAC_BAD_LEN)
     ∷ (nat_lt (len_at rest) 8 || not (len_at rest % 8 == 0) || nat_lt (length rest) (len_at rest), OFPBAC_BAD_LEN)
     ∷ type_refusals packet_out rest
 
 -- what the numbers of the struct say
-abbrev pub port_of : List ℕ → Option Argument
-port_of (type ∷ len ∷ port ∷ max_len ∷ []) = Some (Port port max_len)
-port_of other = None
+abbrev pub port_argument : List ℕ → Option Argument
+port_argument (type ∷ len ∷ port ∷ max_len ∷ []) = Some (Port port max_len)
+port_argument other = None
 
 -- what an action of a form says, where it is not refused
 abbrev pub argument_of : Form → List ℕ → Option Argument
@@ -57,15 +57,15 @@ argument_of forms.Nothing rest = Some Nothing
 argument_of forms.Byte rest = Some (Byte (argument_at tables.action_nw_ttl rest))
 argument_of forms.Tag rest = Some (Tag (argument_at tables.action_push rest))
 argument_of forms.Word rest = Some (Word (argument_at tables.action_group rest))
-argument_of forms.Port rest = port_of (numbers tables.action_output 0 rest)
+argument_of forms.Port rest = port_argument (numbers tables.action_output 0 rest)
 argument_of forms.Field rest = option_map (λ f. Field f (set_value_at f rest)) (set_field_at rest)
 
 -- the action, where it is not refused
 unfoldable pub action_at : List ℕ → Option Action
-action_at rest = option_and_then (action_saying (type_at rest)) (option_and_then (λ r. argument_of r.form rest) (row_of (type_at rest)))
+action_at rest = option_and_then (action_saying (type_at rest)) (option_and_then (λ r. argument_of r.form rest) (action_row (type_at rest)))
 
 abbrev pub actions_of : Bool → Items Action
-actions_of packet_out = record { refusals = action_refusals packet_out; value_at = action_at; size_at = len_at }
+actions_of packet_out = record { refusals = wire_action_refusals packet_out; value_at = action_at; size_at = len_at }
 
 -- after the actions `seen`, bytes are these actions, and then they end or have a fault
 abbrev pub AreActions : Bool → List Action → List ℕ → List Action → Option Code → Type 0
@@ -73,4 +73,4 @@ AreActions packet_out = AreItems (actions_of packet_out)
 
 -- the same as a function: the actions that bytes are, or the code of the first refusal
 unfoldable pub actions_said : Bool → List ℕ → Result (List Action) Code
-actions_said packet_out bytes = items_of (actions_of packet_out) (length bytes) [] bytes
+actions_said packet_out bytes = items_from (actions_of packet_out) (length bytes) [] bytes

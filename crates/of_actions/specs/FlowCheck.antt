@@ -17,11 +17,11 @@ is_prerequisite_met m other = true
 abbrev pub are_needs_met : List MatchField → List Action → Bool
 are_needs_met m actions = list_all (is_prerequisite_met m) actions
 
-abbrev pub goes_with : List MatchField → Instruction → Bool
-goes_with m (Apply actions) = are_needs_met m actions
-goes_with m (Write actions) = are_needs_met m actions
-goes_with m other = true
+abbrev pub has_prerequisites_met : List MatchField → Instruction → Bool
+has_prerequisites_met m (Apply actions) = are_needs_met m actions
+has_prerequisites_met m (Write actions) = are_needs_met m actions
+has_prerequisites_met m other = true
 
 -- the flow check: each of the instructions goes with the match
 abbrev pub all_go_with : List MatchField → List Instruction → Bool
-all_go_with m instructions = list_all (goes_with m) instructions
+all_go_with m instructions = list_all (has_prerequisites_met m) instructions

@@ -32,8 +32,8 @@ abbrev pub is_size : ℕ → ℕ → Bool
 is_size kind len = if (kind == 1) || (kind == 5) then len == 8 else if kind == 2 then len == 24 else true
 
 -- the table of a GOTO_TABLE
-abbrev pub table_at : List ℕ → ℕ
-table_at rest = argument_at tables.instruction_goto_table rest
+abbrev pub goto_table_at : List ℕ → ℕ
+goto_table_at rest = argument_at tables.instruction_goto_table rest
 
 -- a table that an entry of this table may lead to: a later one of the 16
 abbrev pub is_next : ℕ → ℕ → Bool
@@ -49,7 +49,7 @@ header_refusals table seen rest =
     ∷ (type_at rest == 0xffff, OFPBIC_BAD_EXPERIMENTER)
     ∷ (not (is_known (type_at rest)), OFPBIC_UNKNOWN_INST)
     ∷ (is_used kind_of (type_at rest) seen, OFPBIC_UNSUP_INST)
-    ∷ ((type_at rest == 1) && not (is_next table (table_at rest)), OFPBIC_BAD_TABLE_ID)
+    ∷ ((type_at rest == 1) && not (is_next table (goto_table_at rest)), OFPBIC_BAD_TABLE_ID)
     ∷ []
 
 -- the bytes of its actions, which follow its struct
@@ -64,7 +64,7 @@ metadata_of other = None
 -- the header, where it is not refused: GOTO_TABLE, WRITE_METADATA, WRITE_ACTIONS, APPLY_ACTIONS, CLEAR_ACTIONS
 unfoldable pub header_at : List ℕ → Option Header
 header_at rest =
-    if type_at rest == 1 then Some (goto (table_at rest))
+    if type_at rest == 1 then Some (goto (goto_table_at rest))
     else if type_at rest == 2 then metadata_of (numbers tables.instruction_write_metadata 0 rest)
     else if type_at rest == 3 then Some (write (actions_at rest))
     else if type_at rest == 4 then Some (apply (actions_at rest))

@@ -7,12 +7,12 @@ use Rattle.of_actions.specs.Rising.{is_ascending}
 use Rattle.of_actions.specs.Supported.{are_supported}
 
 -- the type of an instruction on the wire
-abbrev pub type_of : Instruction → ℕ
-type_of (Goto table) = 1
-type_of (Metadata value mask) = 2
-type_of (Write actions) = 3
-type_of (Apply actions) = 4
-type_of Clear = 5
+abbrev pub type_of_instruction : Instruction → ℕ
+type_of_instruction (Goto table) = 1
+type_of_instruction (Metadata value mask) = 2
+type_of_instruction (Write actions) = 3
+type_of_instruction (Apply actions) = 4
+type_of_instruction Clear = 5
 
 -- the order of execution (5.9): APPLY_ACTIONS, CLEAR_ACTIONS, WRITE_ACTIONS, WRITE_METADATA, GOTO_TABLE
 abbrev pub run_place : Instruction → ℕ

@@ -15,12 +15,12 @@ pub record HasActions (bytes : List ℕ) (make : List Action → Instruction) (i
   pub is : i ≡ make actions
 
 -- the header begins this instruction
-abbrev pub IsBody : Header → Instruction → Type 0
-IsBody (goto table) i = i ≡ Goto table
-IsBody (metadata value mask) i = i ≡ Metadata value mask
-IsBody (write bytes) i = HasActions bytes Write i
-IsBody (apply bytes) i = HasActions bytes Apply i
-IsBody clear i = i ≡ Clear
+abbrev pub IsInstructionBody : Header → Instruction → Type 0
+IsInstructionBody (goto table) i = i ≡ Goto table
+IsInstructionBody (metadata value mask) i = i ≡ Metadata value mask
+IsInstructionBody (write bytes) i = HasActions bytes Write i
+IsInstructionBody (apply bytes) i = HasActions bytes Apply i
+IsInstructionBody clear i = i ≡ Clear
 
 -- the actions in it have this fault
 abbrev pub HasFault : List ℕ → Option Code → Type 0
@@ -39,7 +39,7 @@ abbrev pub AreBodies : List Header → List Instruction → Option Code → Type
 AreBodies [] [] fault = fault ≡ None
 AreBodies [] (i ∷ is) fault = ⊥
 AreBodies (h ∷ hs) [] fault = IsFault h fault
-AreBodies (h ∷ hs) (i ∷ is) fault = IsBody h i × AreBodies hs is fault
+AreBodies (h ∷ hs) (i ∷ is) fault = IsInstructionBody h i × AreBodies hs is fault
 
 -- The bytes encode these instructions of an entry of the table: no header is refused, each begins its instruction, and the list has them in the order of execution.
 pub record EncodesInstructions (table : ℕ) (bytes : List ℕ) (instructions : List Instruction) : Type 0 where

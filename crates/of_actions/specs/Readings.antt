@@ -6,9 +6,9 @@ use Rattle.of_wire.specs.declared.code.ReadError.TheVariants as errors
 use Rattle.of_wire.specs.Failures.{Fails}
 
 -- this value was read, unless memory ran out
-abbrev pub Reads : {V : Type 0} → Result V ReadError → V → Type 0
-Reads (Ok read) v = read ≡ v
-Reads (Err e) v = e ≡ errors.Memory
+abbrev pub ReadsValue : {V : Type 0} → Result V ReadError → V → Type 0
+ReadsValue (Ok read) v = read ≡ v
+ReadsValue (Err e) v = e ≡ errors.Memory
 
 -- the bytes were refused with this code, unless memory ran out
 abbrev pub Refuses : {V : Type 0} → Result V ReadError → Code → Type 0

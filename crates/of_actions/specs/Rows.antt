@@ -8,8 +8,8 @@ use Rattle.of_actions.specs.declared.argument.Argument.{Argument}
 use Rattle.of_actions.specs.declared.argument.Argument.TheVariants.{Nothing, Byte, Tag, Word, Port, Field}
 
 -- the row of a type
-abbrev pub row_of : ℕ → Option ActionRow
-row_of type = find (λ r. r.kind == type) ACTIONS
+abbrev pub action_row : ℕ → Option ActionRow
+action_row type = find (λ r. r.kind == type) ACTIONS
 
 -- the row of an action, and what it says
 abbrev pub said : Action → ActionRow × Argument

@@ -12,12 +12,12 @@ header_of (Apply bytes) = seen.apply bytes.now
 header_of Clear = seen.clear
 
 -- numbers fit their bytes, and the table exists
-abbrev pub is_sound : seen.Header → Bool
-is_sound (seen.goto to) = nat_lt to 16
-is_sound (seen.metadata value mask) = nat_lt value (2 ^ 64) && nat_lt mask (2 ^ 64)
-is_sound (seen.write bytes) = true
-is_sound (seen.apply bytes) = true
-is_sound seen.clear = true
+abbrev pub is_sound_header : seen.Header → Bool
+is_sound_header (seen.goto to) = nat_lt to 16
+is_sound_header (seen.metadata value mask) = nat_lt value (2 ^ 64) && nat_lt mask (2 ^ 64)
+is_sound_header (seen.write bytes) = true
+is_sound_header (seen.apply bytes) = true
+is_sound_header seen.clear = true
 
 -- a GOTO_TABLE leads to a later table than this one
 abbrev pub leads_on : ℕ → seen.Header → Bool

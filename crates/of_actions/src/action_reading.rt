@@ -4,9 +4,9 @@ ghost use Rattle.of_wire.specs.declared.code.Code.{Code as ErrorCode};
 ghost use Rattle.of_wire.specs.Failures.{Fails, Reads as AnswersAs};
 ghost use Rattle.of_wire.specs.Refusals.{first_of};
 ghost use Rattle.of_actions.specs.declared.action.Action.{Action as AnAction};
-ghost use Rattle.of_actions.specs.Actions.{AreActions, action_at, action_refusals, actions_said};
+ghost use Rattle.of_actions.specs.Actions.{AreActions, action_at, wire_action_refusals, actions_said};
 ghost use Rattle.of_actions.specs.Beginnings.{len_at};
-ghost use Rattle.of_actions.specs.Readings.{Reads, Refuses};
+ghost use Rattle.of_actions.specs.Readings.{ReadsValue, Refuses};
 ghost use Rattle.of_actions.specs.Supported.{are_supported, is_supported};
 
 use crate::action::{Action, read_type};
@@ -23,16 +23,16 @@ const MOST_OFTEN: usize = 16;
 const MOST_ACTIONS: usize = 64;
 
 // The action that the bytes begin with, and its size.
-#[tactic(auto, unfolding(crate::specs::Actions::action_refusals))]
+#[tactic(auto, unfolding(crate::specs::Actions::wire_action_refusals))]
 fn read_action(rest: &[u8], seen: &[Action], packet_out: bool) -> Result<(Action, usize), Code>
     ensures size { IfOk result (λ read. read.1 ≡ len_at rest.now) }
     ensures some { IfOk result (λ read. 8 ≤ read.1) }
     ensures whole { IfOk result (λ read. read.1 ≤ length rest.now) }
     ensures room { OnOk result (length seen.now ≤ 63) }
-    ensures none { OnOk result (first_of (action_refusals packet_out seen.now rest.now) ≡ None) }
+    ensures none { OnOk result (first_of (wire_action_refusals packet_out seen.now rest.now) ≡ None) }
     ensures action { IfOk result (λ read. action_at rest.now ≡ Some read.0) }
     ensures served { IfOk result (λ read. IsTrue (is_supported packet_out read.0)) }
-    ensures first { IfErr result (λ code. first_of (action_refusals packet_out seen.now rest.now) ≡ Some code) }
+    ensures first { IfErr result (λ code. first_of (wire_action_refusals packet_out seen.now rest.now) ≡ Some code) }
 {
     if seen.len() >= MOST_ACTIONS {
         return Err(OFPBAC_TOO_MANY);
@@ -86,7 +86,7 @@ fn parse_actions(alloc: Global, bytes: &[u8], packet_out: bool) -> Result<Action
 pub fn read_actions(alloc: Global, bytes: &[u8], packet_out: bool) -> Result<ActionList, ReadError>
     // What is read is encoded so, and what is encoded is read, unless memory runs out.
     ensures found { IfOk result (λ list. AreActions packet_out [] bytes.now list None) }
-    ensures only { (list : List AnAction) → AreActions packet_out [] bytes.now list None → Reads result list }
+    ensures only { (list : List AnAction) → AreActions packet_out [] bytes.now list None → ReadsValue result list }
     // Other bytes have one code, and it is answered, unless memory runs out.
     ensures refused { IfErr result (Fails (λ code. (before : List AnAction) × AreActions packet_out [] bytes.now before (Some code))) }
     ensures exact { (code : ErrorCode) (before : List AnAction) → AreActions packet_out [] bytes.now before (Some code) → Refuses result code }

@@ -1,7 +1,7 @@
 //! Whether the set-field actions of a flow have their prerequisites in its match.
 ghost use Rattle.std.specs.Prelude.{◌≡◌, true, false, OnOk, IfErr};
 ghost use Rattle.std.specs.List.{list_all};
-ghost use Rattle.of_actions.specs.FlowCheck.{is_prerequisite_met as need_is_met, are_needs_met as needs_are_met, goes_with as instruction_goes_with, all_go_with};
+ghost use Rattle.of_actions.specs.FlowCheck.{is_prerequisite_met as need_is_met, are_needs_met as needs_are_met, has_prerequisites_met as instruction_goes_with, all_go_with};
 
 use crate::action::Action;
 use crate::instruction::Instruction;

@@ -5,8 +5,8 @@ ghost use Rattle.of_wire.specs.Failures.{Fails};
 ghost use Rattle.of_wire.specs.Refusals.{first_of};
 ghost use Rattle.of_wire.specs.Numbered.{is_used as is_used_number, is_distinct};
 ghost use Rattle.of_actions.specs.Beginnings.{type_at, len_at};
-ghost use Rattle.of_actions.specs.Headers.{Header as AHeader, AreHeaders, header_at, header_refusals, is_known as is_known_kind, is_next as is_next_table, is_size as is_size_of_kind, kind_of, table_at};
-ghost use Rattle.of_actions.specs.Unread.{is_sound, leads_on};
+ghost use Rattle.of_actions.specs.Headers.{Header as AHeader, AreHeaders, header_at, header_refusals, is_known as is_known_kind, is_next as is_next_table, is_size as is_size_of_kind, kind_of, goto_table_at};
+ghost use Rattle.of_actions.specs.Unread.{is_sound_header, leads_on};
 
 use crate::unread::{Header, UnreadInstruction};
 use byteorder::{BigEndian, ByteOrder};
@@ -54,11 +54,11 @@ fn read_fields(rest: &[u8], kind: u16, len: usize, table: u8) -> Result<UnreadIn
     requires some { 8 ≤ len }
     requires whole { len ≤ length rest.now }
     requires size { is_size_of_kind kind len ≡ true }
-    ensures none { OnOk result (((kind == 1) && not (is_next_table table (table_at rest.now))) ≡ false) }
+    ensures none { OnOk result (((kind == 1) && not (is_next_table table (goto_table_at rest.now))) ≡ false) }
     ensures header { IfOk result (λ header. header_at rest.now ≡ Some header) }
-    ensures sound { IfOk result (λ header. is_sound header ≡ true) }
+    ensures sound { IfOk result (λ header. is_sound_header header ≡ true) }
     ensures leads_on { IfOk result (λ header. leads_on table header ≡ true) }
-    ensures table { IfErr result (λ code. (((kind == 1) && not (is_next_table table (table_at rest.now))) ≡ true) × (code ≡ OFPBIC_BAD_TABLE_ID)) }
+    ensures table { IfErr result (λ code. (((kind == 1) && not (is_next_table table (goto_table_at rest.now))) ≡ true) × (code ≡ OFPBIC_BAD_TABLE_ID)) }
 {
     let (_, body) = rest.split_at(8);
     let header = match kind {
@@ -95,7 +95,7 @@ fn read_header<'a>(
     ensures whole { IfOk result (λ read. read.1 ≤ length rest.now) }
     ensures none { OnOk result (first_of (header_refusals table seen.now rest.now) ≡ None) }
     ensures header { IfOk result (λ read. header_at rest.now ≡ Some read.0) }
-    ensures sound { IfOk result (λ read. is_sound read.0 ≡ true) }
+    ensures sound { IfOk result (λ read. is_sound_header read.0 ≡ true) }
     ensures leads_on { IfOk result (λ read. leads_on table read.0 ≡ true) }
     ensures once { OnOk result (is_used_number kind_of (type_at rest.now) seen.now ≡ false) }
     ensures first { IfErr result (λ code. first_of (header_refusals table seen.now rest.now) ≡ Some code) }
@@ -135,7 +135,7 @@ pub(crate) fn read_headers(
     table: u8,
 ) -> Result<Vec<UnreadInstruction>, ReadError>
     ensures found { IfOk result (λ v. AreHeaders table [] bytes.now v.items None) }
-    ensures sound { IfOk result (λ v. list_all is_sound v.items ≡ true) }
+    ensures sound { IfOk result (λ v. list_all is_sound_header v.items ≡ true) }
     ensures leads_on { IfOk result (λ v. list_all (leads_on table) v.items ≡ true) }
     ensures once { IfOk result (λ v. is_distinct kind_of v.items ≡ true) }
     ensures refused { IfErr result (Fails (λ code. (before : List AHeader) × AreHeaders table [] bytes.now before (Some code))) }

@@ -1,6 +1,6 @@
 //! Instructions.
 ghost use Rattle.std.specs.Prelude.{◌≡◌};
-ghost use Rattle.of_actions.specs.InstructionLists.{type_of, run_place as place_of, is_served_body as is_body_served};
+ghost use Rattle.of_actions.specs.InstructionLists.{type_of_instruction, run_place as place_of, is_served_body as is_body_served};
 
 use crate::action_list::{ActionList, are_supported};
 
@@ -22,7 +22,7 @@ pub enum Instruction {
 impl Instruction {
     /// Its type on the wire (OpenFlow 1.3.5, 7.2.4).
     pub fn kind(&self) -> u16
-        ensures { result ≡ type_of self.now }
+        ensures { result ≡ type_of_instruction self.now }
     {
         match self {
             Instruction::Goto(_) => 1,

@@ -5,10 +5,10 @@ ghost use Rattle.of_wire.specs.declared.code.Code.{Code as ErrorCode};
 ghost use Rattle.of_wire.specs.Failures.{Fails, Reads as AnswersAs};
 ghost use Rattle.of_actions.specs.declared.instruction.Instruction.{Instruction as AnInstruction};
 ghost use Rattle.of_actions.specs.InstructionLists.{is_served_body, are_for};
-ghost use Rattle.of_actions.specs.Instructions.{AreBodies, IsBody, IsFault, IsRefused, EncodesInstructions};
-ghost use Rattle.of_actions.specs.InstructionReading.{instructions_of};
-ghost use Rattle.of_actions.specs.Readings.{Reads, Refuses};
-ghost use Rattle.of_actions.specs.Unread.{is_sound};
+ghost use Rattle.of_actions.specs.Instructions.{AreBodies, IsInstructionBody, IsFault, IsRefused, EncodesInstructions};
+ghost use Rattle.of_actions.specs.InstructionReading.{instructions_in_bytes};
+ghost use Rattle.of_actions.specs.Readings.{ReadsValue, Refuses};
+ghost use Rattle.of_actions.specs.Unread.{is_sound_header};
 
 use crate::action_reading::read_actions;
 use crate::header_reading::read_headers;
@@ -20,8 +20,8 @@ use of_wire::ReadError;
 use std::alloc::Global;
 
 fn read_body(alloc: Global, unread: &UnreadInstruction) -> Result<Instruction, ReadError>
-    requires { is_sound unread.now ≡ true }
-    ensures found { IfOk result (λ instruction. IsBody unread.now instruction) }
+    requires { is_sound_header unread.now ≡ true }
+    ensures found { IfOk result (λ instruction. IsInstructionBody unread.now instruction) }
     ensures served { IfOk result (λ instruction. is_served_body instruction ≡ true) }
     ensures refused { IfErr result (Fails (λ code. IsFault unread.now (Some code))) }
 {
@@ -35,7 +35,7 @@ fn read_body(alloc: Global, unread: &UnreadInstruction) -> Result<Instruction, R
 }
 
 fn read_bodies(alloc: Global, headers: &[UnreadInstruction]) -> Result<Vec<Instruction>, ReadError>
-    requires { list_all is_sound headers.now ≡ true }
+    requires { list_all is_sound_header headers.now ≡ true }
     ensures found { IfOk result (λ v. AreBodies headers.now v.items None) }
     ensures served { IfOk result (λ v. list_all is_served_body v.items ≡ true) }
     ensures refused { IfErr result (Fails (λ code. (before : List AnInstruction) × AreBodies headers.now before (Some code))) }
@@ -68,12 +68,12 @@ pub fn read_instructions(
 ) -> Result<InstructionList, ReadError>
     // What is read is encoded so, and what is encoded is read, unless memory runs out.
     ensures found { IfOk result (λ list. EncodesInstructions table bytes.now list) }
-    ensures only { (list : List AnInstruction) → EncodesInstructions table bytes.now list → Reads result list }
+    ensures only { (list : List AnInstruction) → EncodesInstructions table bytes.now list → ReadsValue result list }
     // Other bytes have one code, and it is answered, unless memory runs out.
     ensures refused { IfErr result (Fails (IsRefused table bytes.now)) }
     ensures exact { (code : ErrorCode) → IsRefused table bytes.now code → Refuses result code }
     // Both, as a function of the bytes.
-    ensures reads { AnswersAs result (instructions_of table bytes.now) }
+    ensures reads { AnswersAs result (instructions_in_bytes table bytes.now) }
     // An entry of the table may have what is read.
     ensures valid { IfOk result (λ list. IsTrue (are_for table list)) }
 {

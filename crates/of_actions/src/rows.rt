@@ -1,6 +1,6 @@
 //! The table of actions (OpenFlow 1.3.5, 5.10 and 7.2.5).
 ghost use Rattle.std.specs.Prelude.{◌≡◌};
-ghost use Rattle.of_actions.specs.Rows.{row_of as row_of_type};
+ghost use Rattle.of_actions.specs.Rows.{action_row as row_of_type};
 
 /// What an action says beside its type and its length.
 #[derive(Clone, Copy, Debug, PartialEq, Eq)]

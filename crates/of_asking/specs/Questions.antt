@@ -3,7 +3,7 @@ use Rattle.std.specs.Prelude.{ℕ, List, [], ◌∷◌, ◌++◌, drop, take, le
 use Rattle.std.specs.Str.{bytes_eq}
 use Rattle.of_switch.specs.declared.event.Event.{Event}
 use Rattle.of_switch.specs.State.{State}
-use Rattle.of_replay.specs.Lexing.{first_word, after_word, number_of, bytes_of}
+use Rattle.of_replay.specs.Lexing.{first_word, after_first_word, word_number, hex_bytes}
 use Rattle.of_replay.specs.FileRuns.{switch_text}
 use Rattle.of_replay.specs.RowTexts.{RowText}
 use Rattle.of_trace.specs.declared.form.Output.TheVariants.{Lines}
@@ -28,16 +28,16 @@ pub data Question : Type 0 where
   Unknown : Question
 
 -- `PORT HEX`
-abbrev pub next_of : Manner → Option ℕ → Option (List ℕ) → Question
-next_of manner (Some port) (Some frame) = Next manner port frame
-next_of manner port frame = Unknown
+abbrev pub next_question_of : Manner → Option ℕ → Option (List ℕ) → Question
+next_question_of manner (Some port) (Some frame) = Next manner port frame
+next_question_of manner port frame = Unknown
 
-abbrev pub frame_in : Option (List ℕ) → Option (List ℕ)
-frame_in None = None
-frame_in (Some word) = bytes_of word
+abbrev pub frame_in_word : Option (List ℕ) → Option (List ℕ)
+frame_in_word None = None
+frame_in_word (Some word) = hex_bytes word
 
 unfoldable pub next_in : Manner → List ℕ → Question
-next_in manner words = next_of manner (number_of (first_word words)) (frame_in (after_word words))
+next_in manner words = next_question_of manner (word_number (first_word words)) (frame_in_word (after_first_word words))
 
 -- how that is told
 abbrev pub manner_named : List ℕ → Option Manner
@@ -45,17 +45,17 @@ manner_named name = if bytes_eq name (codes "frame") then Some Words
     else (if bytes_eq name (codes "trace") then Some (Steps Plain)
     else (if bytes_eq name (codes "explain") then Some (Steps Explained) else (if bytes_eq name (codes "why") then Some (Steps (Why All)) else None)))
 
-abbrev pub next_by : Option Manner → List ℕ → Question
-next_by None words = Unknown
-next_by (Some manner) words = next_in manner words
+abbrev pub next_question_by : Option Manner → List ℕ → Question
+next_question_by None words = Unknown
+next_question_by (Some manner) words = next_in manner words
 
 -- `flows`, `mark`, or `frame`, `trace`, `explain` or `why` and a frame
 abbrev pub question_named : List ℕ → Option (List ℕ) → Question
 question_named name None = if bytes_eq name (codes "flows") then Flows else (if bytes_eq name (codes "mark") then Mark else Unknown)
-question_named name (Some words) = next_by (manner_named name) words
+question_named name (Some words) = next_question_by (manner_named name) words
 
 unfoldable pub question_of : List ℕ → Question
-question_of words = question_named (first_word words) (after_word words)
+question_of words = question_named (first_word words) (after_first_word words)
 
 -- the same, where the frame is beside it
 abbrev pub with_frame : List ℕ → Asked → Question
@@ -77,12 +77,12 @@ answer s Mark = []
 answer s Unknown = codes "unknown question" ++ 10 ∷ []
 
 -- and a line that ends it
-unfoldable pub answered : State → List ℕ → List ℕ
-answered s words = answer s (question_of words) ++ codes "?" ++ 10 ∷ []
+unfoldable pub answered_question : State → List ℕ → List ℕ
+answered_question s words = answer s (question_of words) ++ codes "?" ++ 10 ∷ []
 
 -- WHAT IS PRINTED for a row: for a question its answer, and for all else what is printed without questions
 abbrev pub comment_text : Option (List ℕ) → RowText → State → List ℕ → List ℕ
-comment_text (Some words) tale s line = answered s words
+comment_text (Some words) tale s line = answered_question s words
 comment_text None tale s line = tale s line None
 
 abbrev pub with_answers : RowText → RowText

@@ -3,7 +3,7 @@ ghost use Rattle.std.specs.Prelude.{◌≡◌, ◌++◌, IfErr, OnOk};
 ghost use Rattle.std.specs.Option.{option_copied};
 ghost use Rattle.of_switch.specs.declared.switch_error.SwitchError.TheVariants.{NoMemory};
 ghost use Rattle.of_replay.specs.FileRuns.{switch_text};
-ghost use Rattle.of_asking.specs.Questions.{Next, answer, answered, question_words, with_answers, with_frame};
+ghost use Rattle.of_asking.specs.Questions.{Next, answer, answered_question, question_words, with_answers, with_frame};
 
 use crate::question::{Manner, Question, read_question};
 use of_classifier::Lookup;
@@ -84,14 +84,14 @@ fn push_answer<L: Lookup>(
 }
 
 // Appends the answer to the question of a comment.
-#[tactic(auto, unfolding(crate::specs::Questions::answered))]
+#[tactic(auto, unfolding(crate::specs::Questions::answered_question))]
 fn push_answered<L: Lookup>(
     alloc: Global,
     out: &mut Vec<u8>,
     switch: &Switch<L>,
     words: &[u8],
 ) -> Result<(), SwitchError>
-    ensures text { OnOk result (out.new.items ≡ out.old.items ++ answered switch.now words.now) }
+    ensures text { OnOk result (out.new.items ≡ out.old.items ++ answered_question switch.now words.now) }
     ensures err { IfErr result (λ e. e ≡ NoMemory) }
 {
     let mut frame = Vec::new(alloc);

@@ -3,15 +3,15 @@ use Rattle.std.proofs.Common.{if◌then◌else◌, ◌≡◌, ℕ, suc, ◌+◌,
 use Rattle.std.proofs.lemmas.Bool.Decides.{nat_tests}
 use Rattle.std.proofs.lemmas.List.{get_or-take, length-take, get_or_past, length-set, set_past}
 use Rattle.std.proofs.lemmas.Option.{slice_get-get_or, get_or_from_slice_get}
-use Rattle.of_buffers.specs.Buffers.{Held, HeldFrames, following, given_since, held, hold, hold_all, is_id, last_id, most_held, used}
+use Rattle.of_buffers.specs.Buffers.{Held, HeldFrames, id_following, given_since, held, hold, hold_all, is_id, last_id, most_held, used}
 
 -- one more id was given since
 one_later : (id next : ℕ) → is_id next ≡ true → is_id id ≡ true
     → (next + (last_id - 1) - id) % last_id + 1 < last_id
-    → (following next + (last_id - 1) - id) % last_id ≡ suc ((next + (last_id - 1) - id) % last_id)
+    → (id_following next + (last_id - 1) - id) % last_id ≡ suc ((next + (last_id - 1) - id) % last_id)
 one_later id next n i few = grind (arith, nat_tests)
 
-pub next_is_id : (next : ℕ) → is_id next ≡ true → is_id (following next) ≡ true
+pub next_is_id : (next : ℕ) → is_id next ≡ true → is_id (id_following next) ≡ true
 next_is_id next n = grind (arith, nat_tests)
 
 -- the next id is one, however many frames are held
@@ -24,7 +24,7 @@ hold_all-append [] ys b = refl
 hold_all-append (x ∷ xs) ys b = hold_all-append xs ys (hold x b)
 
 -- none was given after the last one
-none_since : (next : ℕ) → is_id next ≡ true → (following next + (last_id - 1) - next) % last_id ≡ 0
+none_since : (next : ℕ) → is_id next ≡ true → (id_following next + (last_id - 1) - next) % last_id ≡ 0
 none_since next n = grind (arith, nat_tests)
 
 pub held_since : (h : Held) (b : HeldFrames) → is_id b.next ≡ true → given_since b.next (hold h b) ≡ 0

@@ -19,8 +19,8 @@ last_id = 0xfffffffe
 abbrev pub is_id : ℕ → Bool
 is_id id = nat_le 1 id && nat_le id last_id
 
-abbrev pub following : ℕ → ℕ
-following id = if id == last_id then 1 else id + 1
+abbrev pub id_following : ℕ → ℕ
+id_following id = if id == last_id then 1 else id + 1
 
 -- how many frames are held at most, which is n_buffers of a FEATURES_REPLY (7.3.1)
 abbrev pub most_held : ℕ
@@ -31,7 +31,7 @@ none_held = record { next = 1; places = [] }
 
 -- a frame is held under the next id; the oldest place is given up where there are more than 256
 abbrev pub hold : Held → HeldFrames → HeldFrames
-hold h b = record { next = following b.next; places = take most_held (Some h ∷ b.places) }
+hold h b = record { next = id_following b.next; places = take most_held (Some h ∷ b.places) }
 
 -- one after the other
 abbrev pub hold_all : List Held → HeldFrames → HeldFrames

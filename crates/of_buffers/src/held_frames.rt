@@ -1,7 +1,7 @@
 //! The frames that are held, by their ids.
 ghost use Rattle.std.specs.Prelude.{◌≡◌, ◌≤◌, IfOk, Some, None, if◌then◌else◌};
 ghost use Rattle.std.specs.Option.{option_copied};
-ghost use Rattle.of_buffers.specs.Buffers.{following, forgotten, given_since, held, hold, is_id, last_id, none_held, used};
+ghost use Rattle.of_buffers.specs.Buffers.{id_following, forgotten, given_since, held, hold, is_id, last_id, none_held, used};
 
 use crate::held_frame::HeldFrame;
 use circular_buffer::HeapCircularBuffer;
@@ -106,7 +106,7 @@ impl HeldFrames {
 /// The id that is given after this one.
 pub fn following_id(id: u32) -> u32
     requires { id ≤ last_id }
-    ensures following { result ≡ following id }
+    ensures following { result ≡ id_following id }
     ensures least { 1 ≤ result }
     ensures most { result ≤ last_id }
 {

@@ -6,7 +6,7 @@ use Rattle.of_layers.specs.declared.field.Field.{Field}
 use Rattle.of_wire.specs.Numbered.{is_used, is_distinct}
 use Rattle.of_classifier.specs.declared.Row.{Row}
 use Rattle.of_classifier.specs.Rows.{row_number, row_priority, priority_of}
-use Rattle.of_classifier.specs.Winner.{winner_of, number_of}
+use Rattle.of_classifier.specs.Winner.{winner_of, winner_number}
 use Rattle.of_classifier.specs.Scanning.{pair_of}
 use Rattle.of_classifier.proofs.WinnerLaw.{wins_both}
 
@@ -38,7 +38,7 @@ found_there (x ∷ xs) (suc k) r d h = by_test (eqb x.number r.number) refl (fou
 winner_priority : (rows : List Row) (map : Field → Option ℕ) (r : Row) → is_distinct row_number rows ≡ true → winner_of rows map ≡ Some r → priority_of r.number rows ≡ Some r.priority
 winner_priority rows map r d w = let p = (wins_both rows map r).0 w in ap (option_map row_priority) (found_there rows p.0 r d p.1.stands)
 
-pub answered : (rows : List Row) (map : Field → Option ℕ) (n : ℕ) (o : Option ℕ) (w : Option Row) → is_distinct row_number rows ≡ true → winner_of rows map ≡ w → Some n ≡ number_of w → o ≡ priority_of n rows → option_map (λ p. (n, p)) o ≡ pair_of w
+pub answered : (rows : List Row) (map : Field → Option ℕ) (n : ℕ) (o : Option ℕ) (w : Option Row) → is_distinct row_number rows ≡ true → winner_of rows map ≡ w → Some n ≡ winner_number w → o ≡ priority_of n rows → option_map (λ p. (n, p)) o ≡ pair_of w
 answered rows map n o None d is e q = absurd cc
 answered rows map n o (Some r) d is e q =
     let same : n ≡ r.number = cc in

@@ -15,12 +15,12 @@ use Rattle.of_oxm.specs.NormalForm.{IsMatch}
 use Rattle.of_oxm.specs.Masks.{looked_at, value_of, mask_at, Agree}
 use Rattle.of_classifier.specs.declared.Row.{Row}
 use Rattle.of_classifier.specs.Rows.{row_number, made_row}
-use Rattle.of_classifier.specs.Winner.{winner_of, number_of}
+use Rattle.of_classifier.specs.Winner.{winner_of, winner_number}
 use Rattle.of_classifier.specs.Scanning.{pair_of}
 use Rattle.of_cache.specs.declared.region.Region.{Region}
 use Rattle.of_cache.specs.declared.cause.Cause.TheVariants.{Answers, Added}
 use Rattle.of_cache.specs.Regions.{AnsweredRegion, IsRegion, meets_seen, region_of}
-use Rattle.of_cache.specs.Kept.{IsSound, AreSound, is_beaten, not_beaten}
+use Rattle.of_cache.specs.Kept.{IsSoundRegion, AreSoundRegions, is_beaten, not_beaten}
 use Rattle.of_cache.specs.Causes.{goes, staying}
 use Rattle.of_cache.specs.Finding.{ComesFirst, IsHit, NoneHolds, AreFound}
 use Rattle.of_cache.specs.Listed.{AreListed}
@@ -39,22 +39,22 @@ listed_filter masks p rows h row c = h row (of_filter p rows row c).0
 pub listed_left : (masks : List FieldMask) (rows new : List AnsweredRegion) (number : ℕ) → new ≡ staying (Answers number) rows → AreListed masks rows → AreListed masks new
 listed_left masks rows new number f h = subst (AreListed masks) (sym f) (listed_filter masks (λ row. not (goes (Answers number) row)) rows h)
 
-pub removed : (content after : List Row) (rows new : List AnsweredRegion) (number : ℕ) → after ≡ without row_number number content → new ≡ staying (Answers number) rows → AreSound content rows → AreSound after new
+pub removed : (content after : List Row) (rows new : List AnsweredRegion) (number : ℕ) → after ≡ without row_number number content → new ≡ staying (Answers number) rows → AreSoundRegions content rows → AreSoundRegions after new
 removed content after rows new number e f h =
-    subst (λ (xs : List Row). AreSound xs new) (sym e) (subst (λ (es : List AnsweredRegion). AreSound (without row_number number content) es) (sym f) (stays_removed content rows number h))
+    subst (λ (xs : List Row). AreSoundRegions xs new) (sym e) (subst (λ (es : List AnsweredRegion). AreSoundRegions (without row_number number content) es) (sym f) (stays_removed content rows number h))
 
-pub renewed : (content after : List Row) (rows new : List AnsweredRegion) (number : ℕ) → after ≡ moved_to_end row_number number content → new ≡ staying (Answers number) rows → AreSound content rows → AreSound after new
+pub renewed : (content after : List Row) (rows new : List AnsweredRegion) (number : ℕ) → after ≡ moved_to_end row_number number content → new ≡ staying (Answers number) rows → AreSoundRegions content rows → AreSoundRegions after new
 renewed content after rows new number e f h =
-    subst (λ (xs : List Row). AreSound xs new) (sym e) (subst (λ (es : List AnsweredRegion). AreSound (moved_to_end row_number number content) es) (sym f) (stays_renewed content rows number h))
+    subst (λ (xs : List Row). AreSoundRegions xs new) (sym e) (subst (λ (es : List AnsweredRegion). AreSoundRegions (moved_to_end row_number number content) es) (sym f) (stays_renewed content rows number h))
 
 pub same_staying : (mask : FieldMask) (key : FieldKey) (m : List MatchField) (priority : ℕ) (rows : List AnsweredRegion) → ((f : Field) → mask_at mask f ≡ looked_at m f) → ((f : Field) → value key f ≡ value_of m f) → staying (Added mask key priority) rows ≡ not_beaten m priority rows
 same_staying mask key m priority rows e f = λ i. filter (λ row. not (is_beaten priority row.1 && meets_seen (λ g. e g i) (λ g. f g i) row.0)) rows
 
 pub added : (masks : List FieldMask) (content after : List Row) (rows new : List AnsweredRegion) (mask : FieldMask) (key : FieldKey) (number priority : ℕ) (m : List MatchField) → IsMatch m
     → ((f : Field) → mask_at mask f ≡ looked_at m f) → ((f : Field) → value key f ≡ value_of m f) → after ≡ content ++ made_row number priority m ∷ [] → new ≡ staying (Added mask key priority) rows
-    → AreSound content rows × AreListed masks rows → AreSound after new × AreListed masks new
+    → AreSoundRegions content rows × AreListed masks rows → AreSoundRegions after new × AreListed masks new
 added masks content after rows new mask key number priority m fine looks asks e f h = (
-  subst (λ (xs : List Row). AreSound xs new) (sym e) (subst (λ (es : List AnsweredRegion). AreSound (content ++ made_row number priority m ∷ []) es) (sym (f ∙ same_staying mask key m priority rows looks asks)) (stays_added content rows number priority m fine h.0)),
+  subst (λ (xs : List Row). AreSoundRegions xs new) (sym e) (subst (λ (es : List AnsweredRegion). AreSoundRegions (content ++ made_row number priority m ∷ []) es) (sym (f ∙ same_staying mask key m priority rows looks asks)) (stays_added content rows number priority m fine h.0)),
   subst (AreListed masks) (sym f) (listed_filter masks (λ row. not (goes (Added mask key priority) row)) rows h.1),
 )
 
@@ -68,8 +68,8 @@ pub on_ok : {A E P : Type 0} (r : Result A E) → P → OnOk r P
 on_ok (Ok x) p = p
 on_ok (Err e) p = tt
 
-pub none_right : (content : List Row) (rows : List AnsweredRegion) → rows ≡ [] → AreSound content rows
-none_right content rows e = subst (AreSound content) (sym e) (record { right = λ row c. absurd (Contains-nil row c); regions = λ row c. absurd (Contains-nil row c) })
+pub none_right : (content : List Row) (rows : List AnsweredRegion) → rows ≡ [] → AreSoundRegions content rows
+none_right content rows e = subst (AreSoundRegions content) (sym e) (record { right = λ row c. absurd (Contains-nil row c); regions = λ row c. absurd (Contains-nil row c) })
 
 -- ---- a look-up
 
@@ -84,28 +84,28 @@ moved_within old new key t row c =
     (λ d. Contains-with t.before t.row t.after row d)
     (Contains-cons t.row (t.before ++ t.after) row (subst (λ (es : List AnsweredRegion). Contains es row) t.first c)))
 
-pub hit_right : (content : List Row) (old new : List AnsweredRegion) (key : Field → Option ℕ) → ComesFirst old new key → AreSound content old → AreSound content new
+pub hit_right : (content : List Row) (old new : List AnsweredRegion) (key : Field → Option ℕ) → ComesFirst old new key → AreSoundRegions content old → AreSoundRegions content new
 hit_right content old new key t h = record { right = λ row c. h.right row (moved_within old new key t row c); regions = λ row c. h.regions row (moved_within old new key t row c) }
 
-pub hit_is_winner : (content : List Row) (old new : List AnsweredRegion) (key : Field → Option ℕ) (a : Option (ℕ × ℕ)) → IsHit old new key a → AreSound content old → a ≡ pair_of (winner_of content key)
+pub hit_is_winner : (content : List Row) (old new : List AnsweredRegion) (key : Field → Option ℕ) (a : Option (ℕ × ℕ)) → IsHit old new key a → AreSoundRegions content old → a ≡ pair_of (winner_of content key)
 hit_is_winner content old new key a t h = sym (h.right t.moved.row (stood_in old new key t.moved) key t.moved.holds ∙ t.answers)
 
-number_of_pair : (w : Option Row) → option_map (λ a. a.0) (pair_of w) ≡ number_of w
+number_of_pair : (w : Option Row) → option_map (λ a. a.0) (pair_of w) ≡ winner_number w
 number_of_pair None = refl
 number_of_pair (Some r) = refl
 
-pub hit_answers : (content : List Row) (old new : List AnsweredRegion) (key : Field → Option ℕ) (a : Option (ℕ × ℕ)) → IsHit old new key a → AreSound content old → option_map (λ (x : ℕ × ℕ). x.0) a ≡ number_of (winner_of content key)
+pub hit_answers : (content : List Row) (old new : List AnsweredRegion) (key : Field → Option ℕ) (a : Option (ℕ × ℕ)) → IsHit old new key a → AreSoundRegions content old → option_map (λ (x : ℕ × ℕ). x.0) a ≡ winner_number (winner_of content key)
 hit_answers content old new key a t h =
     ap (option_map (λ (x : ℕ × ℕ). x.0)) (hit_is_winner content old new key a t h) ∙ number_of_pair (winner_of content key)
 
-pub stored_right : (content : List Row) (old new : LruCache Region (Option (ℕ × ℕ))) (mask : FieldMask) (key : Field → Option ℕ) (masked : FieldKey) (a : Option (ℕ × ℕ)) → AreSound content old.entries
+pub stored_right : (content : List Row) (old new : LruCache Region (Option (ℕ × ℕ))) (mask : FieldMask) (key : Field → Option ℕ) (masked : FieldKey) (a : Option (ℕ × ℕ)) → AreSoundRegions content old.entries
     → ((map : Field → Option ℕ) → Agree (mask_at mask) map key → winner_of content map ≡ winner_of content key) → ((f : Field) → value masked f ≡ seen (mask_at mask f) (key f)) → a ≡ pair_of (winner_of content key)
-    → (new.entries ≡ old.entries) ⊎ (new.entries ≡ (region_of mask masked, a) ∷ take (old.cap - 1) old.entries) → AreSound content new.entries
+    → (new.entries ≡ old.entries) ⊎ (new.entries ≡ (region_of mask masked, a) ∷ take (old.cap - 1) old.entries) → AreSoundRegions content new.entries
 stored_right content old new mask key masked a h alike under is e =
     let fresh = fresh_right content mask key masked alike under in
-    let sound : IsSound content (region_of mask masked, a) = subst (λ (o : Option (ℕ × ℕ)). IsSound content (region_of mask masked, o)) (sym is) fresh.0 in
+    let sound : IsSoundRegion content (region_of mask masked, a) = subst (λ (o : Option (ℕ × ℕ)). IsSoundRegion content (region_of mask masked, o)) (sym is) fresh.0 in
     record {
-      right = λ row c. ⊎_elim (λ d. h.right row d) (λ s. subst (IsSound content) s sound) (of_stored old new (region_of mask masked) a e row c);
+      right = λ row c. ⊎_elim (λ d. h.right row d) (λ s. subst (IsSoundRegion content) s sound) (of_stored old new (region_of mask masked) a e row c);
       regions = λ row c. ⊎_elim (λ d. h.regions row d) (λ s. subst (λ (r : AnsweredRegion). IsRegion r.0) s fresh.1) (of_stored old new (region_of mask masked) a e row c);
     }
 

@@ -14,7 +14,7 @@ use Rattle.of_oxm.specs.declared.masks.FieldMask.{FieldMask}
 use Rattle.of_cache.specs.declared.region.Region.{Region}
 use Rattle.of_cache.specs.Regions.{AnsweredRegion}
 use Rattle.of_cache.specs.Finding.{ComesFirst}
-use Rattle.of_cache.specs.Listed.{AreListed, AreMasks, has_mask, is_same_mask, is_same_region, with_mask}
+use Rattle.of_cache.specs.Listed.{AreListed, AreMasks, has_row_with_mask, is_same_mask, is_same_region, with_mask}
 use Rattle.of_cache.proofs.Winning.{of_filter}
 use Rattle.of_cache.proofs.Splitting.{equal_masks, any_there, mask_itself, put_first, some_has, used_listed}
 use Rattle.of_cache.proofs.Changing.{moved_within}
@@ -86,11 +86,11 @@ distinct_filter p (m ∷ ms) d = by_test (p m) (distinct_filter p ms (IsDistinct
     by_test true later = IsDistinct-cons is_same_mask m (filter p ms) (all_filter p (λ y. is_same_mask m y ≡ false) ms (IsDistinct-head is_same_mask m ms d)) later
     by_test false later = later
 
-pub masks_left : (masks : List FieldMask) (rows : List AnsweredRegion) → AreListed masks rows → IsDistinct is_same_mask masks → AreMasks (filter (has_mask rows) masks) rows
+pub masks_left : (masks : List FieldMask) (rows : List AnsweredRegion) → AreListed masks rows → IsDistinct is_same_mask masks → AreMasks (filter (has_row_with_mask rows) masks) rows
 masks_left masks rows listed once = record {
-  listed = used_listed masks (filter (has_mask rows) masks) rows refl listed;
-  used = λ m c. (of_filter (has_mask rows) masks m c).1;
-  once = distinct_filter (has_mask rows) masks once;
+  listed = used_listed masks (filter (has_row_with_mask rows) masks) rows refl listed;
+  used = λ m c. (of_filter (has_row_with_mask rows) masks m c).1;
+  once = distinct_filter (has_row_with_mask rows) masks once;
 }
 
 -- ---- rows that stay
@@ -100,16 +100,16 @@ record Having (rows : List AnsweredRegion) (m : FieldMask) : Type 0 where
   is_there : Contains rows row
   mask_is : row.0.mask ≡ m
 
-having : (rows : List AnsweredRegion) (m : FieldMask) → has_mask rows m ≡ true → Having rows m
+having : (rows : List AnsweredRegion) (m : FieldMask) → has_row_with_mask rows m ≡ true → Having rows m
 having [] m h = absurd cc
 having (row ∷ rows) m h = by_test (is_same_mask row.0.mask m) refl h (having rows m)
   where
-    by_test : (b : Bool) → is_same_mask row.0.mask m ≡ b → (b || has_mask rows m) ≡ true → (has_mask rows m ≡ true → Having rows m) → Having (row ∷ rows) m
+    by_test : (b : Bool) → is_same_mask row.0.mask m ≡ b → (b || has_row_with_mask rows m) ≡ true → (has_row_with_mask rows m ≡ true → Having rows m) → Having (row ∷ rows) m
     by_test true e h later = record { row = row; is_there = Contains-head row rows; mask_is = equal_masks row.0.mask m e }
     by_test false e h later = let t = later h in record { row = t.row; is_there = Contains-tail row rows t.row t.is_there; mask_is = t.mask_is }
 
-has_by : (rows : List AnsweredRegion) (row : AnsweredRegion) (m : FieldMask) → Contains rows row → row.0.mask ≡ m → has_mask rows m ≡ true
-has_by rows row m c e = subst (λ (x : FieldMask). has_mask rows x ≡ true) e (some_has rows row c)
+has_by : (rows : List AnsweredRegion) (row : AnsweredRegion) (m : FieldMask) → Contains rows row → row.0.mask ≡ m → has_row_with_mask rows m ≡ true
+has_by rows row m c e = subst (λ (x : FieldMask). has_row_with_mask rows x ≡ true) e (some_has rows row c)
 
 -- a row comes first
 moved_still : (old new : List AnsweredRegion) (key : Field → Option ℕ) → (t : ComesFirst old new key) → (row : AnsweredRegion) → Contains old row → Contains new row
@@ -141,16 +141,16 @@ taken (suc n) (x ∷ rows) row short c = ⊎_elim
 -- the last row went, if there was no room for one more; its mask is still that of a row
 abbrev pub StillHad : Option AnsweredRegion → List AnsweredRegion → Type 0
 StillHad None rows = Unit {0}
-StillHad (Some gone) rows = has_mask rows gone.0.mask ≡ true
+StillHad (Some gone) rows = has_row_with_mask rows gone.0.mask ≡ true
 
 pub used_pushed : (old new : List AnsweredRegion) (cap : ℕ) (region : Region) (a : Option (ℕ × ℕ)) → length old ≤ cap → 0 < cap → new ≡ (region, a) ∷ take (cap - 1) old → StillHad (slice_get old (cap - 1)) new
-    → (m : FieldMask) → (has_mask old m ≡ true) ⊎ (region.mask ≡ m) → has_mask new m ≡ true
+    → (m : FieldMask) → (has_row_with_mask old m ≡ true) ⊎ (region.mask ≡ m) → has_row_with_mask new m ≡ true
 used_pushed old new cap region a short some is still m (inr same) = has_by new (region, a) m (subst (λ (es : List AnsweredRegion). Contains es (region, a)) (sym is) (Contains-head (region, a) (take (cap - 1) old))) same
 used_pushed old new cap region a short some is still m (inl had) =
     let found = having old m had in
     ⊎_elim
     (λ d. has_by new found.row m (subst (λ (es : List AnsweredRegion). Contains es found.row) (sym is) (Contains-tail (region, a) (take (cap - 1) old) found.row d)) found.mask_is)
-    (λ e. subst (λ (x : FieldMask). has_mask new x ≡ true) found.mask_is (subst (λ (o : Option AnsweredRegion). StillHad o new) e still))
+    (λ e. subst (λ (x : FieldMask). has_row_with_mask new x ≡ true) found.mask_is (subst (λ (o : Option AnsweredRegion). StillHad o new) e still))
     (taken (cap - 1) old found.row (omega arith) found.is_there)
 
 abbrev Cache : Type 0
@@ -161,7 +161,7 @@ displaced_last old region a none = ap (λ (o : Option (Option (ℕ × ℕ))). op
 
 pub used_after : {E : Type 0} (r : Result (Option AnsweredRegion) E) (old new : Cache) (region : Region) (a : Option (ℕ × ℕ)) → lookup (is_same_region region) old.entries ≡ None → IsValid is_same_region old
     → OnOk r (new ≡ lru_cache (put_entries is_same_region old region a) old.cap) → IfOk r (λ o. o ≡ displaced is_same_region old region a) → (pushed_out : Option AnsweredRegion) → r ≡ Ok pushed_out → StillHad pushed_out new.entries
-    → (m : FieldMask) → (has_mask old.entries m ≡ true) ⊎ (region.mask ≡ m) → has_mask new.entries m ≡ true
+    → (m : FieldMask) → (has_row_with_mask old.entries m ≡ true) ⊎ (region.mask ≡ m) → has_row_with_mask new.entries m ≡ true
 used_after (Ok o) old new region a none valid put out pushed_out is still =
     let same : o ≡ pushed_out = cc in
     let last : pushed_out ≡ slice_get old.entries (old.cap - 1) = sym same ∙ out ∙ displaced_last old region a none in
@@ -170,7 +170,7 @@ used_after (Err e) old new region a none valid put out pushed_out is still = abs
 
 -- a new row whose mask is listed
 pub masks_stored : (masks : List FieldMask) (old new : List AnsweredRegion) (m : FieldMask) → AreMasks masks old → AreListed (with_mask m masks) new
-    → ((x : FieldMask) → (has_mask old x ≡ true) ⊎ (m ≡ x) → has_mask new x ≡ true) → AreMasks (with_mask m masks) new
+    → ((x : FieldMask) → (has_row_with_mask old x ≡ true) ⊎ (m ≡ x) → has_row_with_mask new x ≡ true) → AreMasks (with_mask m masks) new
 masks_stored masks old new m h listed used = record {
   listed = listed;
   used = λ x c. used x (⊎_elim (λ d. inl (h.used x d)) (λ s. inr s) (with_cases m masks x c));

@@ -15,10 +15,10 @@ use Rattle.of_oxm.specs.NormalForm.{IsMatch}
 use Rattle.of_oxm.specs.Masks.{mask_at, Agree}
 use Rattle.of_classifier.specs.declared.Row.{Row}
 use Rattle.of_classifier.specs.Rows.{row_number, row_priority, made_row}
-use Rattle.of_classifier.specs.Winner.{is_matching, winner_of, number_of}
+use Rattle.of_classifier.specs.Winner.{is_matching, winner_of, winner_number}
 use Rattle.of_classifier.specs.Scanning.{pair_of}
 use Rattle.of_cache.specs.Regions.{AnsweredRegion, IsRegion, meets, region_of}
-use Rattle.of_cache.specs.Kept.{IsSound, AreSound, is_answer, is_beaten, not_answering, not_beaten}
+use Rattle.of_cache.specs.Kept.{IsSoundRegion, AreSoundRegions, is_answer, is_beaten, not_answering, not_beaten}
 use Rattle.of_cache.proofs.Winning.{winner-push, winner-without, winner-moved, of_filter}
 use Rattle.of_cache.proofs.Meeting.{met}
 
@@ -36,14 +36,14 @@ not_both : (a b : Bool) → not (a && b) ≡ true → b ≡ true → a ≡ false
 not_both false b h e = refl
 not_both true b h e = absurd (let t : not true ≡ true = subst (λ (c : Bool). not c ≡ true) e h in cc)
 
-added_right : (content : List Row) (row : AnsweredRegion) (r : Row) → IsMatch r.fields → not (is_beaten r.priority row.1 && meets r.fields row.0) ≡ true → IsSound content row → IsSound (content ++ r ∷ []) row
+added_right : (content : List Row) (row : AnsweredRegion) (r : Row) → IsMatch r.fields → not (is_beaten r.priority row.1 && meets r.fields row.0) ≡ true → IsSoundRegion content row → IsSoundRegion (content ++ r ∷ []) row
 added_right content row r fine stays sound map h = ap pair_of (winner-push content map r) ∙ by_test (is_matching map r) refl
   where
     by_test : (m : Bool) → is_matching map r ≡ m → pair_of (cond m (better row_priority (winner_of content map) r) (winner_of content map)) ≡ row.1
     by_test true e = unbeaten (winner_of content map) r row.1 (sound map h) (not_both (is_beaten r.priority row.1) (meets r.fields row.0) stays (met r.fields row.0 map fine h e))
     by_test false e = sound map h
 
-pub stays_added : (content : List Row) (rows : List AnsweredRegion) (number priority : ℕ) (m : List MatchField) → IsMatch m → AreSound content rows → AreSound (content ++ made_row number priority m ∷ []) (not_beaten m priority rows)
+pub stays_added : (content : List Row) (rows : List AnsweredRegion) (number priority : ℕ) (m : List MatchField) → IsMatch m → AreSoundRegions content rows → AreSoundRegions (content ++ made_row number priority m ∷ []) (not_beaten m priority rows)
 stays_added content rows number priority m fine s = record {
   right = λ row c. (let o = of_filter (λ (x : AnsweredRegion). not (is_beaten priority x.1 && meets m x.0)) rows row c in added_right content row (made_row number priority m) fine o.1 (s.right row o.0));
   regions = λ row c. s.regions row (of_filter (λ (x : AnsweredRegion). not (is_beaten priority x.1 && meets m x.0)) rows row c).0;
@@ -51,7 +51,7 @@ stays_added content rows number priority m fine s = record {
 
 -- ---- an entry is removed, or becomes the youngest
 
-not_answered : (w : Option Row) (a : Option (ℕ × ℕ)) (n : ℕ) → pair_of w ≡ a → not (is_answer n a) ≡ true → number_of w ≡ Some n → ⊥
+not_answered : (w : Option Row) (a : Option (ℕ × ℕ)) (n : ℕ) → pair_of w ≡ a → not (is_answer n a) ≡ true → winner_number w ≡ Some n → ⊥
 not_answered None a n e f s = let t : None ≡ Some n = s in cc
 not_answered (Some r) a n e f s =
     let same : r.number ≡ n = cc in
@@ -59,14 +59,14 @@ not_answered (Some r) a n e f s =
     let t : not true ≡ true = subst (λ (b : Bool). not b ≡ true) (eq-eqb r.number n same) g in
     cc
 
-pub stays_removed : (content : List Row) (rows : List AnsweredRegion) (number : ℕ) → AreSound content rows → AreSound (without row_number number content) (not_answering number rows)
+pub stays_removed : (content : List Row) (rows : List AnsweredRegion) (number : ℕ) → AreSoundRegions content rows → AreSoundRegions (without row_number number content) (not_answering number rows)
 stays_removed content rows number s = record {
   right = λ row c map h. (let o = of_filter (λ (x : AnsweredRegion). not (is_answer number x.1)) rows row c in let sound = s.right row o.0 map h in
       ap pair_of (winner-without number content map (not_answered (winner_of content map) row.1 number sound o.1)) ∙ sound);
   regions = λ row c. s.regions row (of_filter (λ (x : AnsweredRegion). not (is_answer number x.1)) rows row c).0;
 }
 
-pub stays_renewed : (content : List Row) (rows : List AnsweredRegion) (number : ℕ) → AreSound content rows → AreSound (moved_to_end row_number number content) (not_answering number rows)
+pub stays_renewed : (content : List Row) (rows : List AnsweredRegion) (number : ℕ) → AreSoundRegions content rows → AreSoundRegions (moved_to_end row_number number content) (not_answering number rows)
 stays_renewed content rows number s = record {
   right = λ row c map h. (let o = of_filter (λ (x : AnsweredRegion). not (is_answer number x.1)) rows row c in let sound = s.right row o.0 map h in
       ap pair_of (winner-moved number content map (not_answered (winner_of content map) row.1 number sound o.1)) ∙ sound);
@@ -89,7 +89,7 @@ twice_same m n v e = ap (seen m) e ∙ seen_twice m v ∙ sym e
 pub fresh_right : (content : List Row) (mask : FieldMask) (key : Field → Option ℕ) (masked : FieldKey) →
     ((map : Field → Option ℕ) → Agree (mask_at mask) map key → winner_of content map ≡ winner_of content key) →
     ((f : Field) → value masked f ≡ seen (mask_at mask f) (key f)) →
-    IsSound content (region_of mask masked, pair_of (winner_of content key)) × IsRegion (region_of mask masked)
+    IsSoundRegion content (region_of mask masked, pair_of (winner_of content key)) × IsRegion (region_of mask masked)
 fresh_right content mask key masked alike under = (
   λ map h. ap pair_of (alike map (λ f. h f ∙ under f)),
   λ f. twice_same (mask_at mask f) (value masked f) (key f) (under f),

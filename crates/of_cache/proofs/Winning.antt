@@ -12,7 +12,7 @@ use Rattle.of_wire.specs.Numbered.{without, only, moved_to_end}
 use Rattle.of_wire.proofs.HighestLemmas.{better, oldest_more}
 use Rattle.of_classifier.specs.declared.Row.{Row}
 use Rattle.of_classifier.specs.Rows.{row_number, row_priority}
-use Rattle.of_classifier.specs.Winner.{is_matching, matching, winner_of, number_of}
+use Rattle.of_classifier.specs.Winner.{is_matching, matching, winner_of, winner_number}
 use Rattle.of_classifier.proofs.WinnerLaw.{wins_both, none_both}
 
 -- ---- one more entry
@@ -34,7 +34,7 @@ IsLow (Some a) (Some b) = a.priority ≤ b.priority
 
 -- the winner without the entries of a number, beside the winner with them
 record Stays (n : ℕ) (w v : Option Row) : Type 0 where
-  same : (number_of w ≡ Some n → ⊥) → v ≡ w
+  same : (winner_number w ≡ Some n → ⊥) → v ≡ w
   low : IsLow v w
 
 priority_same : (a b : Row) → Some a ≡ Some b → a.priority ≡ b.priority
@@ -101,7 +101,7 @@ stays_after n done [] key s = subst (λ (xs : List Row). StaysAt n xs key) (sym 
 stays_after n done (x ∷ rest) key s = subst (λ (xs : List Row). StaysAt n xs key) (append_assoc done (x ∷ []) rest) (stays_after n (done ++ x ∷ []) rest key (stays_more n done key x s))
 
 -- where an entry does not win, the winner stays without it
-pub winner-without : (n : ℕ) (rows : List Row) (key : Field → Option ℕ) → (number_of (winner_of rows key) ≡ Some n → ⊥) → winner_of (without row_number n rows) key ≡ winner_of rows key
+pub winner-without : (n : ℕ) (rows : List Row) (key : Field → Option ℕ) → (winner_number (winner_of rows key) ≡ Some n → ⊥) → winner_of (without row_number n rows) key ≡ winner_of rows key
 winner-without n rows key d = (stays_after n [] rows key (record { same = λ e. refl; low = tt })).same d
 
 -- ---- entries at the end that cannot win
@@ -152,7 +152,7 @@ of_filter p xs x c = (
 )
 
 -- where an entry does not win, the winner stays when that entry becomes the youngest
-pub winner-moved : (n : ℕ) (rows : List Row) (key : Field → Option ℕ) → (number_of (winner_of rows key) ≡ Some n → ⊥) → winner_of (moved_to_end row_number n rows) key ≡ winner_of rows key
+pub winner-moved : (n : ℕ) (rows : List Row) (key : Field → Option ℕ) → (winner_number (winner_of rows key) ≡ Some n → ⊥) → winner_of (moved_to_end row_number n rows) key ≡ winner_of rows key
 winner-moved n rows key d =
     later_stay (without row_number n rows) (only row_number n rows) key (winner_of rows key) (winner-without n rows key d)
     (λ y c. no_higher rows key (winner_of rows key) refl y (of_filter (λ (r : Row). eqb r.number n) rows y c).0)

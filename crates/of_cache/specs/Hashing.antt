@@ -8,5 +8,5 @@ use Rattle.of_headers.specs.Digest.{mixed}
 unfoldable pub each_written : Mixer → List ℕ → Mixer
 each_written m bytes = fold mixed m bytes
 
-abbrev pub written : Mixer → List ℕ → Mixer
-written m bytes = if length bytes == 16 then mixed m (from_le_bytes w128 bytes) else each_written m bytes
+abbrev pub mixer_written : Mixer → List ℕ → Mixer
+mixer_written m bytes = if length bytes == 16 then mixed m (from_le_bytes w128 bytes) else each_written m bytes

@@ -4,14 +4,14 @@ use Rattle.of_classifier.specs.declared.Row.{Row}
 use Rattle.of_cache.specs.declared.region.Row.{Row as CacheRow}
 use Rattle.of_cache.specs.Regions.{AnsweredRegion}
 
-pub record Held : Type 0 where
+pub record HeldRows : Type 0 where
   pub content : List Row
   pub rows : List AnsweredRegion
   pub capacity : ℕ
 
-abbrev pub held : List Row → List AnsweredRegion → ℕ → Held
-held content rows capacity = record { content = content; rows = rows; capacity = capacity }
+abbrev pub held_rows : List Row → List AnsweredRegion → ℕ → HeldRows
+held_rows content rows capacity = record { content = content; rows = rows; capacity = capacity }
 
 -- a row as `rows` returns it: without the priority
-abbrev pub shown : AnsweredRegion → CacheRow
-shown row = record { region = row.0; answer = option_map (λ a. a.0) row.1 }
+abbrev pub shown_row : AnsweredRegion → CacheRow
+shown_row row = record { region = row.0; answer = option_map (λ a. a.0) row.1 }

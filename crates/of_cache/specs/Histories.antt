@@ -15,31 +15,31 @@ use Rattle.of_cache.specs.Kept.{not_answering, not_beaten}
 use Rattle.of_cache.specs.Finding.{NoneHolds, IsHit, IsAdded}
 
 -- an entry is added under a number, is removed, or becomes the youngest; or the entry is looked up that wins for a field map
-pub data Call : Type 0 where
-  Add : (number priority : ℕ) → (fields : List MatchField) → Call
-  Take : (number : ℕ) → Call
-  Renew : (number : ℕ) → Call
-  LookUp : (key : Field → Option ℕ) → Call
+pub data CacheCall : Type 0 where
+  Add : (number priority : ℕ) → (fields : List MatchField) → CacheCall
+  Take : (number : ℕ) → CacheCall
+  Renew : (number : ℕ) → CacheCall
+  LookUp : (key : Field → Option ℕ) → CacheCall
 
 -- ---- the plain list
 
 -- the entries after a call, oldest first
-abbrev pub entries_after : Call → List Row → List Row
+abbrev pub entries_after : CacheCall → List Row → List Row
 entries_after (Add number priority fields) entries = entries ++ made_row number priority fields ∷ []
 entries_after (Take number) entries = without row_number number entries
 entries_after (Renew number) entries = moved_to_end row_number number entries
 entries_after (LookUp key) entries = entries
 
 -- what a call answers: a look-up the number and the priority of the entry that wins, or none, and the others nothing
-abbrev pub answer_of : Call → List Row → Option (ℕ × ℕ)
-answer_of (Add number priority fields) entries = None
-answer_of (Take number) entries = None
-answer_of (Renew number) entries = None
-answer_of (LookUp key) entries = pair_of (winner_of entries key)
+abbrev pub answer_of_call : CacheCall → List Row → Option (ℕ × ℕ)
+answer_of_call (Add number priority fields) entries = None
+answer_of_call (Take number) entries = None
+answer_of_call (Renew number) entries = None
+answer_of_call (LookUp key) entries = pair_of (winner_of entries key)
 
-abbrev pub answers_of : List Call → List Row → List (Option (ℕ × ℕ))
+abbrev pub answers_of : List CacheCall → List Row → List (Option (ℕ × ℕ))
 answers_of [] entries = []
-answers_of (call ∷ calls) entries = answer_of call entries ∷ answers_of calls (entries_after call entries)
+answers_of (call ∷ calls) entries = answer_of_call call entries ∷ answers_of calls (entries_after call entries)
 
 -- ---- the cache, over a classifier that says on which bits an answer depends
 
@@ -50,18 +50,18 @@ LooksUp mask key capacity found old new answer =
     ⊎ (NoneHolds old key × (answer ≡ found) × ((new ≡ old) ⊎ ((a : IsAdded old new capacity mask key) × (a.row.1 ≡ answer))))
 
 -- what a call may leave of the rows, and answer
-abbrev pub Calls : (List Row → (Field → Option ℕ) → Field → Option ℕ) → ℕ → Call → List Row → List AnsweredRegion → List AnsweredRegion → Option (ℕ × ℕ) → Type 0
+abbrev pub Calls : (List Row → (Field → Option ℕ) → Field → Option ℕ) → ℕ → CacheCall → List Row → List AnsweredRegion → List AnsweredRegion → Option (ℕ × ℕ) → Type 0
 Calls looked capacity (Add number priority fields) entries old new answer = (new ≡ not_beaten fields priority old) × (answer ≡ None)
 Calls looked capacity (Take number) entries old new answer = (new ≡ not_answering number old) × (answer ≡ None)
 Calls looked capacity (Renew number) entries old new answer = (new ≡ not_answering number old) × (answer ≡ None)
 Calls looked capacity (LookUp key) entries old new answer = LooksUp (looked entries key) key capacity (pair_of (winner_of entries key)) old new answer
 
 -- what calls one after the other may answer, from these entries and rows
-abbrev pub Answers : (List Row → (Field → Option ℕ) → Field → Option ℕ) → ℕ → List Call → List Row → List AnsweredRegion → List (Option (ℕ × ℕ)) → Type 0
-Answers looked capacity [] entries rows answers = answers ≡ []
-Answers looked capacity (call ∷ calls) entries rows answers =
+abbrev pub AnswersCalls : (List Row → (Field → Option ℕ) → Field → Option ℕ) → ℕ → List CacheCall → List Row → List AnsweredRegion → List (Option (ℕ × ℕ)) → Type 0
+AnswersCalls looked capacity [] entries rows answers = answers ≡ []
+AnswersCalls looked capacity (call ∷ calls) entries rows answers =
     (new : List AnsweredRegion) × (answer : Option (ℕ × ℕ)) × (rest : List (Option (ℕ × ℕ)))
-    × (answers ≡ answer ∷ rest) × Calls looked capacity call entries rows new answer × Answers looked capacity calls (entries_after call entries) new rest
+    × (answers ≡ answer ∷ rest) × Calls looked capacity call entries rows new answer × AnswersCalls looked capacity calls (entries_after call entries) new rest
 
 -- ---- what is asked of both
 
@@ -69,13 +69,13 @@ abbrev pub AreMatches : List Row → Type 0
 AreMatches entries = (entry : Row) → Contains entries entry → IsMatch entry.fields
 
 -- what is added is a match in normal form
-abbrev pub IsOfMatch : Call → Type 0
+abbrev pub IsOfMatch : CacheCall → Type 0
 IsOfMatch (Add number priority fields) = IsMatch fields
 IsOfMatch (Take number) = ⊤
 IsOfMatch (Renew number) = ⊤
 IsOfMatch (LookUp key) = ⊤
 
-abbrev pub AreOfMatches : List Call → Type 0
+abbrev pub AreOfMatches : List CacheCall → Type 0
 AreOfMatches [] = ⊤
 AreOfMatches (call ∷ calls) = IsOfMatch call × AreOfMatches calls
 

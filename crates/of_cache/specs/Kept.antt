@@ -13,11 +13,11 @@ use Rattle.of_cache.specs.Regions.{AnsweredRegion, Holds, IsRegion, meets}
 -- ---- rows that are right
 
 -- the answer is right for every field map of the region, also for those that no frame gives
-abbrev pub IsSound : List Row → AnsweredRegion → Type 0
-IsSound content row = (map : Field → Option ℕ) → Holds row.0 map → pair_of (winner_of content map) ≡ row.1
+abbrev pub IsSoundRegion : List Row → AnsweredRegion → Type 0
+IsSoundRegion content row = (map : Field → Option ℕ) → Holds row.0 map → pair_of (winner_of content map) ≡ row.1
 
-pub record AreSound (content : List Row) (rows : List AnsweredRegion) : Type 0 where
-  pub right : (row : AnsweredRegion) → Contains rows row → IsSound content row
+pub record AreSoundRegions (content : List Row) (rows : List AnsweredRegion) : Type 0 where
+  pub right : (row : AnsweredRegion) → Contains rows row → IsSoundRegion content row
   pub regions : (row : AnsweredRegion) → Contains rows row → IsRegion row.0
 
 -- ---- rows that stay

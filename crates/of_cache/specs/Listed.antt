@@ -14,8 +14,8 @@ abbrev pub is_same_mask : FieldMask → FieldMask → Bool
 is_same_mask = the_mask.eq-value.it
 
 -- some row has the mask
-abbrev pub has_mask : List AnsweredRegion → FieldMask → Bool
-has_mask rows mask = list_any (λ row. is_same_mask row.0.mask mask) rows
+abbrev pub has_row_with_mask : List AnsweredRegion → FieldMask → Bool
+has_row_with_mask rows mask = list_any (λ row. is_same_mask row.0.mask mask) rows
 
 -- each row's mask is in the list, which may have more
 abbrev pub AreListed : List FieldMask → List AnsweredRegion → Type 0
@@ -24,7 +24,7 @@ AreListed masks rows = (row : AnsweredRegion) → Contains rows row → Contains
 -- THE LIST HAS THE MASKS OF THE ROWS, each once, and no others: a look-up tries no mask twice, and none that no row has
 pub record AreMasks (masks : List FieldMask) (rows : List AnsweredRegion) : Type 0 where
   pub listed : AreListed masks rows
-  pub used : (mask : FieldMask) → Contains masks mask → has_mask rows mask ≡ true
+  pub used : (mask : FieldMask) → Contains masks mask → has_row_with_mask rows mask ≡ true
   pub once : IsDistinct is_same_mask masks
 
 -- the list with a mask, at its end if it did not have it

@@ -8,7 +8,7 @@ use Rattle.of_headers.specs.contracts.key.FieldKeyPartialEq.TheImpl as the_key
 use Rattle.of_cache.specs.declared.region.Region.{Region}
 use Rattle.of_cache.specs.contracts.region.RegionPartialEq.TheImpl as the_region
 use Rattle.std.specs.List.{flat_map}
-use Rattle.of_headers.specs.Digest.{words_of}
+use Rattle.of_headers.specs.Digest.{key_words}
 
 record Both (a b : Bool) : Type 0 where
   left : a ≡ true
@@ -36,5 +36,5 @@ both_true false b p q = absurd cc
 pub region_itself : (x : Region) → the_region.eq-value.it x x ≡ true
 region_itself x = both_true (the_key.eq-value.it x.key x.key) (the_key.eq-value.it x.mask.masks x.mask.masks) (key_itself x.key) (key_itself x.mask.masks)
 
-pub same_region_fed : (x y : Region) → IsTrue (the_region.eq-value.it x y) → flat_map fed.u128 (words_of x.key.numbers) ≡ flat_map fed.u128 (words_of y.key.numbers)
-same_region_fed x y h = ap (λ (k : FieldKey). flat_map fed.u128 (words_of k.numbers)) (equal_keys x.key y.key (keys_of_both x y h).left)
+pub same_region_fed : (x y : Region) → IsTrue (the_region.eq-value.it x y) → flat_map fed.u128 (key_words x.key.numbers) ≡ flat_map fed.u128 (key_words y.key.numbers)
+same_region_fed x y h = ap (λ (k : FieldKey). flat_map fed.u128 (key_words k.numbers)) (equal_keys x.key y.key (keys_of_both x y h).left)

@@ -6,10 +6,10 @@ ghost use Rattle.of_oxm.specs.Masks.{mask_at, Agree};
 ghost use Rattle.of_wire.specs.Numbered.{is_used, is_distinct, without, moved_to_end};
 ghost use Rattle.of_classifier.specs.declared.Row.{Row as AnEntry};
 ghost use Rattle.of_classifier.specs.Rows.{made_row, row_number, same_of, priority_of};
-ghost use Rattle.of_classifier.specs.Winner.{winner_of, number_of};
+ghost use Rattle.of_classifier.specs.Winner.{winner_of, winner_number};
 ghost use Rattle.of_classifier.specs.Scanning.{pair_of};
-ghost use Rattle.of_cache.specs.Held.{Held, held, shown};
-ghost use Rattle.of_cache.specs.Kept.{AreSound, not_answering, not_beaten};
+ghost use Rattle.of_cache.specs.Held.{HeldRows, held_rows, shown_row};
+ghost use Rattle.of_cache.specs.Kept.{AreSoundRegions, not_answering, not_beaten};
 ghost use Rattle.of_cache.specs.Finding.{AreFound};
 ghost use Rattle.of_cache.specs.Listed.{AreMasks};
 
@@ -40,15 +40,15 @@ pub struct Cached<L: Lookup> {
 }
 
 impl<L: Lookup> Model for Cached<L> {
-    ghost use Rattle.of_cache.specs.Held.{Held, held};
-    ghost use Rattle.of_cache.specs.Kept.{AreSound};
+    ghost use Rattle.of_cache.specs.Held.{HeldRows, held_rows};
+    ghost use Rattle.of_cache.specs.Kept.{AreSoundRegions};
     ghost use Rattle.of_cache.specs.Listed.{AreMasks};
 
-    ghost Value = { Held };
+    ghost Value = { HeldRows };
 
-    ghost view = { λ c. held (L.content c.inner) c.rows.entries c.rows.cap };
+    ghost view = { λ c. held_rows (L.content c.inner) c.rows.entries c.rows.cap };
 
-    ghost invariant = { λ c. AreSound (L.content c.inner) c.rows.entries × AreMasks c.masks.items c.rows.entries };
+    ghost invariant = { λ c. AreSoundRegions (L.content c.inner) c.rows.entries × AreMasks c.masks.items c.rows.entries };
 }
 
 impl<L: Lookup> Cached<L> {
@@ -62,7 +62,7 @@ impl<L: Lookup> Cached<L> {
         seed: u64,
     ) -> Result<Self, AllocError>
         requires { 0 < capacity }
-        ensures { IfOk result (λ c. c ≡ held (L.content inner) [] capacity) }
+        ensures { IfOk result (λ c. c ≡ held_rows (L.content inner) [] capacity) }
     {
         let capacity = match NonZeroUsize::new(capacity) {
             Some(capacity) => capacity,
@@ -79,14 +79,14 @@ impl<L: Lookup> Cached<L> {
 
     /// The rows, the most recently used first. It fails only if memory runs out.
     pub fn rows(&self, alloc: Global) -> Result<Vec<Row>, AllocError>
-        ensures { IfOk result (λ rows. rows.items ≡ map shown self.now.rows) }
+        ensures { IfOk result (λ rows. rows.items ≡ map shown_row self.now.rows) }
     {
         rows_of(&self.rows, alloc)
     }
 
     /// Its rows are right, also at field maps that no frame has.
     pub fn rows_are_right(&self)
-        ensures { AreSound self.now.content self.now.rows }
+        ensures { AreSoundRegions self.now.content self.now.rows }
     {
         let _rows = &self.rows;
     }
@@ -105,7 +105,7 @@ impl<L: Lookup> Lookup for Cached<L> {
     }
 
     fn winner(&mut self, key: &FieldKey) -> Option<usize>
-        ensures answer { result ≡ number_of (winner_of self.old.content (value key.now)) }
+        ensures answer { result ≡ winner_number (winner_of self.old.content (value key.now)) }
         ensures kept { self.new.content ≡ self.old.content }
         ensures rows { AreFound self.old.rows self.new.rows self.old.capacity (L.looked self.old.content (value key.now)) (value key.now) }
         ensures capacity { self.new.capacity ≡ self.old.capacity }
@@ -197,7 +197,7 @@ fn drop_answers(rows: &mut Rows, masks: &mut Vec<FieldMask>, number: usize)
 }
 
 fn rows_of(rows: &Rows, alloc: Global) -> Result<Vec<Row>, AllocError>
-    ensures { IfOk result (λ list. list.items ≡ map shown rows.now.entries) }
+    ensures { IfOk result (λ list. list.items ≡ map shown_row rows.now.entries) }
 {
     let mut list = Vec::new(alloc);
     for (region, answer) in rows.iter() {
@@ -221,7 +221,8 @@ fn number_in(answer: Answer) -> Option<usize>
 
 // The number of a winner, with its priority.
 fn answer_of<L: Lookup>(lookup: &L, number: Option<usize>) -> Answer
-    ensures { (map : Field → Option ℕ) → number ≡ number_of (winner_of (L.content lookup.now) map) → result ≡ pair_of (winner_of (L.content lookup.now) map) }
+    ensures { (map : Field → Option ℕ) → number ≡ winner_number (winner_of (L.content lookup.now) map) →
+        result ≡ pair_of (winner_of (L.content lookup.now) map) }
 {
     lookup.known();
     match number {

@@ -1,6 +1,6 @@
 //! The hash by which rows are found, under a secret.
-ghost use Rattle.of_headers.specs.Digest.{number_in};
-ghost use Rattle.of_cache.specs.Hashing.{written, each_written};
+ghost use Rattle.of_headers.specs.Digest.{mixer_number};
+ghost use Rattle.of_cache.specs.Hashing.{mixer_written, each_written};
 ghost use Rattle.std.specs.Prelude.{◌≡◌};
 
 use of_headers::Mixer;
@@ -31,9 +31,9 @@ fn with_each(mixer: Mixer, bytes: &[u8]) -> Mixer
 }
 
 impl Hasher for SecretHasher {
-    ghost write = { λ s bytes. record { mixer = written s.mixer bytes } };
+    ghost write = { λ s bytes. record { mixer = mixer_written s.mixer bytes } };
 
-    ghost finish = { λ s. number_in s.mixer };
+    ghost finish = { λ s. mixer_number s.mixer };
 
     #[inline]
     fn finish(&self) -> u64 {

@@ -7,7 +7,7 @@ ghost use Rattle.of_headers.specs.FieldMap.{value};
 ghost use Rattle.of_oxm.specs.declared.masks.FieldMask.{FieldMask as AMask};
 ghost use Rattle.of_cache.specs.Finding.{IsHit, NoneHolds};
 ghost use Rattle.of_cache.specs.Regions.{Holds};
-ghost use Rattle.of_cache.specs.Listed.{AreListed, AreMasks, has_mask, is_same_mask, is_same_region, with_mask};
+ghost use Rattle.of_cache.specs.Listed.{AreListed, AreMasks, has_row_with_mask, is_same_mask, is_same_region, with_mask};
 
 use crate::dropping::{Answer, Rows};
 use crate::region::Region;
@@ -93,7 +93,7 @@ fn list_mask(masks: &mut Vec<FieldMask>, mask: &FieldMask) -> bool
 
 // Whether some row has the mask.
 fn is_used(rows: &Rows, mask: &FieldMask) -> bool
-    ensures { result ≡ has_mask rows.now.entries mask.now }
+    ensures { result ≡ has_row_with_mask rows.now.entries mask.now }
 {
     rows.iter().any(|(region, _)| region.mask == *mask)
 }
@@ -112,7 +112,8 @@ fn push_row(rows: &mut Rows, region: Region, answer: Answer) -> bool
     requires new { lookup (is_same_region region) rows.old.entries ≡ None }
     ensures rows { (rows.new.entries ≡ rows.old.entries) ⊎ (rows.new.entries ≡ (region, answer) ∷ take (rows.old.cap - 1) rows.old.entries) }
     ensures capacity { rows.new.cap ≡ rows.old.cap }
-    ensures used { IsTrue result → (mask : AMask) → (has_mask rows.old.entries mask ≡ true) ⊎ (region.mask ≡ mask) → has_mask rows.new.entries mask ≡ true }
+    ensures used { IsTrue result → (mask : AMask) → (has_row_with_mask rows.old.entries mask ≡ true) ⊎ (region.mask ≡ mask) →
+        has_row_with_mask rows.new.entries mask ≡ true }
 {
     // its contract says that there are no more rows than the capacity
     rows.len();

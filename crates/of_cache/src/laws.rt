@@ -15,8 +15,8 @@ ghost use Rattle.of_classifier.specs.Winner.{winner_of};
 ghost use Rattle.of_classifier.specs.Scanning.{pair_of};
 ghost use Rattle.of_cache.specs.declared.region.Region.{Region as ARegion};
 ghost use Rattle.of_cache.specs.Regions.{AnsweredRegion, Holds, IsRegion, meets, region_of};
-ghost use Rattle.of_cache.specs.Histories.{Call, Decide, AreOfMatches, Answers, answers_of};
-ghost use Rattle.of_cache.specs.Kept.{IsSound, AreSound, not_answering, not_beaten};
+ghost use Rattle.of_cache.specs.Histories.{CacheCall, Decide, AreOfMatches, AnswersCalls, answers_of};
+ghost use Rattle.of_cache.specs.Kept.{IsSoundRegion, AreSoundRegions, not_answering, not_beaten};
 
 /// A region holds exactly the field maps that agree under its mask with one that it holds.
 pub fn regions_are_agreement()
@@ -35,11 +35,11 @@ pub fn meeting_is_common_map()
 /// Rows that are right stay right where an entry is added, removed or renewed, but for those that go.
 pub fn rows_stay_sound()
     ensures added { (content : List AnEntry) (rows : List AnsweredRegion) (number priority : ℕ) (m : List AMatchField) → IsMatch m →
-        AreSound content rows → AreSound (content ++ made_row number priority m ∷ []) (not_beaten m priority rows) }
+        AreSoundRegions content rows → AreSoundRegions (content ++ made_row number priority m ∷ []) (not_beaten m priority rows) }
     ensures removed { (content : List AnEntry) (rows : List AnsweredRegion) (number : ℕ) →
-        AreSound content rows → AreSound (without row_number number content) (not_answering number rows) }
+        AreSoundRegions content rows → AreSoundRegions (without row_number number content) (not_answering number rows) }
     ensures renewed { (content : List AnEntry) (rows : List AnsweredRegion) (number : ℕ) →
-        AreSound content rows → AreSound (moved_to_end row_number number content) (not_answering number rows) }
+        AreSoundRegions content rows → AreSoundRegions (moved_to_end row_number number content) (not_answering number rows) }
 {}
 
 /// A key under a mask is a region with one answer, if all that agree with the key under the mask have its winner.
@@ -47,12 +47,12 @@ pub fn fresh_row_is_sound()
     ensures { (content : List AnEntry) (mask : AMask) (key : AField → Option ℕ) (masked : AKey) →
         ((map : AField → Option ℕ) → Agree (mask_at mask) map key → winner_of content map ≡ winner_of content key) →
         ((f : AField) → value masked f ≡ seen (mask_at mask f) (key f)) →
-        IsSound content (region_of mask masked, pair_of (winner_of content key)) × IsRegion (region_of mask masked) }
+        IsSoundRegion content (region_of mask masked, pair_of (winner_of content key)) × IsRegion (region_of mask masked) }
 {}
 
 /// A cache of any capacity answers as the plain list of its entries does, whatever calls came before and whichever rows were
 /// kept of what was looked up.
 pub fn any_history_answers_as_the_list()
-    ensures { (looked : List AnEntry → (AField → Option ℕ) → AField → Option ℕ) (capacity : ℕ) (calls : List Call) (answers : List (Option (ℕ × ℕ))) →
-        Decide looked → AreOfMatches calls → Answers looked capacity calls [] [] answers → answers ≡ answers_of calls [] }
+    ensures { (looked : List AnEntry → (AField → Option ℕ) → AField → Option ℕ) (capacity : ℕ) (calls : List CacheCall) (answers : List (Option (ℕ × ℕ))) →
+        Decide looked → AreOfMatches calls → AnswersCalls looked capacity calls [] [] answers → answers ≡ answers_of calls [] }
 {}

@@ -1,7 +1,7 @@
 //! Regions of field maps, and rows of a cache.
 ghost use Rattle.std.specs.Hash as fed;
 ghost use Rattle.std.specs.List.{flat_map};
-ghost use Rattle.of_headers.specs.Digest.{words_of};
+ghost use Rattle.of_headers.specs.Digest.{key_words};
 ghost use Rattle.of_cache.specs.SameRegion.{same_region_fed};
 
 use of_headers::FieldKey;
@@ -17,7 +17,7 @@ pub struct Region {
 
 // Numbers that depend on all fields of the key.
 impl Hash for Region {
-    ghost hash_input = { λ r. flat_map fed.u128 (words_of r.key.numbers) };
+    ghost hash_input = { λ r. flat_map fed.u128 (key_words r.key.numbers) };
 
     ghost respects_eq = { same_region_fed };
 

@@ -4,8 +4,8 @@ use Rattle.std.proofs.lemmas.List.{append_assoc, append-nil, map-append}
 use Rattle.std.proofs.lemmas.List.Elements.{Contains-push_cases}
 use Rattle.of_table.specs.Tables.{Tables, table_at}
 use Rattle.of_check.specs.declared.finding.Finding.{Finding}
-use Rattle.of_check.specs.Verdicts.{Holds}
-use Rattle.of_check.specs.Findings.{AreFindings, entry_of, first_entries, entries_below}
+use Rattle.of_check.specs.Verdicts.{VerdictHolds}
+use Rattle.of_check.specs.Findings.{AreFindings, found_entry, first_entries, entries_below}
 
 pub no_findings : (ts : Tables) (steps : ℕ) → AreFindings (entries_below 0 ts) ts steps []
 unfolding entries_below
@@ -16,14 +16,14 @@ pub none_yet : (es : List (ℕ × ℕ)) (ts : Tables) (steps : ℕ) (fs : List F
 none_yet es ts steps fs h = record { each = h.each ∙ sym (append-nil es); hold = h.hold }
 
 pub one_more : (es : List (ℕ × ℕ)) (table place next : ℕ) (ts : Tables) (steps : ℕ) (fs : List Finding) (f : Finding) → f.table ≡ table → f.place ≡ place → next ≡ suc place
-    → AreFindings (es ++ first_entries table place) ts steps fs → Holds (table_at f.table ts).flows f.place steps f.verdict → AreFindings (es ++ first_entries table next) ts steps (fs ++ f ∷ [])
+    → AreFindings (es ++ first_entries table place) ts steps fs → VerdictHolds (table_at f.table ts).flows f.place steps f.verdict → AreFindings (es ++ first_entries table next) ts steps (fs ++ f ∷ [])
 one_more es table place next ts steps fs f t p n h v = record {
-  each = map-append entry_of fs (f ∷ []) ∙ ap (λ xs. xs ++ entry_of f ∷ []) h.each
-      ∙ append_assoc es (first_entries table place) (entry_of f ∷ [])
+  each = map-append found_entry fs (f ∷ []) ∙ ap (λ xs. xs ++ found_entry f ∷ []) h.each
+      ∙ append_assoc es (first_entries table place) (found_entry f ∷ [])
       ∙ rw (t, p, n) refl;
-  hold = λ g c. elim (Contains-push_cases fs f g c) as (λ x. Holds (table_at g.table ts).flows g.place steps g.verdict) [
+  hold = λ g c. elim (Contains-push_cases fs f g c) as (λ x. VerdictHolds (table_at g.table ts).flows g.place steps g.verdict) [
     | inl old ↦ h.hold g old
-    | inr same ↦ subst (λ x. Holds (table_at x.table ts).flows x.place steps x.verdict) same v
+    | inr same ↦ subst (λ x. VerdictHolds (table_at x.table ts).flows x.place steps x.verdict) same v
   ];
 }
 

@@ -23,7 +23,7 @@ use Rattle.of_layers.specs.declared.field.Field.{Field}
 use Rattle.of_layers.specs.declared.field.Field.TheVariants.{InPort}
 use Rattle.of_oxm.specs.declared.match_field.MatchField.{MatchField}
 use Rattle.of_oxm.specs.Relations.{agrees, bits_looked_at, matches_map}
-use Rattle.of_remarks.specs.Actions.{is_ingress, required_port}
+use Rattle.of_remarks.specs.Actions.{is_in_port, required_port}
 use Rattle.of_table.specs.declared.flow.Flow.{Flow}
 use Rattle.of_table.specs.Table.{FlowEntry, flow_at}
 use Rattle.of_table.specs.Tables.{table_at}
@@ -35,7 +35,7 @@ use Rattle.of_machine.specs.declared.data.Count.{Count}
 use Rattle.of_machine.specs.declared.data.Step.{Step}
 use Rattle.of_machine.specs.declared.data.Step.TheVariants.{Act as DidAct}
 use Rattle.of_machine.specs.TheWorld.{TheWorld}
-use Rattle.of_machine.specs.Rows.{Work, Lookup, Do, RunSet, Act, Task, task, Row, row, goes_on, key_of, lookup_row, entry_row, do_row, act_row, group_row, dec_ttl_row, copies, Emitted, emits, table_row}
+use Rattle.of_machine.specs.Rows.{Work, Lookup, Do, RunSet, Act, Task, task, Row, row, goes_on, key_of, lookup_row, entry_row, do_row, act_row, group_action_row, dec_ttl_row, copies, Emitted, emits, output_to_table_row}
 use Rattle.of_machine.specs.Runs.{Machine, step, first_step, taken, after, starting}
 
 -- ---- the port stays
@@ -62,7 +62,7 @@ do_came i p e rest (Write l) = (e, tt)
 do_came i p e rest (Metadata value mask) = (e, tt)
 do_came i p e rest (Goto t) = (e, tt)
 
-output_came : (i : ℕ) (p : Packet) → p.ingress ≡ i → (rest : List Work) (a : Action) (line : Step) (x : Emitted) (b : Bool) → Came i (if b then table_row p rest a else emits line x (task p rest ∷ [])).left
+output_came : (i : ℕ) (p : Packet) → p.ingress ≡ i → (rest : List Work) (a : Action) (line : Step) (x : Emitted) (b : Bool) → Came i (if b then output_to_table_row p rest a else emits line x (task p rest ∷ [])).left
 output_came i p e rest a line x true = (e, (e, tt))
 output_came i p e rest a line x false = (e, tt)
 
@@ -70,7 +70,7 @@ copies_came : (i : ℕ) (w : TheWorld) (g : ℕ) (p : Packet) → p.ingress ≡ 
 copies_came i w g p e [] = tt
 copies_came i w g p e (x ∷ xs) = (e, copies_came i w g p e xs)
 
-group_came : (i : ℕ) (w : TheWorld) (p : Packet) → p.ingress ≡ i → (rest : List Work) (g : ℕ) (o : Option (List ℕ)) → Came i (group_row w p rest g o).left
+group_came : (i : ℕ) (w : TheWorld) (p : Packet) → p.ingress ≡ i → (rest : List Work) (g : ℕ) (o : Option (List ℕ)) → Came i (group_action_row w p rest g o).left
 group_came i w p e rest g None = (e, tt)
 group_came i w p e rest g (Some places) = came_both i (copies w g p places) (task p rest ∷ []) (copies_came i w g p e places) (e, tt)
 
@@ -155,7 +155,7 @@ drops w p work k max_len q rest others h is =
 
 -- ---- a match that requires the port
 
-ingress_field : (f : Field) → is_ingress f ≡ true → f ≡ InPort
+ingress_field : (f : Field) → is_in_port f ≡ true → f ≡ InPort
 ingress_field InPort h = refl
 ingress_field other h = absurd cc
 
@@ -172,9 +172,9 @@ record Requires (e : MatchField) (port : ℕ) : Type 0 where
   pub whole : e.mask ≡ None
   pub value : e.value ≡ port
 
-required : (e : MatchField) (port : ℕ) (b : Bool) → (is_ingress e.field && (is_none e.mask && is_number e.value)) ≡ b → (if b then Some e.value else None) ≡ Some port → Requires e port
+required : (e : MatchField) (port : ℕ) (b : Bool) → (is_in_port e.field && (is_none e.mask && is_number e.value)) ≡ b → (if b then Some e.value else None) ≡ Some port → Requires e port
 required e port true t h =
-    let one = and_parts (is_ingress e.field) (is_none e.mask && is_number e.value) t in
+    let one = and_parts (is_in_port e.field) (is_none e.mask && is_number e.value) t in
     let two = and_parts (is_none e.mask) (is_number e.value) one.1 in
     record { field = ingress_field e.field one.0; whole = is_unmasked e.mask two.0; value = cc }
 required e port false t h = absurd cc

@@ -18,11 +18,11 @@ use Rattle.of_table.specs.Table.{FlowEntry, Table, empty_table, flow_at}
 use Rattle.of_table.specs.Tables.{table_at}
 use Rattle.of_text.specs.Flows.{Flow as TextFlow}
 use Rattle.of_text.specs.Kept.{step_of}
-use Rattle.of_remarks.specs.Tables.{IsReached, is_way, leads, goes_to}
+use Rattle.of_remarks.specs.Tables.{IsReached, is_way, leads_to_table, goes_to}
 use Rattle.of_machine.specs.declared.data.Packet.{Packet}
 use Rattle.of_machine.specs.declared.data.Step.{Step}
 use Rattle.of_machine.specs.TheWorld.{TheWorld}
-use Rattle.of_machine.specs.Rows.{Work, Lookup, Do, RunSet, Act, Task, task, Row, row, acts, works, key_of, lookup_row, entry_row, do_row, act_row, group_row, dec_ttl_row, copies, Emitted, emits, table_row}
+use Rattle.of_machine.specs.Rows.{Work, Lookup, Do, RunSet, Act, Task, task, Row, row, acts, works, key_of, lookup_row, entry_row, do_row, act_row, group_action_row, dec_ttl_row, copies, Emitted, emits, output_to_table_row}
 use Rattle.of_machine.specs.Runs.{Machine, step, first_step, or_end, until_none, starting, run_of}
 use Rattle.of_datapath.specs.Datapath.{Forwarding, world_of}
 use Rattle.of_datapath.specs.Loading.{configuration_of, entry_text, table_text, texts_from}
@@ -84,7 +84,7 @@ do_in P p (Write l) rest i h = record { left = (h, tt); line = tt }
 do_in P p (Metadata value mask) rest i h = record { left = (h, tt); line = tt }
 do_in P p (Goto t) rest i h = record { left = ((i, tt), tt); line = tt }
 
-output_in : (P : ℕ → Type 0) → P 0 → (p : Packet) (rest : List Work) (a : Action) (e : Emitted) (line : Step) → IfSome (looked_up line) P → (b : Bool) → WorkIn P rest → RowIn P (if b then table_row p rest a else emits line e (task p rest ∷ []))
+output_in : (P : ℕ → Type 0) → P 0 → (p : Packet) (rest : List Work) (a : Action) (e : Emitted) (line : Step) → IfSome (looked_up line) P → (b : Bool) → WorkIn P rest → RowIn P (if b then output_to_table_row p rest a else emits line e (task p rest ∷ []))
 output_in P first p rest a e line l true h = record { left = ((first, tt), (h, tt)); line = tt }
 output_in P first p rest a e line l false h = record { left = (h, tt); line = l }
 
@@ -92,7 +92,7 @@ copies_in : (P : ℕ → Type 0) (w : TheWorld) (g : ℕ) (p : Packet) (places :
 copies_in P w g p [] = tt
 copies_in P w g p (x ∷ xs) = (tt, copies_in P w g p xs)
 
-group_in : (P : ℕ → Type 0) (w : TheWorld) (p : Packet) (rest : List Work) (g : ℕ) (o : Option (List ℕ)) → WorkIn P rest → RowIn P (group_row w p rest g o)
+group_in : (P : ℕ → Type 0) (w : TheWorld) (p : Packet) (rest : List Work) (g : ℕ) (o : Option (List ℕ)) → WorkIn P rest → RowIn P (group_action_row w p rest g o)
 group_in P w p rest g None h = record { left = (h, tt); line = tt }
 group_in P w p rest g (Some places) h = record { left = both (λ (t : Task). WorkIn P t.work) (copies w g p places) (task p rest ∷ []) (copies_in P w g p places) (h, tt); line = tt }
 
@@ -151,14 +151,14 @@ run_in P w c p work h = (until_in P w c _ (starting p work) (record { tasks = (h
 
 -- ---- the tables of a configuration
 
-way_more : (tables : List (List TextFlow)) (from : ℕ) (way : List ℕ) (t u : ℕ) → is_way tables from way t ≡ true → leads tables t u ≡ true → is_way tables from (way ++ u ∷ []) u ≡ true
+way_more : (tables : List (List TextFlow)) (from : ℕ) (way : List ℕ) (t u : ℕ) → is_way tables from way t ≡ true → leads_to_table tables t u ≡ true → is_way tables from (way ++ u ∷ []) u ≡ true
 way_more tables from [] t u w l =
     let is : from ≡ t = eqb-true from t w in
-    let here : leads tables from u ≡ true = subst (λ (x : ℕ). leads tables x u ≡ true) (sym is) l in
+    let here : leads_to_table tables from u ≡ true = subst (λ (x : ℕ). leads_to_table tables x u ≡ true) (sym is) l in
     let same : eqb u u ≡ true = eq-eqb u u refl in
     rw (here, same) refl
 way_more tables from (x ∷ way) t u w l =
-    let parts = and_parts (leads tables from x) (is_way tables x way t) w in
+    let parts = and_parts (leads_to_table tables from x) (is_way tables x way t) w in
     rw (parts.0, way_more tables x way t u parts.1 l) refl
   where
     and_parts : (a b : Bool) → (a && b) ≡ true → (a ≡ true) × (b ≡ true)
@@ -197,7 +197,7 @@ closed f = record {
       let text = text_at 0 f.tables.tables t in
       let some : list_any (λ x. list_any (goes_to u) x.steps) (table_text text.0 (table_at t f.tables)) ≡ true =
       any_entry (λ x. list_any (goes_to u) x.steps) text.0 (table_at t f.tables).flows n flow at (λ e is. subst (λ (x : Flow). list_any (goes_to u) (map step_of x.instructions) ≡ true) (sym is) to) in
-      let on : leads tables t u ≡ true = subst (λ (x : List TextFlow). list_any (λ y. list_any (goes_to u) y.steps) x ≡ true) (sym text.1) some in
+      let on : leads_to_table tables t u ≡ true = subst (λ (x : List TextFlow). list_any (λ y. list_any (goes_to u) y.steps) x ≡ true) (sym text.1) some in
       (reached.0 ++ u ∷ [], way_more tables 0 reached.0 t u reached.1 on));
 }
 

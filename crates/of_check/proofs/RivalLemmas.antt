@@ -18,7 +18,7 @@ use Rattle.of_regions.specs.declared.witness.Packet.{Packet as PacketFound}
 use Rattle.of_regions.specs.declared.region.Region.{Region}
 use Rattle.of_regions.specs.Conditions.{AreConditions}
 use Rattle.of_regions.specs.Searching.{AreTaking, IsFreePacket, IsStart}
-use Rattle.of_regions.specs.Witness.{IsIngress, fields_in}
+use Rattle.of_regions.specs.Witness.{IsIngressPort, fields_in}
 use Rattle.of_check.specs.Verdicts.{AreRivals, GoesBefore, IsPacket, Matches, NeverWins, Packet, SomeMatches, WinsWith, fields_of}
 use Rattle.of_check.proofs.WinnerLemmas.{wins_alone}
 
@@ -111,7 +111,7 @@ module _ (flows : List FlowEntry) (k : ℕ) (own : FlowEntry) (own_there : slice
         by_test false t apart = t
         by_test true t apart = let both : overlaps_match b.first.flow.fields own.flow.fields ≡ true = overlap b.first.flow.fields own.flow.fields map t m in absurd cc
 
-    small_port : (port : ℕ) → IsIngress port → port < 2 ^ 32
+    small_port : (port : ℕ) → IsIngressPort port → port < 2 ^ 32
     small_port port (inl h) = omega (arith, h.1)
     small_port port (inr e) = omega (arith, e)
 

@@ -6,7 +6,7 @@ use Rattle.std.proofs.lemmas.List.{append-nil}
 use Rattle.of_actions.specs.declared.action.Action.{Action}
 use Rattle.of_actions.specs.declared.action.Action.TheVariants.{Output, PushVlan, PopVlan, Group, SetNwTtl, DecNwTtl, SetField}
 use Rattle.of_action_set.specs.Sets.{in_order}
-use Rattle.of_remarks.specs.Actions.{may_send}
+use Rattle.of_remarks.specs.Actions.{may_send_packet}
 use Rattle.of_machine.specs.declared.data.Packet.{Packet}
 use Rattle.of_machine.specs.declared.data.Item.{Item}
 use Rattle.of_machine.specs.declared.data.Count.{Count}
@@ -53,7 +53,7 @@ one_step w m p work others r is e i c =
 
 -- ---- actions that send nothing
 
-silent_row : (w : TheWorld) (p : Packet) (rest : List Work) (a : Action) → may_send a ≡ false → act_row w p rest a ≡ goes_on (DidAct a) (record p { frame = rewritten a p.frame }) rest
+silent_row : (w : TheWorld) (p : Packet) (rest : List Work) (a : Action) → may_send_packet a ≡ false → act_row w p rest a ≡ goes_on (DidAct a) (record p { frame = rewritten a p.frame }) rest
 silent_row w p rest (Output port max_len) h = absurd cc
 silent_row w p rest (Group g) h = absurd cc
 silent_row w p rest DecNwTtl h = absurd cc
@@ -72,10 +72,10 @@ pub record Done (w : TheWorld) (m : Machine) (p : Packet) (rest : List Work) (ot
   pub same_set : packet.action_set ≡ p.action_set
   pub comes : Quietly w m (task packet rest ∷ others)
 
-pub acts_done : (w : TheWorld) (l : List Action) (p : Packet) (rest : List Work) (others : List Task) (m : Machine) → list_any may_send l ≡ false → m.tasks ≡ task p (acts l ++ rest) ∷ others → Done w m p rest others
+pub acts_done : (w : TheWorld) (l : List Action) (p : Packet) (rest : List Work) (others : List Task) (m : Machine) → list_any may_send_packet l ≡ false → m.tasks ≡ task p (acts l ++ rest) ∷ others → Done w m p rest others
 acts_done w [] p rest others m h is = record { packet = p; same_set = refl; comes = nowhere w m (task p rest ∷ others) is }
 acts_done w (a ∷ l) p rest others m h is =
-    let parts = or_parts (may_send a) (list_any may_send l) h in
+    let parts = or_parts (may_send_packet a) (list_any may_send_packet l) h in
     let q : Packet = record p { frame = rewritten a p.frame } in
     let first = one_step w m p (Act a ∷ acts l ++ rest) others (goes_on (DidAct a) q (acts l ++ rest)) is (silent_row w p (acts l ++ rest) a parts.0) refl refl in
     let others_done = acts_done w l q rest others (after w first.steps m) parts.1 first.tasks_are in
@@ -84,15 +84,15 @@ acts_done w (a ∷ l) p rest others m h is =
 ended : (w : TheWorld) (m : Machine) (p : Packet) (others : List Task) → m.tasks ≡ task p [] ∷ others → Quietly w m others
 ended w m p others is = one_step w m p [] others (row w p []) is refl refl refl
 
-pub set_ended : (w : TheWorld) (m : Machine) (p : Packet) (others : List Task) → list_any may_send (in_order p.action_set) ≡ false → m.tasks ≡ task p (RunSet ∷ []) ∷ others → Quietly w m others
+pub set_ended : (w : TheWorld) (m : Machine) (p : Packet) (others : List Task) → list_any may_send_packet (in_order p.action_set) ≡ false → m.tasks ≡ task p (RunSet ∷ []) ∷ others → Quietly w m others
 set_ended w m p others h is =
     let first = one_step w m p (RunSet ∷ []) others (row w p (RunSet ∷ [])) is refl refl refl in
     let done = acts_done w (in_order p.action_set) (set_out p) [] others (after w first.steps m) h first.tasks_are in
     let so_far = onward w m _ _ first done.comes in
     onward w m _ _ so_far (ended w (after w so_far.steps m) done.packet others so_far.tasks_are)
 
-pub unseen : (w : TheWorld) (m : Machine) (p : Packet) (l : List Action) (others : List Task) → list_any may_send l ≡ false → list_any may_send (in_order p.action_set) ≡ false → m.tasks ≡ task p (acts l ++ RunSet ∷ []) ∷ others → Quietly w m others
+pub unseen : (w : TheWorld) (m : Machine) (p : Packet) (l : List Action) (others : List Task) → list_any may_send_packet l ≡ false → list_any may_send_packet (in_order p.action_set) ≡ false → m.tasks ≡ task p (acts l ++ RunSet ∷ []) ∷ others → Quietly w m others
 unseen w m p l others h s is =
     let done = acts_done w l p (RunSet ∷ []) others m h is in
-    let silent : list_any may_send (in_order done.packet.action_set) ≡ false = ap (λ (x : List Action). list_any may_send (in_order x)) done.same_set ∙ s in
+    let silent : list_any may_send_packet (in_order done.packet.action_set) ≡ false = ap (λ (x : List Action). list_any may_send_packet (in_order x)) done.same_set ∙ s in
     onward w m _ _ done.comes (set_ended w (after w done.comes.steps m) done.packet others silent done.comes.tasks_are)

@@ -11,11 +11,11 @@ use Rattle.of_layers.specs.Fields.{row_of, number_of}
 use Rattle.of_layers.specs.Layers.{Item, plain, named, Cell, Extension, Options, Fragment, Body, Plain, Arp, Ipv4, Ipv6, Carried, Layers, cells_in, byte_cells, inner_cells, tag_cells, extension_cells, carried_cells, body_cells, cells, next_before, addresses, outer_tag, inner_tag, ether_type, arp, ipv4, ipv6, options, fragment, items_of}
 use Rattle.of_layers.specs.Looking.{name_is, look_up, look}
 use Rattle.of_layers.specs.Reading.{layers_of}
-use Rattle.of_layers.specs.WellFormed.{AreBytes, Fits, AreTags, AreExtensions, IsBody, IsLayers}
+use Rattle.of_layers.specs.WellFormed.{AreBytes, FitsItems, AreTags, AreExtensions, IsBody, IsLayers}
 use Rattle.of_layers.proofs.FrameLemmas.{are_layers}
 use Rattle.of_headers.specs.FieldMap.{field_map}
 use Rattle.of_headers.proofs.LookLemmas.{look-append, look_bytes}
-use Rattle.of_check.specs.Rules.{leads_to}
+use Rattle.of_check.specs.Rules.{implied_fields}
 
 -- ---- among cells
 
@@ -60,7 +60,7 @@ found_by : (t h : Bool) (v : ℕ) (rest : Option ℕ) → (t || h) ≡ true → 
 found_by true h v rest e f = refl
 found_by false h v rest e f = f e
 
-has_found : (n : ℕ) (is : List Item) (ns : List ℕ) → has n is ≡ true → Fits is ns → IsSome (look_up n (cells_in is ns))
+has_found : (n : ℕ) (is : List Item) (ns : List ℕ) → has n is ≡ true → FitsItems is ns → IsSome (look_up n (cells_in is ns))
 has_found n [] ns h f = absurd cc
 has_found n (i ∷ is) [] h f = absurd f
 has_found n (i ∷ is) (v ∷ ns) h f = found_by (name_is n i.name) (has n is) v (look_up n (cells_in is ns)) h (λ e. has_found n is ns e f.1)
@@ -74,12 +74,12 @@ lacks_found n [] ns h = refl
 lacks_found n (i ∷ is) [] h = refl
 lacks_found n (i ∷ is) (v ∷ ns) h = lost_by (name_is n i.name) (has n is) v (look_up n (cells_in is ns)) h (λ e. lacks_found n is ns e)
 
-items_by : (m n : ℕ) (is : List Item) (ns : List ℕ) (a b : Bool) → has m is ≡ a → has n is ≡ b → (not a || b) ≡ true → Fits is ns → Leads m n (cells_in is ns)
+items_by : (m n : ℕ) (is : List Item) (ns : List ℕ) (a b : Bool) → has m is ≡ a → has n is ≡ b → (not a || b) ≡ true → FitsItems is ns → Leads m n (cells_in is ns)
 items_by m n is ns false b p q e f = none_leads m n (cells_in is ns) (lacks_found m is ns p)
 items_by m n is ns true false p q e f = absurd cc
 items_by m n is ns true true p q e f = record { so = λ h. has_found n is ns q f }
 
-items_lead : (m n : ℕ) (is : List Item) (ns : List ℕ) → leads m n is ≡ true → Fits is ns → Leads m n (cells_in is ns)
+items_lead : (m n : ℕ) (is : List Item) (ns : List ℕ) → leads m n is ≡ true → FitsItems is ns → Leads m n (cells_in is ns)
 items_lead m n is ns e f = items_by m n is ns (has m is) (has n is) refl refl e f
 
 -- ---- headers
@@ -101,7 +101,7 @@ inner_lead m n t [] h = none_leads m n [] refl
 inner_lead m n t (x ∷ ts) h = both_lead m n (cells_in inner_tag x) (inner_cells ts) (items_lead m n inner_tag x t.in_inner h.0) (inner_lead m n t ts h.2)
 
 -- the outermost tag has the bits of the others
-outer_fits : (t : List ℕ) → Fits inner_tag t → Fits outer_tag t
+outer_fits : (t : List ℕ) → FitsItems inner_tag t → FitsItems outer_tag t
 outer_fits [] f = f
 outer_fits (a ∷ []) f = f
 outer_fits (a ∷ b ∷ []) f = f
@@ -113,16 +113,16 @@ tags_lead : (m n : ℕ) → AreTogether m n → (ts : List (List ℕ)) → AreTa
 tags_lead m n t [] h = none_leads m n [] refl
 tags_lead m n t (x ∷ ts) h = both_lead m n (cells_in outer_tag x) (inner_cells ts) (items_lead m n outer_tag x t.in_tag (outer_fits x h.0)) (inner_lead m n t ts h.2)
 
-carried_lead : (m n : ℕ) → AreTogether m n → (c : Carried) → Fits (items_of c.kind) c.numbers → Leads m n (carried_cells c)
+carried_lead : (m n : ℕ) → AreTogether m n → (c : Carried) → FitsItems (items_of c.kind) c.numbers → Leads m n (carried_cells c)
 carried_lead m n t c f = both_lead m n (cells_in (items_of c.kind) c.numbers) (byte_cells c.rest) (items_lead m n (items_of c.kind) c.numbers (t.in_transport c.kind) f) (bytes_lead m n c.rest)
 
-end_lead : (m n : ℕ) → AreTogether m n → (c : Carried) (rest : List ℕ) → Fits (items_of c.kind) c.numbers → Leads m n (carried_cells c ++ byte_cells rest)
+end_lead : (m n : ℕ) → AreTogether m n → (c : Carried) (rest : List ℕ) → FitsItems (items_of c.kind) c.numbers → Leads m n (carried_cells c ++ byte_cells rest)
 end_lead m n t c rest f = both_lead m n (carried_cells c) (byte_cells rest) (carried_lead m n t c f) (bytes_lead m n rest)
 
 -- extension headers, and the numbers of what they carry
 record AreInside (m n : ℕ) (es : List Extension) (c : Carried) : Type 0 where
   pub headers : Leads m n (extension_cells es)
-  pub carried : Fits (items_of c.kind) c.numbers
+  pub carried : FitsItems (items_of c.kind) c.numbers
 
 chain_lead : (m n : ℕ) → AreTogether m n → (kind : ℕ) (es : List Extension) (c : Carried) → AreExtensions kind es c → AreInside m n es c
 chain_lead m n t kind [] c h = record { headers = none_leads m n [] refl; carried = h.0.numbers }
@@ -216,9 +216,9 @@ together_by m n h =
     }
 
 -- each field that a field leads to
-all_together : (f : Field) → list_all (λ g. are_together (number_of f) (number_of g)) (leads_to f) ≡ true
+all_together : (f : Field) → list_all (λ g. are_together (number_of f) (number_of g)) (implied_fields f) ≡ true
 unfolding row_of
-all_together f = elim f as (λ f. list_all (λ g. are_together (number_of f) (number_of g)) (leads_to f) ≡ true) [ InPort ↦ refl | _ ↦ refl ]
+all_together f = elim f as (λ f. list_all (λ g. are_together (number_of f) (number_of g)) (implied_fields f) ≡ true) [ InPort ↦ refl | _ ↦ refl ]
 
 contained : (test : Field → Bool) (gs : List Field) (g : Field) (k : ℕ) → list_all test gs ≡ true → k < length gs → get_or gs k g ≡ g → test g ≡ true
 contained test [] g k all lt is = absurd (omega (arith, lt))
@@ -229,7 +229,7 @@ none_in : (g : Field) → Contains [] g → ⊥
 none_in g c = absurd (omega (arith, c.1))
 
 -- only fields of frames lead to others
-from_map : (l : Layers) (port metadata : ℕ) (f g : Field) → Contains (leads_to f) g → IsSome (field_map l port metadata f) → IsSome (look f (cells l))
+from_map : (l : Layers) (port metadata : ℕ) (f g : Field) → Contains (implied_fields f) g → IsSome (field_map l port metadata f) → IsSome (look f (cells l))
 from_map l port metadata InPort g c h = absurd (none_in g c)
 from_map l port metadata Metadata g c h = absurd (none_in g c)
 from_map l port metadata VlanVid g c h = absurd (none_in g c)
@@ -241,9 +241,9 @@ to_map l port metadata Metadata h = refl
 to_map l port metadata VlanVid h = refl
 to_map l port metadata g h = h
 
-pub go_together : (frame : List ℕ) (port metadata : ℕ) → AreBytes frame → 14 ≤ length frame → (f g : Field) → Contains (leads_to f) g → IsSome (field_map (layers_of frame) port metadata f) → IsSome (field_map (layers_of frame) port metadata g)
+pub go_together : (frame : List ℕ) (port metadata : ℕ) → AreBytes frame → 14 ≤ length frame → (f g : Field) → Contains (implied_fields f) g → IsSome (field_map (layers_of frame) port metadata f) → IsSome (field_map (layers_of frame) port metadata g)
 go_together frame port metadata bytes long f g c h =
     let l = layers_of frame in
-    let test = contained (λ g. are_together (number_of f) (number_of g)) (leads_to f) g c.0 (all_together f) c.1 c.2 in
+    let test = contained (λ g. are_together (number_of f) (number_of g)) (implied_fields f) g c.0 (all_together f) c.1 c.2 in
     let lead = layers_lead (number_of f) (number_of g) (together_by (number_of f) (number_of g) test) l (are_layers frame bytes long) in
     to_map l port metadata g (lead.so (from_map l port metadata f g c h))

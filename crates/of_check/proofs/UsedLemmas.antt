@@ -20,12 +20,12 @@ use Rattle.of_table.specs.Tables.{table_at}
 use Rattle.of_text.specs.Flows.{Flow as TextFlow}
 use Rattle.of_text.specs.Kept.{step_of}
 use Rattle.of_remarks.specs.Tables.{flows_at}
-use Rattle.of_remarks.specs.Actions.{is_clear, is_goto, is_used_later, may_send, some_writes_sending, writes_sending}
+use Rattle.of_remarks.specs.Actions.{is_clear, is_goto, is_used_later, may_send_packet, some_writes_sending, writes_sending}
 use Rattle.of_machine.specs.declared.data.Packet.{Packet}
 use Rattle.of_machine.specs.declared.data.Step.{Step}
 use Rattle.of_machine.specs.TheWorld.{TheWorld}
 use Rattle.of_machine.specs.Sound.{IsSound}
-use Rattle.of_machine.specs.Rows.{Work, Lookup, Do, RunSet, Act, Task, task, row, acts, works, fresh, key_of, lookup_row, entry_row, do_row, act_row, group_row, dec_ttl_row, copies, Emitted, emits, entering, set_out, table_row}
+use Rattle.of_machine.specs.Rows.{Work, Lookup, Do, RunSet, Act, Task, task, row, acts, works, fresh_packet, key_of, lookup_row, entry_row, do_row, act_row, group_action_row, dec_ttl_row, copies, Emitted, emits, entering, set_out, output_to_table_row}
 use Rattle.of_machine.specs.Runs.{Machine, step, first_step, after, starting}
 use Rattle.of_datapath.specs.Datapath.{Forwarding, world_of}
 use Rattle.of_datapath.specs.Loading.{configuration_of, table_text}
@@ -40,41 +40,41 @@ and_parts false b h = absurd cc
 -- ---- sets that send nothing
 
 abbrev Sends : List Action → Type 0
-Sends set = list_any may_send set ≡ true
+Sends set = list_any may_send_packet set ≡ true
 
-silent_filter : (keep : Action → Bool) (xs : List Action) → list_any may_send xs ≡ false → list_any may_send (filter keep xs) ≡ false
+silent_filter : (keep : Action → Bool) (xs : List Action) → list_any may_send_packet xs ≡ false → list_any may_send_packet (filter keep xs) ≡ false
 silent_filter keep [] h = refl
 silent_filter keep (x ∷ xs) h =
-    let parts = or_parts (may_send x) (list_any may_send xs) h in
+    let parts = or_parts (may_send_packet x) (list_any may_send_packet xs) h in
     by_test (keep x) parts.0 (silent_filter keep xs parts.1)
   where
-    by_test : (b : Bool) → may_send x ≡ false → list_any may_send (filter keep xs) ≡ false → list_any may_send (if b then x ∷ filter keep xs else filter keep xs) ≡ false
+    by_test : (b : Bool) → may_send_packet x ≡ false → list_any may_send_packet (filter keep xs) ≡ false → list_any may_send_packet (if b then x ∷ filter keep xs else filter keep xs) ≡ false
     by_test true k others = rw k others
     by_test false k others = others
 
-silent_both : (xs ys : List Action) → list_any may_send xs ≡ false → list_any may_send ys ≡ false → list_any may_send (xs ++ ys) ≡ false
+silent_both : (xs ys : List Action) → list_any may_send_packet xs ≡ false → list_any may_send_packet ys ≡ false → list_any may_send_packet (xs ++ ys) ≡ false
 silent_both [] ys h k = k
-silent_both (x ∷ xs) ys h k = let parts = or_parts (may_send x) (list_any may_send xs) h in rw parts.0 (silent_both xs ys parts.1 k)
+silent_both (x ∷ xs) ys h k = let parts = or_parts (may_send_packet x) (list_any may_send_packet xs) h in rw parts.0 (silent_both xs ys parts.1 k)
 
-silent_with : (set : List Action) (a : Action) → list_any may_send set ≡ false → may_send a ≡ false → list_any may_send (with_action set a) ≡ false
+silent_with : (set : List Action) (a : Action) → list_any may_send_packet set ≡ false → may_send_packet a ≡ false → list_any may_send_packet (with_action set a) ≡ false
 silent_with set a h k = silent_both (filter (λ b. nat_lt (rank b) (rank a)) set) (a ∷ filter (λ b. nat_lt (rank a) (rank b)) set) (silent_filter (λ b. nat_lt (rank b) (rank a)) set h) (rw k (silent_filter (λ b. nat_lt (rank a) (rank b)) set h))
 
-silent_written : (set l : List Action) → list_any may_send set ≡ false → list_any may_send l ≡ false → list_any may_send (with_actions set l) ≡ false
+silent_written : (set l : List Action) → list_any may_send_packet set ≡ false → list_any may_send_packet l ≡ false → list_any may_send_packet (with_actions set l) ≡ false
 silent_written set [] h k = h
-silent_written set (a ∷ l) h k = let parts = or_parts (may_send a) (list_any may_send l) k in silent_written (with_action set a) l (silent_with set a h parts.0) parts.1
+silent_written set (a ∷ l) h k = let parts = or_parts (may_send_packet a) (list_any may_send_packet l) k in silent_written (with_action set a) l (silent_with set a h parts.0) parts.1
 
-silent_order : (set : List Action) → list_any may_send set ≡ false → list_any may_send (in_order set) ≡ false
+silent_order : (set : List Action) → list_any may_send_packet set ≡ false → list_any may_send_packet (in_order set) ≡ false
 silent_order set h = by_test (list_any is_group set)
   where
-    by_test : (b : Bool) → list_any may_send (if b then filter (λ a. not (is_output a)) set else set) ≡ false
+    by_test : (b : Bool) → list_any may_send_packet (if b then filter (λ a. not (is_output a)) set else set) ≡ false
     by_test true = silent_filter (λ a. not (is_output a)) set h
     by_test false = h
 
 -- a set that sends after writing sent before, or what was written does
 written_sends : (P : Type 0) (set l : List Action) → (Sends set → P) → (Sends l → P) → Sends (with_actions set l) → P
-written_sends P set l a b h = by_tests (list_any may_send set) refl (list_any may_send l) refl
+written_sends P set l a b h = by_tests (list_any may_send_packet set) refl (list_any may_send_packet l) refl
   where
-    by_tests : (x : Bool) → list_any may_send set ≡ x → (y : Bool) → list_any may_send l ≡ y → P
+    by_tests : (x : Bool) → list_any may_send_packet set ≡ x → (y : Bool) → list_any may_send_packet l ≡ y → P
     by_tests true e y k = a e
     by_tests false e true k = b k
     by_tests false e false k = let none = silent_written set l e k in absurd cc
@@ -250,7 +250,7 @@ writes_in P (Apply l ∷ is) h ts t on = (tt, writes_in P is h ts t on)
 writes_in P (Clear ∷ is) h ts t on = (tt, writes_in P is h ts t on)
 writes_in P (Write l ∷ is) h ts t on = (
   λ s. on (h (rw s refl)),
-  writes_in P is (λ k. h (or_right (list_any may_send l) (list_any writes_sending (map step_of is)) k)) ts t on,
+  writes_in P is (λ k. h (or_right (list_any may_send_packet l) (list_any writes_sending (map step_of is)) k)) ts t on,
 )
 writes_in P (Metadata value mask ∷ is) h ts t on = (tt, writes_in P is h ts t on)
 writes_in P (Goto u ∷ is) h ts t on = (tt, writes_in P is h ts t on)
@@ -302,14 +302,14 @@ do_tied ts p rest (Goto u) h = (record { next = (h.next, refl); early = tt; kept
 
 -- a packet whose set is empty and that begins at the first table
 anew : (ts : List (List TextFlow)) (p : Packet) → p.action_set ≡ [] → IsTied ts p (Lookup 0 ∷ [])
-anew ts p e = record { next = ((λ s. let none : list_any may_send p.action_set ≡ false = ap (λ (x : List Action). list_any may_send x) e in absurd cc), refl); early = tt; kept = tt }
+anew ts p e = record { next = ((λ s. let none : list_any may_send_packet p.action_set ≡ false = ap (λ (x : List Action). list_any may_send_packet x) e in absurd cc), refl); early = tt; kept = tt }
 
 -- the rest of the work, where the set and the table stay
 goes : (ts : List (List TextFlow)) (p : Packet) (rest : List Work) (a : Action) → IsTied ts p (Act a ∷ rest) → IsTied ts p rest
 goes ts p rest a h = record { next = h.next; early = pending_early ts p.action_set p.table rest h.early; kept = h.kept }
 
-output_tied : (ts : List (List TextFlow)) (p : Packet) (rest : List Work) (a : Action) (line : Step) (e : Emitted) (b : Bool) → IsTied ts p (Act a ∷ rest) → AllTied ts (if b then table_row p rest a else emits line e (task p rest ∷ [])).left
-output_tied ts p rest a line e true h = (anew ts (fresh p) refl, (goes ts p rest a h, tt))
+output_tied : (ts : List (List TextFlow)) (p : Packet) (rest : List Work) (a : Action) (line : Step) (e : Emitted) (b : Bool) → IsTied ts p (Act a ∷ rest) → AllTied ts (if b then output_to_table_row p rest a else emits line e (task p rest ∷ [])).left
+output_tied ts p rest a line e true h = (anew ts (fresh_packet p) refl, (goes ts p rest a h, tt))
 output_tied ts p rest a line e false h = (goes ts p rest a h, tt)
 
 tied_both : (ts : List (List TextFlow)) (xs ys : List Task) → AllTied ts xs → AllTied ts ys → AllTied ts (xs ++ ys)
@@ -320,7 +320,7 @@ copies_tied : (ts : List (List TextFlow)) (w : TheWorld) (g : ℕ) (p : Packet) 
 copies_tied ts w g p [] = tt
 copies_tied ts w g p (x ∷ xs) = (record { next = refl; early = tt; kept = tt }, copies_tied ts w g p xs)
 
-group_tied : (ts : List (List TextFlow)) (w : TheWorld) (p : Packet) (rest : List Work) (g : ℕ) (o : Option (List ℕ)) → IsTied ts p (Act (Group g) ∷ rest) → AllTied ts (group_row w p rest g o).left
+group_tied : (ts : List (List TextFlow)) (w : TheWorld) (p : Packet) (rest : List Work) (g : ℕ) (o : Option (List ℕ)) → IsTied ts p (Act (Group g) ∷ rest) → AllTied ts (group_action_row w p rest g o).left
 group_tied ts w p rest g None h = (goes ts p rest (Group g) h, tt)
 group_tied ts w p rest g (Some places) h = tied_both ts (copies w g p places) (task p rest ∷ []) (copies_tied ts w g p places) (goes ts p rest (Group g) h, tt)
 
@@ -401,7 +401,7 @@ no_apply ts set t (Metadata value mask ∷ is) h k = late_no_apply is k.0 k.1
 no_apply ts set t (Goto u ∷ is) h k = tt
 
 ends : (w : TheWorld) (m : Machine) (p : Packet) (is : List Instruction) (others : List Task) → NoApply is → list_any is_goto (map step_of is) ≡ false → list_any writes_sending (map step_of is) ≡ false
-    → (list_any may_send p.action_set ≡ false) ⊎ (list_any is_clear (map step_of is) ≡ true) → m.tasks ≡ task p (works is) ∷ others → Quietly w m others
+    → (list_any may_send_packet p.action_set ≡ false) ⊎ (list_any is_clear (map step_of is) ≡ true) → m.tasks ≡ task p (works is) ∷ others → Quietly w m others
 ends w m p [] others n g s (inl silent) e = set_ended w m p others (silent_order p.action_set silent) e
 ends w m p [] others n g s (inr clears) e = absurd cc
 ends w m p (Apply l ∷ is) others n g s c e = absurd n
@@ -410,10 +410,10 @@ ends w m p (Clear ∷ is) others n g s c e =
     onward w m _ _ first (ends w (after w first.steps m) (record p { action_set = [] }) is others n g s (inl refl) first.tasks_are)
 ends w m p (Write l ∷ is) others n g s c e =
     let first = one_step w m p (Do (Write l) ∷ works is) others (row w p (Do (Write l) ∷ works is)) e refl refl refl in
-    let parts = or_parts (list_any may_send l) (list_any writes_sending (map step_of is)) s in
+    let parts = or_parts (list_any may_send_packet l) (list_any writes_sending (map step_of is)) s in
     onward w m _ _ first (ends w (after w first.steps m) (record p { action_set = with_actions p.action_set l }) is others n g parts.1 (written c parts.0) first.tasks_are)
   where
-    written : (list_any may_send p.action_set ≡ false) ⊎ (list_any is_clear (map step_of is) ≡ true) → list_any may_send l ≡ false → (list_any may_send (with_actions p.action_set l) ≡ false) ⊎ (list_any is_clear (map step_of is) ≡ true)
+    written : (list_any may_send_packet p.action_set ≡ false) ⊎ (list_any is_clear (map step_of is) ≡ true) → list_any may_send_packet l ≡ false → (list_any may_send_packet (with_actions p.action_set l) ≡ false) ⊎ (list_any is_clear (map step_of is) ≡ true)
     written (inl silent) k = inl (silent_written p.action_set l silent k)
     written (inr clears) k = inr clears
 ends w m p (Metadata value mask ∷ is) others n g s c e =
@@ -427,7 +427,7 @@ set_is false below false h b = inl refl
 set_is false below true h b = let yes : below ≡ true = b refl in absurd cc
 
 pub unseen_later : (f : Forwarding) → IsSound (world_of f) → (frame : List ℕ) (port k : ℕ) (q : Packet) (a : Action) (l : List Action) (is : List Instruction) (others : List Task)
-    → (after (world_of f) k (starting (entering frame port) (Lookup 0 ∷ []))).tasks ≡ task q (Act a ∷ acts l ++ works is) ∷ others → may_send a ≡ false → list_any may_send l ≡ false
+    → (after (world_of f) k (starting (entering frame port) (Lookup 0 ∷ []))).tasks ≡ task q (Act a ∷ acts l ++ works is) ∷ others → may_send_packet a ≡ false → list_any may_send_packet l ≡ false
     → is_used_later (configuration_of f).tables q.table (map step_of is) ≡ false → Quietly (world_of f) (after (world_of f) k (starting (entering frame port) (Lookup 0 ∷ []))) others
 unseen_later f sound frame port k q a l is others e first later unused =
     let ts = (configuration_of f).tables in
@@ -439,8 +439,8 @@ unseen_later f sound frame port k q a l is others e first later unused =
     let none = no_apply ts q.action_set q.table is pending (acts_kept l (works is) mine.0.kept) in
     let one = or_parts (list_any is_goto (map step_of is) || list_any writes_sending (map step_of is)) (not (list_any is_clear (map step_of is)) && list_any some_writes_sending (take q.table ts)) unused in
     let two = or_parts (list_any is_goto (map step_of is)) (list_any writes_sending (map step_of is)) one.0 in
-    let set = set_is (list_any is_clear (map step_of is)) (list_any some_writes_sending (take q.table ts)) (list_any may_send q.action_set) one.1 (works_pending ts q.action_set q.table is pending) in
-    let silent : list_any may_send (a ∷ l) ≡ false = rw first later in
+    let set = set_is (list_any is_clear (map step_of is)) (list_any some_writes_sending (take q.table ts)) (list_any may_send_packet q.action_set) one.1 (works_pending ts q.action_set q.table is pending) in
+    let silent : list_any may_send_packet (a ∷ l) ≡ false = rw first later in
     let done = acts_done w (a ∷ l) q (works is) others m silent e in
-    let same : (list_any may_send done.packet.action_set ≡ false) ⊎ (list_any is_clear (map step_of is) ≡ true) = subst (λ (x : List Action). (list_any may_send x ≡ false) ⊎ (list_any is_clear (map step_of is) ≡ true)) (sym done.same_set) set in
+    let same : (list_any may_send_packet done.packet.action_set ≡ false) ⊎ (list_any is_clear (map step_of is) ≡ true) = subst (λ (x : List Action). (list_any may_send_packet x ≡ false) ⊎ (list_any is_clear (map step_of is) ≡ true)) (sym done.same_set) set in
     onward w m _ _ done.comes (ends w (after w done.comes.steps m) done.packet is others none two.0 two.1 same done.comes.tasks_are)

@@ -6,7 +6,7 @@ use Rattle.of_layers.specs.declared.field.Field.{Field}
 use Rattle.of_oxm.specs.Relations.{matches_map}
 use Rattle.of_classifier.specs.declared.Row.{Row}
 use Rattle.of_classifier.specs.Rows.{made_row}
-use Rattle.of_classifier.specs.Winner.{winner_of, number_of, Wins}
+use Rattle.of_classifier.specs.Winner.{winner_of, winner_number, Wins}
 use Rattle.of_classifier.proofs.WinnerLaw.{wins_both}
 use Rattle.of_table.specs.Table.{FlowEntry, rows_from, winner_place}
 use Rattle.of_check.specs.Verdicts.{Packet, IsPacket, Matches, NeverWins, GoesBefore, fields_of}
@@ -61,7 +61,7 @@ none_before flows map k place r w number j b e at m =
           absurd (omega (arith, older.1, first, place_is))
     ]
 
-won_by : (flows : List FlowEntry) (map : Field → Option ℕ) (k : ℕ) (found : Option Row) → winner_of (rows_from 0 flows) map ≡ found → number_of found ≡ Some k
+won_by : (flows : List FlowEntry) (map : Field → Option ℕ) (k : ℕ) (found : Option Row) → winner_of (rows_from 0 flows) map ≡ found → winner_number found ≡ Some k
     → (j : ℕ) → GoesBefore flows j k → (e : FlowEntry) → slice_get flows j ≡ Some e → matches_map e.flow.fields map ≡ true → ⊥
 won_by flows map k None is number j b e at m = absurd cc
 won_by flows map k (Some r) is number j b e at m =
@@ -76,14 +76,14 @@ winner_matches flows p k place r w number =
     let own = entry_at 0 flows place r w.stands in
     record { entry = own.entry; there = ap (slice_get flows) (sym place_is) ∙ own.there; matches = ap (λ m. matches_map m (fields_of p)) (sym own.fields) ∙ w.matches }
 
-won_matches : (flows : List FlowEntry) (p : Packet) (k : ℕ) (found : Option Row) → winner_of (rows_from 0 flows) (fields_of p) ≡ found → number_of found ≡ Some k → Matches flows k p
+won_matches : (flows : List FlowEntry) (p : Packet) (k : ℕ) (found : Option Row) → winner_of (rows_from 0 flows) (fields_of p) ≡ found → winner_number found ≡ Some k → Matches flows k p
 won_matches flows p k None is number = absurd cc
 won_matches flows p k (Some r) is number =
     let wins = (wins_both (rows_from 0 flows) (fields_of p) r).0 is in
     winner_matches flows p k wins.0 r wins.1 (let s : r.number ≡ k = cc in s)
 
 -- it stands at its place, and matches
-pub winner_agrees : (flows : List FlowEntry) (map : Field → Option ℕ) (k : ℕ) (found : Option Row) → winner_of (rows_from 0 flows) map ≡ found → number_of found ≡ Some k
+pub winner_agrees : (flows : List FlowEntry) (map : Field → Option ℕ) (k : ℕ) (found : Option Row) → winner_of (rows_from 0 flows) map ≡ found → winner_number found ≡ Some k
     → (e : FlowEntry) × (slice_get flows k ≡ Some e) × (matches_map e.flow.fields map ≡ true)
 winner_agrees flows map k None is number = absurd cc
 winner_agrees flows map k (Some r) is number =
@@ -108,7 +108,7 @@ pub wins_alone : (flows : List FlowEntry) (map : Field → Option ℕ) (k : ℕ)
 wins_alone flows map k e there m none =
     let r : Row = row_of (0 + k) e in
     let wins : Wins (rows_from 0 flows) map k r = record { stands = row_at 0 flows k e there; matches = m; highest = highest; oldest = oldest } in
-    ap number_of ((wins_both (rows_from 0 flows) map r).1 (k, wins)) ∙ ap Some (omega arith)
+    ap winner_number ((wins_both (rows_from 0 flows) map r).1 (k, wins)) ∙ ap Some (omega arith)
   where
     no_other : (j : ℕ) (s : Row) → slice_get (rows_from 0 flows) j ≡ Some s → matches_map s.fields map ≡ true → ((e.flow.priority < s.priority) ⊎ ((s.priority ≡ e.flow.priority) × (j < k))) → ⊥
     no_other j s at is before =

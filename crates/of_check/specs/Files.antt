@@ -16,13 +16,13 @@ abbrev pub tables_in : Configuration → Tables
 tables_in config = loaded_tables 0 config.tables
 
 -- whether something was found, where that is said: where all was written
-abbrev pub IsFound : Result Bool Ended → Bool → Type 0
-IsFound (Ok found) is = found ≡ is
-IsFound (Err ended) is = ended ≢ Done
+abbrev pub IsFindingResult : Result Bool Ended → Bool → Type 0
+IsFindingResult (Ok found) is = found ≡ is
+IsFindingResult (Err ended) is = ended ≢ Done
 
 -- the text of the findings on these tables, after so many steps at most for each entry, and of the remarks on this configuration
 abbrev pub IsFindings : Result Bool Ended → ℕ → Tables → Configuration → List ℕ → Type 0
-IsFindings result steps ts c text = (findings : List Finding) × Checks ts steps findings × (text ≡ all_text findings (remarks_on c)) × IsFound result (some_found findings (remarks_on c))
+IsFindings result steps ts c text = (findings : List Finding) × Checks ts steps findings × (text ≡ all_text findings (remarks_on c)) × IsFindingResult result (some_found findings (remarks_on c))
 
 -- of a configuration, and of a switch
 abbrev pub findings_in : Result Bool Ended → ℕ → Configuration → List ℕ → Type 0

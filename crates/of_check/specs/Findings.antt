@@ -3,11 +3,11 @@ use Rattle.std.specs.Prelude.{◌≡◌, ℕ, zero, suc, List, [], ◌∷◌, �
 use Rattle.std.specs.List.{Contains}
 use Rattle.of_table.specs.Tables.{Tables, table_at}
 use Rattle.of_check.specs.declared.finding.Finding.{Finding}
-use Rattle.of_check.specs.Verdicts.{Holds}
+use Rattle.of_check.specs.Verdicts.{VerdictHolds}
 
 -- an entry is named by its table, and its place there by age
-abbrev pub entry_of : Finding → ℕ × ℕ
-entry_of f = (f.table, f.place)
+abbrev pub found_entry : Finding → ℕ × ℕ
+found_entry f = (f.table, f.place)
 
 -- the first n entries of a table
 abbrev pub first_entries : ℕ → ℕ → List (ℕ × ℕ)
@@ -21,8 +21,8 @@ entries_below (suc k) ts = entries_below k ts ++ first_entries k (length (table_
 
 -- one verdict on each of these entries, in their order, after so many steps at most, and each holds
 pub record AreFindings (entries : List (ℕ × ℕ)) (ts : Tables) (steps : ℕ) (findings : List Finding) : Type 0 where
-  pub each : map entry_of findings ≡ entries
-  pub hold : (f : Finding) → Contains findings f → Holds (table_at f.table ts).flows f.place steps f.verdict
+  pub each : map found_entry findings ≡ entries
+  pub hold : (f : Finding) → Contains findings f → VerdictHolds (table_at f.table ts).flows f.place steps f.verdict
 
 -- the sixteen tables
 abbrev pub Checks : Tables → ℕ → List Finding → Type 0

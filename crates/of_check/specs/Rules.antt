@@ -14,25 +14,25 @@ abbrev pub of_ipv6 : List Field
 of_ipv6 = IpDscp ∷ IpEcn ∷ Ipv6Src ∷ Ipv6Dst ∷ Ipv6Flabel ∷ []
 
 -- a frame that has the field has these too
-abbrev pub leads_to : Field → List Field
-leads_to ArpOp = of_arp
-leads_to ArpSpa = of_arp
-leads_to ArpTpa = of_arp
-leads_to ArpSha = of_arp
-leads_to ArpTha = of_arp
-leads_to IpDscp = IpEcn ∷ []
-leads_to IpEcn = IpDscp ∷ []
-leads_to Ipv4Src = of_ipv4
-leads_to Ipv4Dst = of_ipv4
-leads_to Ipv6Src = of_ipv6
-leads_to Ipv6Dst = of_ipv6
-leads_to Ipv6Flabel = of_ipv6
-leads_to TcpSrc = TcpDst ∷ []
-leads_to TcpDst = TcpSrc ∷ []
-leads_to UdpSrc = UdpDst ∷ []
-leads_to UdpDst = UdpSrc ∷ []
-leads_to Icmpv4Type = Icmpv4Code ∷ []
-leads_to Icmpv4Code = Icmpv4Type ∷ []
-leads_to Icmpv6Type = Icmpv6Code ∷ []
-leads_to Icmpv6Code = Icmpv6Type ∷ []
-leads_to other = []
+abbrev pub implied_fields : Field → List Field
+implied_fields ArpOp = of_arp
+implied_fields ArpSpa = of_arp
+implied_fields ArpTpa = of_arp
+implied_fields ArpSha = of_arp
+implied_fields ArpTha = of_arp
+implied_fields IpDscp = IpEcn ∷ []
+implied_fields IpEcn = IpDscp ∷ []
+implied_fields Ipv4Src = of_ipv4
+implied_fields Ipv4Dst = of_ipv4
+implied_fields Ipv6Src = of_ipv6
+implied_fields Ipv6Dst = of_ipv6
+implied_fields Ipv6Flabel = of_ipv6
+implied_fields TcpSrc = TcpDst ∷ []
+implied_fields TcpDst = TcpSrc ∷ []
+implied_fields UdpSrc = UdpDst ∷ []
+implied_fields UdpDst = UdpSrc ∷ []
+implied_fields Icmpv4Type = Icmpv4Code ∷ []
+implied_fields Icmpv4Code = Icmpv4Type ∷ []
+implied_fields Icmpv6Type = Icmpv6Code ∷ []
+implied_fields Icmpv6Code = Icmpv6Type ∷ []
+implied_fields other = []

@@ -11,7 +11,7 @@ use Rattle.of_regions.specs.declared.rival.Rival.{Rival}
 use Rattle.of_regions.specs.Conditions.{AreConditions}
 use Rattle.of_regions.specs.Naming.{AreAscending}
 use Rattle.of_regions.specs.Searching.{IsStart, IsUndecided, IsUnreceived}
-use Rattle.of_regions.specs.Witness.{IsIngress}
+use Rattle.of_regions.specs.Witness.{IsIngressPort}
 use Rattle.of_table.specs.Table.{FlowEntry, winner_place}
 use Rattle.of_check.specs.declared.verdict.Verdict.{Verdict}
 use Rattle.of_check.specs.declared.verdict.Verdict.TheVariants.{Wins, Never, Open}
@@ -61,7 +61,7 @@ pub record GoesBefore (flows : List FlowEntry) (j k : ℕ) : Type 0 where
 pub record WinsWith (flows : List FlowEntry) (k : ℕ) (p : Packet) : Type 0 where
   pub packet : IsPacket p
   pub short : length p.frame ≤ 9216
-  pub ingress : IsIngress p.in_port
+  pub ingress : IsIngressPort p.in_port
   pub wins : winner_place (fields_of p) flows ≡ Some k
 
 -- each of these entries goes before this one, and each packet that this one matches is matched by one of them; they are named by age, each once
@@ -103,7 +103,7 @@ pub record IsOpen (flows : List FlowEntry) (k steps : ℕ) : Type 0 where
   pub undecided : ((r : Region) × IsUnreceived start rivals r) ⊎ IsUndecided start rivals steps
 
 -- a verdict on the entry at k after so many steps at most; `Open` says that no one entry covers it, and that there is no such entry, or why it is not decided
-abbrev pub Holds : List FlowEntry → ℕ → ℕ → Verdict → Type 0
-Holds flows k steps (Wins frame in_port metadata) = WinsWith flows k (record { frame = frame.items; in_port = in_port; metadata = metadata })
-Holds flows k steps (Never by tie) = NeverWins flows k by.items × (tie ≡ is_tie flows k by.items)
-Holds flows k steps Open = ((j : ℕ) → ¬ (Covers flows j k)) × ((slice_get flows k ≡ None) ⊎ IsOpen flows k steps)
+abbrev pub VerdictHolds : List FlowEntry → ℕ → ℕ → Verdict → Type 0
+VerdictHolds flows k steps (Wins frame in_port metadata) = WinsWith flows k (record { frame = frame.items; in_port = in_port; metadata = metadata })
+VerdictHolds flows k steps (Never by tie) = NeverWins flows k by.items × (tie ≡ is_tie flows k by.items)
+VerdictHolds flows k steps Open = ((j : ℕ) → ¬ (Covers flows j k)) × ((slice_get flows k ≡ None) ⊎ IsOpen flows k steps)

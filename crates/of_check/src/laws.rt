@@ -16,7 +16,7 @@ ghost use Rattle.of_actions.specs.declared.instruction.Instruction.{Instruction}
 ghost use Rattle.of_text.specs.Kept.{step_of};
 ghost use Rattle.of_text.specs.Configs.{IsConfig};
 ghost use Rattle.of_remarks.specs.Tables.{IsReached, is_reached};
-ghost use Rattle.of_remarks.specs.Actions.{is_used_later, may_send, required_port};
+ghost use Rattle.of_remarks.specs.Actions.{is_used_later, may_send_packet, required_port};
 ghost use Rattle.of_machine.specs.declared.data.Packet.{Packet as PacketInRun};
 ghost use Rattle.of_machine.specs.Rows.{Act, Lookup as LookUp, RunSet, Task, Work, acts, entering, key_of, task, works};
 ghost use Rattle.of_machine.specs.Sound.{IsSound};
@@ -30,7 +30,7 @@ ghost use Rattle.of_replay.specs.FileRuns.{Runs, TextOf, event_file, flow_text};
 ghost use Rattle.of_replay.specs.declared.event_file.Ended.TheVariants.{Done};
 ghost use Rattle.of_check.specs.Files.{findings_in, findings_on};
 ghost use Rattle.of_check.specs.Reached.{AtTables};
-ghost use Rattle.of_check.specs.Rules.{leads_to};
+ghost use Rattle.of_check.specs.Rules.{implied_fields};
 ghost use Rattle.of_check.specs.Unseen.{ComesUnseen};
 ghost use Rattle.of_check.specs.Verdicts.{IsPacket, NeverWins, Packet, fields_of};
 
@@ -42,7 +42,7 @@ pub fn never_is_never()
 
 /// A frame that has a field has those that stand with it in a header (OpenFlow 1.3.5, 7.2.3.7).
 pub fn fields_go_together()
-    ensures { (frame : List ℕ) (in_port metadata : ℕ) → AreBytes frame → 14 ≤ length frame → (f g : Field) → Contains (leads_to f) g →
+    ensures { (frame : List ℕ) (in_port metadata : ℕ) → AreBytes frame → 14 ≤ length frame → (f g : Field) → Contains (implied_fields f) g →
         IsSome (field_map (layers_of frame) in_port metadata f) → IsSome (field_map (layers_of frame) in_port metadata g) }
 {}
 
@@ -78,12 +78,13 @@ pub fn nothing_leaves_by_the_ingress_port()
 /// and nothing is emitted or counted, whatever they made of the frame (OpenFlow 1.3.5, 5.10 and 5.12). So it is in the run of a frame that is
 /// received, where the actions are those of an entry of which `check` remarks that its last actions are unseen: nothing uses the packet later.
 pub fn last_actions_are_unseen()
-    ensures silent { (w : TheWorld) (m : Machine) (p : PacketInRun) (actions : List Action) (others : List Task) → list_any may_send actions ≡ false →
-        list_any may_send (in_order p.action_set) ≡ false → m.tasks ≡ task p (acts actions ++ RunSet ∷ []) ∷ others → ComesUnseen w m others }
+    ensures silent { (w : TheWorld) (m : Machine) (p : PacketInRun) (actions : List Action) (others : List Task) → list_any may_send_packet actions ≡ false →
+        list_any may_send_packet (in_order p.action_set) ≡ false → m.tasks ≡ task p (acts actions ++ RunSet ∷ []) ∷ others → ComesUnseen w m others }
     ensures remarked { (f : Forwarding) → IsSound (world_of f) → (frame : List ℕ) (port k : ℕ) (q : PacketInRun) (first : Action) (actions : List Action)
         (later : List Instruction) (others : List Task) →
         (after (world_of f) k (starting (entering frame port) (LookUp 0 ∷ []))).tasks ≡ task q (Act first ∷ acts actions ++ works later) ∷ others →
-        may_send first ≡ false → list_any may_send actions ≡ false → is_used_later (configuration_of f).tables q.table (map step_of later) ≡ false →
+        may_send_packet first ≡ false → list_any may_send_packet actions ≡ false →
+        is_used_later (configuration_of f).tables q.table (map step_of later) ≡ false →
         ComesUnseen (world_of f) (after (world_of f) k (starting (entering frame port) (LookUp 0 ∷ []))) others }
 {}
 

@@ -2,7 +2,7 @@
 ghost use Rattle.std.specs.Prelude.{◌≡◌, ◌<◌, ℕ, Some, IfOk, slice_get};
 ghost use Rattle.of_table.specs.Entries.{entry_of};
 ghost use Rattle.of_table.specs.Tables.{table_at};
-ghost use Rattle.of_check.specs.Verdicts.{Covers, Holds};
+ghost use Rattle.of_check.specs.Verdicts.{Covers, VerdictHolds};
 
 use crate::rivals::{first_cover, rivals_of};
 use crate::ties::is_tied;
@@ -26,7 +26,7 @@ fn covered_by<L: Lookup>(
     requires table { table < 16 }
     requires there { slice_get (table_at table switch.now.core.forwarding.tables).flows place ≡ Some (entry_of own.now) }
     requires covers { Covers (table_at table switch.now.core.forwarding.tables).flows at place }
-    ensures { (steps : ℕ) → IfOk result (Holds (table_at table switch.now.core.forwarding.tables).flows place steps) }
+    ensures { (steps : ℕ) → IfOk result (VerdictHolds (table_at table switch.now.core.forwarding.tables).flows place steps) }
 {
     covered_is_matched();
     let mut by = Vec::new(alloc);
@@ -47,7 +47,7 @@ fn searched<L: Lookup>(
     requires table { table < 16 }
     requires there { slice_get (table_at table switch.now.core.forwarding.tables).flows place ≡ Some (entry_of own.now) }
     requires uncovered { (j : ℕ) → ¬ (Covers (table_at table switch.now.core.forwarding.tables).flows j place) }
-    ensures { IfOk result (Holds (table_at table switch.now.core.forwarding.tables).flows place steps) }
+    ensures { IfOk result (VerdictHolds (table_at table switch.now.core.forwarding.tables).flows place steps) }
 {
     overlap_is_common_match();
     let rivals = rivals_of(alloc, switch, table, place, own)?;
@@ -83,7 +83,7 @@ pub fn check_entry<L: Lookup>(
     steps: usize,
 ) -> Result<Verdict, AllocError>
     requires { table < 16 }
-    ensures { IfOk result (Holds (table_at table switch.now.core.forwarding.tables).flows place steps) }
+    ensures { IfOk result (VerdictHolds (table_at table switch.now.core.forwarding.tables).flows place steps) }
 {
     let Some(own) = switch.datapath().entry(table, place) else {
         return Ok(Verdict::Open);

@@ -19,9 +19,9 @@ abbrev pub winner_of : List Row → (Field → Option ℕ) → Option Row
 winner_of rows key = oldest_highest row_priority (matching rows key)
 
 -- its number
-abbrev pub number_of : Option Row → Option ℕ
-number_of None = None
-number_of (Some r) = Some r.number
+abbrev pub winner_number : Option Row → Option ℕ
+winner_number None = None
+winner_number (Some r) = Some r.number
 
 -- The entry is at this place and matches, no matching entry has a higher priority, and none of its priority comes before it.
 pub record Wins (rows : List Row) (key : Field → Option ℕ) (place : ℕ) (r : Row) : Type 0 where

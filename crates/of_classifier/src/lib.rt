@@ -11,7 +11,7 @@ ghost use Rattle.of_wire.specs.Numbered.{is_used, is_distinct, without, moved_to
 ghost use Rattle.of_classifier.specs.declared.Row.{Row};
 ghost use Rattle.of_oxm.specs.Masks.{mask_at, Agree};
 ghost use Rattle.of_classifier.specs.Rows.{made_row, row_number, same_of, priority_of};
-ghost use Rattle.of_classifier.specs.Winner.{winner_of, number_of};
+ghost use Rattle.of_classifier.specs.Winner.{winner_of, winner_number};
 
 pub use laws::one_winner;
 use of_headers::FieldKey;
@@ -44,17 +44,17 @@ pub trait Lookup: Sized + Drop {
 
     /// The number of the entry that wins. It may rearrange what helps to find it.
     fn winner(&mut self, key: &FieldKey) -> Option<usize>
-        ensures answer { result ≡ number_of (winner_of (content self.old) (value key.now)) }
+        ensures answer { result ≡ winner_number (winner_of (content self.old) (value key.now)) }
         ensures kept { content self.new ≡ content self.old };
 
     /// The number of the entry that wins.
     fn peek(&self, key: &FieldKey) -> Option<usize>
-        ensures { result ≡ number_of (winner_of (content self.now) (value key.now)) };
+        ensures { result ≡ winner_number (winner_of (content self.now) (value key.now)) };
 
     /// The number of the entry that wins, and the bits on which that depends: it wins for whatever
     /// agrees with the key in them.
     fn region(&self, key: &FieldKey) -> (Option<usize>, FieldMask)
-        ensures answer { result.0 ≡ number_of (winner_of (content self.now) (value key.now)) }
+        ensures answer { result.0 ≡ winner_number (winner_of (content self.now) (value key.now)) }
         ensures alike { (map : Field → Option ℕ) → Agree (mask_at result.1) map (value key.now) →
             winner_of (content self.now) map ≡ winner_of (content self.now) (value key.now) }
         ensures mask { (f : Field) → mask_at result.1 f ≡ looked (content self.now) (value key.now) f };
@@ -76,7 +76,7 @@ pub trait Lookup: Sized + Drop {
 
     /// The number of the oldest entry of that match and priority.
     fn same(&self, fields: &Match, priority: u16) -> Option<usize>
-        ensures { result ≡ number_of (same_of (content self.now) fields.now priority) };
+        ensures { result ≡ winner_number (same_of (content self.now) fields.now priority) };
 
     /// Makes the entry of that number the youngest.
     fn renew(&mut self, number: usize)

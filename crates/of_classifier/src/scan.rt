@@ -6,7 +6,7 @@ ghost use Rattle.of_oxm.specs.Masks.{mask_at, Agree};
 ghost use Rattle.of_wire.specs.Numbered.{is_used, is_distinct, without, moved_to_end};
 ghost use Rattle.of_classifier.specs.declared.Row.{Row};
 ghost use Rattle.of_classifier.specs.Rows.{row_number, is_same_row};
-ghost use Rattle.of_classifier.specs.Winner.{matching, winner_of, number_of};
+ghost use Rattle.of_classifier.specs.Winner.{matching, winner_of, winner_number};
 ghost use Rattle.of_classifier.specs.Scanning.{better_of};
 ghost use Rattle.of_classifier.specs.Looking.{looked_by};
 
@@ -103,7 +103,7 @@ impl Lookup for Scan {
 
 // The number of the winner.
 fn best_of(rows: &[Row], key: &FieldKey) -> Option<usize>
-    ensures { result ≡ number_of (winner_of rows.now (value key.now)) }
+    ensures { result ≡ winner_number (winner_of rows.now (value key.now)) }
 {
     let mut best: Option<(usize, u16)> = None;
     for row in rows {

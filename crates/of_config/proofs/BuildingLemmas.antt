@@ -16,7 +16,7 @@ use Rattle.of_lines.specs.declared.row.Row.TheVariants as rows
 use Rattle.of_text.specs.Flows.{Flow, text_rows}
 use Rattle.of_text.specs.Groups.{TextBucket, TextGroup, bucket_rows, group_rows, rows_of_groups}
 use Rattle.of_text.specs.Kept.{in_text}
-use Rattle.of_text.specs.Order.{start, following, standing}
+use Rattle.of_text.specs.Order.{start_place, following, following_all}
 use Rattle.of_text.specs.Rows.{Fits}
 use Rattle.of_text.specs.Texts.{AreRows}
 use Rattle.of_text.specs.Views.{view, view_group, view_groups, view_flows}
@@ -25,12 +25,12 @@ use Rattle.of_text.proofs.KeptLemmas.{flows_fit, flows_stand}
 use Rattle.of_text.proofs.ConfigLemmas.{IsWhole, each_whole, rows_from}
 use Rattle.of_wire.specs.declared.code.Code.{Code}
 use Rattle.of_text.specs.First.{first_refusal}
-use Rattle.of_text.specs.Configs.{Configuration, tables_of}
+use Rattle.of_text.specs.Configs.{Configuration, tables_of_flows}
 use Rattle.of_config.specs.declared.fault.ConfigFault.{ConfigFault}
 use Rattle.of_config.specs.declared.fault.ConfigFault.TheVariants.{NotACommand, Refused}
 use Rattle.of_config.specs.declared.building.Listed.{Listed as InMemory}
-use Rattle.of_config.specs.Built.{Said, IsGroup, Listed, config_listed, earlier, listed, listed_by, nothing_listed, said, with_fault, with_flow, with_group}
-use Rattle.of_config.specs.BuiltViews.{StandsInText, IsSoundListed, joined, or_later}
+use Rattle.of_config.specs.Built.{Said, IsGroup, Listed, config_listed, earlier, listed_messages, listed_by, nothing_listed, message_said, with_fault, with_listed_flow, with_listed_group}
+use Rattle.of_config.specs.BuiltViews.{StandsInText, IsSoundListed, joined_with_later, or_later}
 
 and_parts : (a b : Bool) → (a && b) ≡ true → (a ≡ true) × (b ≡ true)
 and_parts true b h = (refl, h)
@@ -48,13 +48,13 @@ IsIn id (InFlow least) = ⊥
 -- lines that lead to a place in it
 record Leads (id : ℕ) (from : Place) (lines : List Row) : Type 0 where
   pub to : Place
-  pub is : standing from lines ≡ Some to
+  pub is : following_all from lines ≡ Some to
   pub within : IsIn id to
 
 leads_both : (id : ℕ) (from : Place) (front back : List Row) → (a : Leads id from front) → Leads id a.to back → Leads id from (front ++ back)
 leads_both id from front back a b = record { to = b.to; is = standing_both from front back ∙ rw a.is b.is; within = b.within }
 
-actions_lead : (id : ℕ) (xs : List Action) → standing (InBucket id) (map rows.Do xs) ≡ Some (InBucket id)
+actions_lead : (id : ℕ) (xs : List Action) → following_all (InBucket id) (map rows.Do xs) ≡ Some (InBucket id)
 unfolding following
 actions_lead id [] = refl
 actions_lead id (x ∷ xs) = actions_lead id xs
@@ -72,7 +72,7 @@ buckets_lead id p h (b ∷ bs) =
     let a = bucket_leads id p h b in
     leads_both id p (bucket_rows b) (flat_map bucket_rows bs) a (buckets_lead id a.to a.within bs)
 
-begins_in : (id : ℕ) (p : Place) → IsIn id p → (g : TextGroup) → nat_lt id g.head.id ≡ true → standing p (group_rows g) ≡ standing (InGroup g.head.id) (flat_map bucket_rows g.buckets)
+begins_in : (id : ℕ) (p : Place) → IsIn id p → (g : TextGroup) → nat_lt id g.head.id ≡ true → following_all p (group_rows g) ≡ following_all (InGroup g.head.id) (flat_map bucket_rows g.buckets)
 unfolding following
 begins_in id Start h g k = absurd h
 begins_in id (InGroup n) h g k = rw (h, k) refl
@@ -80,7 +80,7 @@ begins_in id (InBucket n) h g k = rw (h, k) refl
 begins_in id (InFlow least) h g k = absurd h
 
 -- groups of higher numbers, from a place in a group
-groups_lead : (id : ℕ) (p : Place) → IsIn id p → (gs : List TextGroup) → list_all (λ g. nat_lt id g.head.id) gs ≡ true → is_ascending (λ g. g.head.id) gs ≡ true → (q : Place) × (standing p (rows_of_groups gs) ≡ Some q)
+groups_lead : (id : ℕ) (p : Place) → IsIn id p → (gs : List TextGroup) → list_all (λ g. nat_lt id g.head.id) gs ≡ true → is_ascending (λ g. g.head.id) gs ≡ true → (q : Place) × (following_all p (rows_of_groups gs) ≡ Some q)
 groups_lead id p h [] k r = (p, refl)
 groups_lead id p h (g ∷ gs) k r =
     let higher = and_parts (nat_lt id g.head.id) (list_all (λ g. nat_lt id g.head.id) gs) k in
@@ -89,14 +89,14 @@ groups_lead id p h (g ∷ gs) k r =
     let others = groups_lead g.head.id inner.to inner.within gs rising.0 rising.1 in
     (others.0, standing_both p (group_rows g) (rows_of_groups gs) ∙ rw (begins_in id p h g higher.0 ∙ inner.is) others.1)
 
-groups_stand : (gs : List TextGroup) → is_ascending (λ g. g.head.id) gs ≡ true → (q : Place) × (standing start (rows_of_groups gs) ≡ Some q)
+groups_stand : (gs : List TextGroup) → is_ascending (λ g. g.head.id) gs ≡ true → (q : Place) × (following_all start_place (rows_of_groups gs) ≡ Some q)
 unfolding following
-groups_stand [] r = (start, refl)
+groups_stand [] r = (start_place, refl)
 groups_stand (g ∷ gs) r =
     let rising = and_parts (list_all (λ y. nat_lt g.head.id y.head.id) gs) (is_ascending (λ g. g.head.id) gs) r in
     let inner = buckets_lead g.head.id (InGroup g.head.id) refl g.buckets in
     let others = groups_lead g.head.id inner.to inner.within gs rising.0 rising.1 in
-    (others.0, standing_both start (group_rows g) (rows_of_groups gs) ∙ rw inner.is others.1)
+    (others.0, standing_both start_place (group_rows g) (rows_of_groups gs) ∙ rw inner.is others.1)
 
 -- ---- as they lie in memory
 
@@ -167,7 +167,7 @@ first_stays (Some f) fault x = refl
 
 -- a message at fault
 pub noted : (l l' : InMemory) (fault : ConfigFault) (rest : ℕ → Listed) → l'.fault ≡ or_later l.fault (Some fault) → l'.places ≡ l.places → l'.groups ≡ l.groups → l'.flows ≡ l.flows → l'.least ≡ l.least
-    → joined l (with_fault fault (rest l.least)) ≡ joined l' (rest l'.least)
+    → joined_with_later l (with_fault fault (rest l.least)) ≡ joined_with_later l' (rest l'.least)
 noted l l' fault rest f p g x e =
     let r = rest l.least in
     rw (f, p, g, x, e) (ap (λ (o : Option ConfigFault). record { places = l.places.items ++ r.places; groups = view_groups l.groups.items ++ r.groups; flows = view_flows l.flows.items ++ r.flows; fault = o }) (first_stays l.fault fault r.fault))
@@ -177,17 +177,17 @@ group_out place least g rest lt =
     let test : nat_le least g.head.id ≡ false = grind (arith, nat_tests, lt) in
     rw test refl
 
-pub group_in : (place least : ℕ) (g : TextGroup) (rest : ℕ → Listed) → least ≤ g.head.id → listed_by place least (IsGroup g) rest ≡ with_group place g (rest (g.head.id + 1))
+pub group_in : (place least : ℕ) (g : TextGroup) (rest : ℕ → Listed) → least ≤ g.head.id → listed_by place least (IsGroup g) rest ≡ with_listed_group place g (rest (g.head.id + 1))
 group_in place least g rest le = rw (le-leb least g.head.id le) refl
 
 pub group_pushed : (l l' : InMemory) (place : ℕ) (g : GroupText) (rest : ℕ → Listed) → l'.places.items ≡ l.places.items ++ place ∷ [] → l'.groups.items ≡ l.groups.items ++ g ∷ [] → l'.flows ≡ l.flows → l'.fault ≡ l.fault → l'.least ≡ g.head.id + 1
-    → joined l (with_group place (view_group g) (rest (g.head.id + 1))) ≡ joined l' (rest l'.least)
+    → joined_with_later l (with_listed_group place (view_group g) (rest (g.head.id + 1))) ≡ joined_with_later l' (rest l'.least)
 group_pushed l l' place g rest p gs x f e =
     let r = rest (g.head.id + 1) in
     rw (p, gs, x, f, e, append_assoc l.places.items (place ∷ []) r.places, mapped_one_more view_group l.groups.items g r.groups) refl
 
 pub flow_pushed : (l l' : InMemory) (place : ℕ) (f : FlowText) (rest : ℕ → Listed) → l'.places.items ≡ l.places.items ++ place ∷ [] → l'.flows.items ≡ l.flows.items ++ f ∷ [] → l'.groups ≡ l.groups → l'.fault ≡ l.fault → l'.least ≡ 0x100000000
-    → joined l (with_flow place (view f) (rest 0x100000000)) ≡ joined l' (rest l'.least)
+    → joined_with_later l (with_listed_flow place (view f) (rest 0x100000000)) ≡ joined_with_later l' (rest l'.least)
 flow_pushed l l' place f rest p fs x o e =
     let r = rest 0x100000000 in
     rw (p, fs, x, o, e, append_assoc l.places.items (place ∷ []) r.places, mapped_one_more view l.flows.items f r.flows) refl
@@ -220,18 +220,18 @@ noted_sound l l' s g x e = record {
 
 -- ---- one message after the other
 
-pub listed_more : (ms : List (List ℕ)) (i : ℕ) (m d : List ℕ) (l l' : InMemory) (s : Said) (whole : Listed) → i < length ms → m ≡ get_or ms i d → s ≡ said m → joined l (listed i l.least (drop i ms)) ≡ whole
-    → ((rest : ℕ → Listed) → joined l (listed_by i l.least s rest) ≡ joined l' (rest l'.least)) → joined l' (listed (i + 1) l'.least (drop (i + 1) ms)) ≡ whole
+pub listed_more : (ms : List (List ℕ)) (i : ℕ) (m d : List ℕ) (l l' : InMemory) (s : Said) (whole : Listed) → i < length ms → m ≡ get_or ms i d → s ≡ message_said m → joined_with_later l (listed_messages i l.least (drop i ms)) ≡ whole
+    → ((rest : ℕ → Listed) → joined_with_later l (listed_by i l.least s rest) ≡ joined_with_later l' (rest l'.least)) → joined_with_later l' (listed_messages (i + 1) l'.least (drop (i + 1) ms)) ≡ whole
 listed_more ms i m d l l' s whole lt is says so on =
     let here : drop i ms ≡ m ∷ drop (suc i) ms = drop-cons ms i d lt ∙ ap (λ (x : List ℕ). x ∷ drop (suc i) ms) (sym is) in
-    let next : ℕ → Listed = λ least. listed (i + 1) least (drop (suc i) ms) in
-    ap (λ (k : ℕ). joined l' (listed (i + 1) l'.least (drop k ms))) (add-one i)
+    let next : ℕ → Listed = λ least. listed_messages (i + 1) least (drop (suc i) ms) in
+    ap (λ (k : ℕ). joined_with_later l' (listed_messages (i + 1) l'.least (drop k ms))) (add-one i)
     ∙ (sym (on next)
-    ∙ (ap (λ (x : Said). joined l (listed_by i l.least x next)) says
-    ∙ (ap (λ (x : List (List ℕ)). joined l (listed i l.least x)) (sym here) ∙ so)))
+    ∙ (ap (λ (x : Said). joined_with_later l (listed_by i l.least x next)) says
+    ∙ (ap (λ (x : List (List ℕ)). joined_with_later l (listed_messages i l.least x)) (sym here) ∙ so)))
 
-pub listed_all : (ms rest : List (List ℕ)) (i : ℕ) (l : InMemory) (whole : Listed) → rest ≡ [] → joined l (listed i l.least rest) ≡ whole → joined l nothing_listed ≡ whole
-listed_all ms rest i l whole none so = ap (λ (x : List (List ℕ)). joined l (listed i l.least x)) (sym none) ∙ so
+pub listed_all : (ms rest : List (List ℕ)) (i : ℕ) (l : InMemory) (whole : Listed) → rest ≡ [] → joined_with_later l (listed_messages i l.least rest) ≡ whole → joined_with_later l nothing_listed ≡ whole
+listed_all ms rest i l whole none so = ap (λ (x : List (List ℕ)). joined_with_later l (listed_messages i l.least x)) (sym none) ∙ so
 
 -- ---- the first fault
 
@@ -243,10 +243,10 @@ last_none (Some f) = refl
 abbrev pub kept : InMemory → Listed
 kept l = record { places = l.places.items; groups = view_groups l.groups.items; flows = view_flows l.flows.items; fault = l.fault }
 
-pub nothing_later : (l : InMemory) → joined l nothing_listed ≡ kept l
+pub nothing_later : (l : InMemory) → joined_with_later l nothing_listed ≡ kept l
 nothing_later l = rw (append-nil l.places.items, append-nil (view_groups l.groups.items), append-nil (view_flows l.flows.items), last_none l.fault) refl
 
-pub given_so : (l : Listed) (c : Configuration) → l.fault ≡ None → first_refusal l.groups l.flows ≡ None → c.groups ≡ l.groups → c.tables ≡ tables_of l.flows → config_listed l ≡ Ok c
+pub given_so : (l : Listed) (c : Configuration) → l.fault ≡ None → first_refusal l.groups l.flows ≡ None → c.groups ≡ l.groups → c.tables ≡ tables_of_flows l.flows → config_listed l ≡ Ok c
 given_so l c f r g t = rw (f, r, sym g, sym t) refl
 
 pub fault_so : (l : Listed) (fault : ConfigFault) → l.fault ≡ Some fault → first_refusal l.groups l.flows ≡ None → config_listed l ≡ Err fault

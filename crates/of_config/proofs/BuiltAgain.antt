@@ -14,9 +14,9 @@ use Rattle.of_text.specs.Groups.{TextBucket, TextGroup, bucket_of, bucket_text, 
 use Rattle.of_text.specs.Flows.{Flow, Step, Apply, Clear, Write, Metadata, Goto, text_rows}
 use Rattle.of_text.specs.Kept.{AllStandBehind, instruction_of, instructions_of, step_of}
 use Rattle.of_text.specs.Texts.{AreRows}
-use Rattle.of_text.specs.Configs.{Configuration, IsConfig, all_flows, tables_of}
+use Rattle.of_text.specs.Configs.{Configuration, IsConfig, all_flows, tables_of_flows}
 use Rattle.of_text.specs.Lines.{lines_of}
-use Rattle.of_text.specs.Texts.{text_of}
+use Rattle.of_text.specs.Texts.{groups_and_flows_text}
 use Rattle.of_text.proofs.ConfigLemmas.{canonical_encodes, rows_again}
 use Rattle.of_text.proofs.GroupLemmas.{config_groups}
 use Rattle.of_text.proofs.TextLemmas.{all_both, one_list}
@@ -25,14 +25,14 @@ use Rattle.of_messages.specs.CanonicalGroups.{group_add_bytes}
 use Rattle.of_messages.specs.declared.message.Message.TheVariants.{FlowMod as AFlowMod}
 use Rattle.of_messages.specs.Written.{flow_mod_bytes}
 use Rattle.of_messages.proofs.GroupAgain.{group_add_again}
-use Rattle.of_laws.specs.Cells.{Fits}
+use Rattle.of_laws.specs.Cells.{FitsCells}
 use Rattle.of_laws.specs.Grammar.{flow_mod_cells}
 use Rattle.of_laws.proofs.Only.{only}
 use Rattle.of_laws.proofs.WrittenRequests.{flow_mod_encoded}
 use Rattle.of_laws.proofs.FlowsAdded.{AreSent, IsSent}
 use Rattle.of_laws.proofs.GroupsAdded.{IsSentGroup}
 use Rattle.of_build.specs.Listing.{add_of, flow_adds, group_adds, new_of}
-use Rattle.of_config.specs.Built.{Said, IsGroup, IsFlow, Listed, config_said, listed, listed_by, said, said_by}
+use Rattle.of_config.specs.Built.{Said, IsGroup, IsFlow, Listed, config_said, listed_messages, listed_by, message_said, said_by}
 use Rattle.of_config.proofs.BuildingLemmas.{given_so, group_in}
 use Rattle.of_config.proofs.ComingBack.{all_sent, groups_sent}
 
@@ -43,7 +43,7 @@ buckets_same [] = refl
 buckets_same (b ∷ bs) = ap (λ (x : List TextBucket). b ∷ x) (buckets_same bs)
 
 abbrev SaysGroup : TextGroup → Type 0
-SaysGroup g = (xid : ℕ) → said (group_add_bytes xid (new_of g)) ≡ IsGroup g
+SaysGroup g = (xid : ℕ) → message_said (group_add_bytes xid (new_of g)) ≡ IsGroup g
 
 group_says : (all : List Group) (g : TextGroup) → IsSentGroup all g → SaysGroup g
 group_says all g s xid =
@@ -67,14 +67,14 @@ steps_same [] = refl
 steps_same (s ∷ ss) = rw (step_same s, steps_same ss) refl
 
 abbrev SaysFlow : Flow → Type 0
-SaysFlow f = (xid : ℕ) → xid < 256 ^ 4 → said (flow_mod_bytes xid (add_of f)) ≡ IsFlow f
+SaysFlow f = (xid : ℕ) → xid < 256 ^ 4 → message_said (flow_mod_bytes xid (add_of f)) ≡ IsFlow f
 
 flow_says : (table : ℕ) (f : Flow) → IsSent table f → bit_and f.head.flags 25 ≡ f.head.flags → SaysFlow f
 flow_says table f s flags xid small =
     let few : f.head.flags ≤ 25 = subst (λ (k : ℕ). k ≤ 25) flags (and_le_r f.head.flags 25) in
     let low : f.head.table < 16 = omega (arith, s.own, s.low) in
     let fit : are_for f.head.table (instructions_of f) ≡ true = rw (s.own) s.entry.leads_on in
-    let fits : Fits (flow_mod_cells (add_of f)) = (s.head.2, (omega arith, (omega (arith, low), (omega arith, (s.head.3, (s.head.4, (s.head.1, (omega arith, (omega arith, (omega arith, (omega (arith, few), tt))))))))))) in
+    let fits : FitsCells (flow_mod_cells (add_of f)) = (s.head.2, (omega arith, (omega (arith, low), (omega arith, (s.head.3, (s.head.4, (s.head.1, (omega arith, (omega arith, (omega arith, (omega (arith, few), tt))))))))))) in
     let encoded = flow_mod_encoded xid (add_of f) small fits (record { table = low; flags = omega (arith, few); fit = s.entry.checked }) s.entry.fields s.entry.kept fit (λ deleted. absurd cc) in
     ap said_by (only xid (AFlowMod (add_of f)) (flow_mod_bytes xid (add_of f)) encoded)
     ∙ ap (λ (ss : List Step). IsFlow (record { head = f.head; fields = f.fields; steps = ss })) (steps_same f.steps)
@@ -94,11 +94,11 @@ record IsListed (l : Listed) (gs : List TextGroup) (fs : List Flow) : Type 0 whe
   pub flows : l.flows ≡ fs
   pub fault : l.fault ≡ None
 
-flows_listed : (place least xid : ℕ) (fs : List Flow) → xid + length fs ≤ 256 ^ 4 → AllByRecursion SaysFlow fs → IsListed (listed place least (flow_adds xid fs)) [] fs
+flows_listed : (place least xid : ℕ) (fs : List Flow) → xid + length fs ≤ 256 ^ 4 → AllByRecursion SaysFlow fs → IsListed (listed_messages place least (flow_adds xid fs)) [] fs
 flows_listed place least xid [] small h = record { groups = refl; flows = refl; fault = refl }
 flows_listed place least xid (f ∷ fs) small h =
-    let next : ℕ → Listed = λ n. listed (place + 1) n (flow_adds (xid + 1) fs) in
-    let is : listed place least (flow_adds xid (f ∷ fs)) ≡ listed_by place least (IsFlow f) next = ap (λ (s : Said). listed_by place least s next) (h.0 xid (omega (arith, small))) in
+    let next : ℕ → Listed = λ n. listed_messages (place + 1) n (flow_adds (xid + 1) fs) in
+    let is : listed_messages place least (flow_adds xid (f ∷ fs)) ≡ listed_by place least (IsFlow f) next = ap (λ (s : Said). listed_by place least s next) (h.0 xid (omega (arith, small))) in
     let others = flows_listed (place + 1) 0x100000000 (xid + 1) fs (omega (arith, small)) h.1 in
     record {
       groups = ap (λ (l : Listed). l.groups) is ∙ others.groups;
@@ -114,11 +114,11 @@ above_all n (g ∷ gs) h =
     (omega (arith, lt), above_all n gs parts.1)
 
 groups_listed : (place least xid later : ℕ) (gs : List TextGroup) (fs : List Flow) → later + length fs ≤ 256 ^ 4 → AllByRecursion SaysGroup gs → AllByRecursion (λ g. least ≤ g.head.id) gs → is_ascending (λ g. g.head.id) gs ≡ true → AllByRecursion SaysFlow fs
-    → IsListed (listed place least (group_adds xid gs ++ flow_adds later fs)) gs fs
+    → IsListed (listed_messages place least (group_adds xid gs ++ flow_adds later fs)) gs fs
 groups_listed place least xid later [] fs small h above rising k = flows_listed place least later fs small k
 groups_listed place least xid later (g ∷ gs) fs small h above rising k =
     let parts = and_parts (list_all (λ y. nat_lt g.head.id y.head.id) gs) (is_ascending (λ y. y.head.id) gs) rising in
-    let next : ℕ → Listed = λ n. listed (place + 1) n (group_adds (xid + 1) gs ++ flow_adds later fs) in
+    let next : ℕ → Listed = λ n. listed_messages (place + 1) n (group_adds (xid + 1) gs ++ flow_adds later fs) in
     let is = ap (λ (s : Said). listed_by place least s next) (h.0 xid) ∙ group_in place least g next above.0 in
     let others = groups_listed (place + 1) (g.head.id + 1) (xid + 1) later gs fs small h.1 (above_all g.head.id gs parts.0) parts.1 k in
     record {
@@ -148,14 +148,14 @@ rising_text (g ∷ gs) h =
 -- its flows table by table fill its tables, and none is refused
 record Stands (c : Configuration) : Type 0 where
   pub first : first_refusal c.groups (all_flows c.tables) ≡ None
-  pub filled : c.tables ≡ tables_of (all_flows c.tables)
+  pub filled : c.tables ≡ tables_of_flows (all_flows c.tables)
 
 stands : (c : Configuration) → IsConfig c → Stands c
 stands c k =
     let e = canonical_encodes c k in
     let rows : AreRows (text_rows c.groups (all_flows c.tables)) = subst (λ (ts : List (List Flow)). AreRows (text_rows c.groups (all_flows ts))) (sym k.filled) (rows_again c.groups k.flows k.rows) in
-    let same = one_list (lines_of (text_of c.groups (all_flows c.tables))) c.groups c.groups e.flows (all_flows c.tables) e.encoded (text_encodes c.groups (all_flows c.tables) rows) in
-    record { first = subst (λ (fs : List Flow). first_refusal c.groups fs ≡ None) same.1 e.stand; filled = e.filled ∙ ap tables_of same.1 }
+    let same = one_list (lines_of (groups_and_flows_text c.groups (all_flows c.tables))) c.groups c.groups e.flows (all_flows c.tables) e.encoded (text_encodes c.groups (all_flows c.tables) rows) in
+    record { first = subst (λ (fs : List Flow). first_refusal c.groups fs ≡ None) same.1 e.stand; filled = e.filled ∙ ap tables_of_flows same.1 }
 
 pub built_again : (c : Configuration) (groups flows : ℕ) → IsConfig c → flows + length (all_flows c.tables) ≤ 256 ^ 4 → config_said (group_adds groups c.groups ++ flow_adds flows (all_flows c.tables)) ≡ Ok c
 unfolding config_said
@@ -163,4 +163,4 @@ built_again c groups flows k small =
     let sent = groups_sent c.groups (config_groups c k) in
     let l = groups_listed 0 0 groups flows c.groups (all_flows c.tables) small (groups_say (groups_at 0 c.groups) c.groups sent.each) (all_low c.groups) (rising_text c.groups sent.rising) (flows_say c.groups 0 c.tables (all_sent c k)) in
     let s = stands c k in
-    given_so (listed 0 0 (group_adds groups c.groups ++ flow_adds flows (all_flows c.tables))) c l.fault (rw (l.groups, l.flows) s.first) (sym l.groups) (rw l.flows s.filled)
+    given_so (listed_messages 0 0 (group_adds groups c.groups ++ flow_adds flows (all_flows c.tables))) c l.fault (rw (l.groups, l.flows) s.first) (sym l.groups) (rw l.flows s.filled)

@@ -19,7 +19,7 @@ use Rattle.of_groups.proofs.NameLemmas.{or_first, or_true}
 use Rattle.of_table.specs.Tables.{no_tables, tables_of as empty_tables}
 use Rattle.of_text.specs.Rows.{Fits}
 use Rattle.of_text.specs.Groups.{TextBucket, TextGroup, bucket_of, bucket_rows, buckets_of, group_at, group_rows, groups_at, rows_of_groups}
-use Rattle.of_text.specs.Flows.{Flow as TextFlow, flow_rows, rows_of as rows_of_flows}
+use Rattle.of_text.specs.Flows.{Flow as TextFlow, flow_rows, rows_of_all_flows as rows_of_flows}
 use Rattle.of_text.specs.Kept.{AllStandBehind, AreKeptGroups, IsEntry, instructions_of}
 use Rattle.of_text.specs.Configs.{Configuration, IsConfig, all_flows}
 use Rattle.of_text.proofs.ConfigLemmas.{AllFor, all_for, config_fits}
@@ -41,7 +41,7 @@ use Rattle.of_switch.specs.Calls.{feed_refusal}
 use Rattle.of_datapath.specs.Loading.{loaded_tables}
 use Rattle.of_switch.specs.Loading.{config_of}
 use Rattle.of_switch.specs.State.{State, new_core, start}
-use Rattle.of_switch.specs.Runs.{Gives, IsRefused, Report, Happened, Run, happened, chunk_in, run, unless}
+use Rattle.of_switch.specs.Runs.{Gives, IsRefused, Report, Happened, Run, happened, chunk_in, run, unless_refusal}
 use Rattle.of_switch.proofs.ToldAgain.{told_again}
 use Rattle.of_laws.proofs.FlowsAdded.{AreSent, IsSent, flow_events, flows_lead}
 use Rattle.of_laws.proofs.GroupsAdded.{AreSentGroups, IsSentGroup, group_events, groups_lead}
@@ -223,11 +223,11 @@ accepted (m ∷ ms) s t place are leads = by_refusal (feed_refusal s) refl (acce
   where
     by_refusal : (r : Option SwitchError) → feed_refusal s ≡ r → (Leads (map Chunk ms) (chunk_in m s).state t → config_from (place + 1) ms (chunk_in m s).state ≡ Ok (config_of t)) → config_from place (m ∷ ms) s ≡ Ok (config_of t)
     by_refusal (Some e) is next =
-        let here : happened (Chunk m) s ≡ unless (Some e) s (chunk_in m s) = ap (λ (r : Option SwitchError). unless r s (chunk_in m s)) is in
+        let here : happened (Chunk m) s ≡ unless_refusal (Some e) s (chunk_in m s) = ap (λ (r : Option SwitchError). unless_refusal r s (chunk_in m s)) is in
         absurd (let whole : IsRefused e ∷ (run (map Chunk ms) s).reports ≡ Gives [] ∷ replicate (length (map Chunk ms)) (Gives []) = ap (λ (h : Happened). h.report ∷ (run (map Chunk ms) h.state).reports) (sym here) ∙ ap (λ (r : Run). r.reports) leads in cc)
     by_refusal None is next =
         let o = chunk_in m s in
-        let here : happened (Chunk m) s ≡ record { report = Gives o.effects; state = o.state } = ap (λ (r : Option SwitchError). unless r s o) is in
+        let here : happened (Chunk m) s ≡ record { report = Gives o.effects; state = o.state } = ap (λ (r : Option SwitchError). unless_refusal r s o) is in
         let rest = run (map Chunk ms) o.state in
         let whole : record { reports = Gives o.effects ∷ rest.reports; state = rest.state } ≡ record { reports = Gives [] ∷ replicate (length (map Chunk ms)) (Gives []); state = t } =
         ap (λ (h : Happened). record { reports = h.report ∷ (run (map Chunk ms) h.state).reports; state = (run (map Chunk ms) h.state).state }) (sym here) ∙ leads in

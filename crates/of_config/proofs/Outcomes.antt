@@ -22,7 +22,7 @@ use Rattle.of_formats.specs.Reading.{◌>>=◌}
 use Rattle.of_formats.specs.declared.messages.TheConstants.{FLOW_MOD, GROUP_MOD}
 use Rattle.of_messages.specs.Heads.{head_refusals, role_refusals, type_of, xid_of}
 use Rattle.of_messages.specs.GroupMods.{group_mod_of}
-use Rattle.of_messages.specs.Messages.{body_of, flow_mod_of, is_delete, message_by, message_from}
+use Rattle.of_messages.specs.Messages.{message_body, flow_mod_of, is_delete, message_by, message_from}
 use Rattle.of_messages.specs.Written.{error_bytes, message}
 use Rattle.of_session.specs.declared.session.Phase.TheVariants.{Open}
 use Rattle.of_session.specs.declared.session.Next.{Next}
@@ -34,13 +34,13 @@ use Rattle.of_datapath.specs.declared.effect.Effect.{Effect}
 use Rattle.of_datapath.specs.declared.effect.Effect.TheVariants.{Answer}
 use Rattle.of_datapath.specs.Commands.{command_notices, frame_named, is_notice_admitted, notice_effect, notice_effects}
 use Rattle.of_switch.specs.State.{Core, State}
-use Rattle.of_switch.specs.Steps.{Done, Outcome, after_command, after_flow_mod, after_group_mod, begun, does, done, gives, handled, next_by, next_of, refused, state_refusals, then_does, unless_refused as unless_code}
+use Rattle.of_switch.specs.Steps.{Done, Outcome, after_command, after_flow_mod, after_group_mod, held_frame_begun, does, done, gives, handled, next_by, next_of, refused, state_refusals, then_does, unless_refused as unless_code}
 use Rattle.of_switch.specs.Runs.{chunk_in}
 use Rattle.of_switch.specs.Loading.{config_of}
 use Rattle.of_text.specs.Configs.{Configuration}
 use Rattle.of_config.specs.declared.fault.ConfigFault.TheVariants.{NoMemory, NotACommand, Refused}
-use Rattle.of_config.specs.Sending.{IsReady, code_of, config_by, config_from, error_in, greeted, is_command, or_else, unless_refused}
-use Rattle.of_config.specs.Outcomes.{ComesTo, Takes}
+use Rattle.of_config.specs.Sending.{IsReady, error_code_in, config_by, config_from, error_in, greeted, is_command, code_or_else, later_unless_refused}
+use Rattle.of_config.specs.Outcomes.{ComesTo, TakesMessages}
 use Rattle.of_config.proofs.SendingLemmas.{greeted_is, having, is_message, is_ready, none_left, read_whole, ready, whole_chunk}
 
 -- ---- an ERROR, read again
@@ -54,7 +54,7 @@ number_twice n rest =
 abbrev code_again : Code → List ℕ → Code
 code_again code failed = record { kind = big_number 2 (big_bytes 2 code.kind ++ (big_bytes 2 code.code ++ failed)); code = big_number 2 (big_bytes 2 code.code ++ failed) }
 
-error_told : (xid : ℕ) (code : Code) (failed : List ℕ) → code_of (error_bytes xid code failed) ≡ Some (code_again code failed)
+error_told : (xid : ℕ) (code : Code) (failed : List ℕ) → error_code_in (error_bytes xid code failed) ≡ Some (code_again code failed)
 error_told xid code failed = rw (le-leb 12 (length (error_bytes xid code failed)) (omega arith)) refl
 
 same_error : (xid : ℕ) (code other : Code) (failed : List ℕ) → code_again other failed ≡ code → error_bytes xid other failed ≡ error_bytes xid code failed
@@ -89,7 +89,7 @@ flow_mod_says : (m : FlowMod) (k : Core) → k.forwarding.held ≡ none_held →
 flow_mod_says m k none =
     let first = after_command m k in
     let no_frame : frame_named m k.forwarding.held ≡ None = ap (frame_named m) none ∙ none_named m in
-    let is : after_flow_mod m k ≡ does (first.effects ++ []) first.core = ap (λ (h : Option Held). then_does first (begun m.buffer h)) no_frame in
+    let is : after_flow_mod m k ≡ does (first.effects ++ []) first.core = ap (λ (h : Option Held). then_does first (held_frame_begun m.buffer h)) no_frame in
     let quiet : error_in (first.effects ++ []) ≡ None = ap error_in (append-nil first.effects) ∙ silent (heard_of k.control) k.forwarding.tables.latest (command_notices m k.forwarding.tables) in
     subst SaysNoError (sym is) (record { none = quiet; held_none = none })
 
@@ -100,16 +100,16 @@ group_mod_says (Delete which) k none = record { none = silent (heard_of k.contro
 
 -- ---- a command that is read is a FLOW_MOD or a GROUP_MOD
 
-read_by_body : (role : Role) (m : List ℕ) (said : Message) → message_from role m ≡ Ok said → body_of m ≡ Ok said
+read_by_body : (role : Role) (m : List ℕ) (said : Message) → message_from role m ≡ Ok said → message_body m ≡ Ok said
 unfolding message_from
 read_by_body role m said e = by_refusal (first_of (head_refusals m ++ role_refusals role m)) e
   where
-    by_refusal : (r : Option Code) → message_by m r ≡ Ok said → body_of m ≡ Ok said
+    by_refusal : (r : Option Code) → message_by m r ≡ Ok said → message_body m ≡ Ok said
     by_refusal (Some code) h = absurd cc
     by_refusal None h = h
 
-flow_mod_said : (m : List ℕ) (said : Message) (k : Core) → type_of m ≡ 14 → body_of m ≡ Ok said → k.forwarding.held ≡ none_held → SaysNoError (done (xid_of m) said k)
-unfolding body_of
+flow_mod_said : (m : List ℕ) (said : Message) (k : Core) → type_of m ≡ 14 → message_body m ≡ Ok said → k.forwarding.held ≡ none_held → SaysNoError (done (xid_of m) said k)
+unfolding message_body
 flow_mod_said m said k type e none =
     let body : (flow_mod_of m >>= λ v. Ok (IsFlowMod v)) ≡ Ok said = sym (rw type refl) ∙ e in
     by_reading (flow_mod_of m) body
@@ -118,8 +118,8 @@ flow_mod_said m said k type e none =
     by_reading (Ok v) h = let is : IsFlowMod v ≡ said = cc in subst (λ (x : Message). SaysNoError (done (xid_of m) x k)) is (flow_mod_says v k none)
     by_reading (Err code) h = absurd cc
 
-group_mod_said : (m : List ℕ) (said : Message) (k : Core) → type_of m ≡ 15 → body_of m ≡ Ok said → k.forwarding.held ≡ none_held → SaysNoError (done (xid_of m) said k)
-unfolding body_of
+group_mod_said : (m : List ℕ) (said : Message) (k : Core) → type_of m ≡ 15 → message_body m ≡ Ok said → k.forwarding.held ≡ none_held → SaysNoError (done (xid_of m) said k)
+unfolding message_body
 group_mod_said m said k type e none =
     let body : (group_mod_of m >>= λ v. Ok (IsGroupMod v)) ≡ Ok said = sym (rw type refl) ∙ e in
     by_reading (group_mod_of m) body
@@ -200,8 +200,8 @@ refused_so m s code q one e = by_outcome (answered m s q one)
   where
     by_outcome : IsAnswered m s (chunk_in m s) → chunk_in m s ≡ gives (answer_to m code ∷ []) s
     by_outcome (inl a) =
-        let told : or_else (code_of (error_bytes (xid_of m) a.0 (take 64 m))) None ≡ Some code = ap (λ (o : Outcome). error_in o.effects) (sym a.1) ∙ e in
-        let again : Some (code_again a.0 (take 64 m)) ≡ Some code = ap (λ (o : Option Code). or_else o None) (sym (error_told (xid_of m) a.0 (take 64 m))) ∙ told in
+        let told : code_or_else (error_code_in (error_bytes (xid_of m) a.0 (take 64 m))) None ≡ Some code = ap (λ (o : Outcome). error_in o.effects) (sym a.1) ∙ e in
+        let again : Some (code_again a.0 (take 64 m)) ≡ Some code = ap (λ (o : Option Code). code_or_else o None) (sym (error_told (xid_of m) a.0 (take 64 m))) ∙ told in
         let is : code_again a.0 (take 64 m) ≡ code = cc in
         a.1 ∙ ap (λ (bytes : List ℕ). gives (Answer bytes ∷ []) s) (same_error (xid_of m) code a.0 (take 64 m) is)
     by_outcome (inr a) = absurd (let both : None ≡ Some code = sym a.0 ∙ e in cc)
@@ -211,8 +211,8 @@ stays_quiet m s q one e = by_outcome (answered m s q one)
   where
     by_outcome : IsAnswered m s (chunk_in m s) → IsQuiet (chunk_in m s).state
     by_outcome (inl a) =
-        let told : or_else (code_of (error_bytes (xid_of m) a.0 (take 64 m))) None ≡ None = ap (λ (o : Outcome). error_in o.effects) (sym a.1) ∙ e in
-        absurd (let again : Some (code_again a.0 (take 64 m)) ≡ None = ap (λ (o : Option Code). or_else o None) (sym (error_told (xid_of m) a.0 (take 64 m))) ∙ told in cc)
+        let told : code_or_else (error_code_in (error_bytes (xid_of m) a.0 (take 64 m))) None ≡ None = ap (λ (o : Outcome). error_in o.effects) (sym a.1) ∙ e in
+        absurd (let again : Some (code_again a.0 (take 64 m)) ≡ None = ap (λ (o : Option Code). code_or_else o None) (sym (error_told (xid_of m) a.0 (take 64 m))) ∙ told in cc)
     by_outcome (inr a) = a.1
 
 -- ---- one after the other
@@ -223,7 +223,7 @@ record Comes (from : ℕ) (first : State) (messages : List (List ℕ)) (place : 
   later : List (List ℕ)
   parted : messages ≡ before ++ m ∷ later
   place_is : from + length before ≡ place
-  taken : Takes before first s
+  taken : TakesMessages before first s
   quiet : IsQuiet s
 
 comes_here : (from : ℕ) (s : State) (m : List ℕ) (ms : List (List ℕ)) (place : ℕ) → from ≡ place → IsQuiet s → Comes from s (m ∷ ms) place m s
@@ -239,12 +239,12 @@ comes_later from s n ms place m t one none c = record {
   quiet = c.quiet;
 }
 
-all_taken : (ms : List (List ℕ)) (place : ℕ) (s : State) (c : Configuration) → config_from place ms s ≡ Ok c → (t : State) × Takes ms s t × (config_of t ≡ c)
+all_taken : (ms : List (List ℕ)) (place : ℕ) (s : State) (c : Configuration) → config_from place ms s ≡ Ok c → (t : State) × TakesMessages ms s t × (config_of t ≡ c)
 all_taken [] place s c e = (s, refl, cc)
 all_taken (m ∷ ms) place s c e = by_tests (is_command m) (error_in (chunk_in m s).effects) refl refl e (all_taken ms (place + 1) (chunk_in m s).state c)
   where
-    by_tests : (b : Bool) (r : Option Code) → is_command m ≡ b → error_in (chunk_in m s).effects ≡ r → cond b (unless_refused r place (config_from (place + 1) ms (chunk_in m s).state)) (Err (NotACommand place)) ≡ Ok c
-        → (config_from (place + 1) ms (chunk_in m s).state ≡ Ok c → (t : State) × Takes ms (chunk_in m s).state t × (config_of t ≡ c)) → (t : State) × Takes (m ∷ ms) s t × (config_of t ≡ c)
+    by_tests : (b : Bool) (r : Option Code) → is_command m ≡ b → error_in (chunk_in m s).effects ≡ r → cond b (later_unless_refused r place (config_from (place + 1) ms (chunk_in m s).state)) (Err (NotACommand place)) ≡ Ok c
+        → (config_from (place + 1) ms (chunk_in m s).state ≡ Ok c → (t : State) × TakesMessages ms (chunk_in m s).state t × (config_of t ≡ c)) → (t : State) × TakesMessages (m ∷ ms) s t × (config_of t ≡ c)
     by_tests false r p q h next = absurd cc
     by_tests true (Some code) p q h next = absurd cc
     by_tests true None p q h next = let others = next h in (others.0, (p, q, others.1), others.2)
@@ -256,7 +256,7 @@ first_refused : (ms : List (List ℕ)) (from place : ℕ) (code : Code) (s : Sta
 first_refused [] from place code s quiet e = absurd cc
 first_refused (m ∷ ms) from place code s quiet e = by_tests (is_command m) (error_in (chunk_in m s).effects) refl refl e (first_refused ms (from + 1) place code (chunk_in m s).state)
   where
-    by_tests : (b : Bool) (r : Option Code) → is_command m ≡ b → error_in (chunk_in m s).effects ≡ r → cond b (unless_refused r from (config_from (from + 1) ms (chunk_in m s).state)) (Err (NotACommand from)) ≡ Err (Refused place code)
+    by_tests : (b : Bool) (r : Option Code) → is_command m ≡ b → error_in (chunk_in m s).effects ≡ r → cond b (later_unless_refused r from (config_from (from + 1) ms (chunk_in m s).state)) (Err (NotACommand from)) ≡ Err (Refused place code)
         → (IsQuiet (chunk_in m s).state → config_from (from + 1) ms (chunk_in m s).state ≡ Err (Refused place code) → IsRefusedAt (from + 1) (chunk_in m s).state ms place code) → IsRefusedAt from s (m ∷ ms) place code
     by_tests false r p q h next = absurd cc
     by_tests true (Some other) p q h next =
@@ -274,7 +274,7 @@ first_other : (ms : List (List ℕ)) (from place : ℕ) (s : State) → IsQuiet 
 first_other [] from place s quiet e = absurd cc
 first_other (m ∷ ms) from place s quiet e = by_tests (is_command m) (error_in (chunk_in m s).effects) refl refl e (first_other ms (from + 1) place (chunk_in m s).state)
   where
-    by_tests : (b : Bool) (r : Option Code) → is_command m ≡ b → error_in (chunk_in m s).effects ≡ r → cond b (unless_refused r from (config_from (from + 1) ms (chunk_in m s).state)) (Err (NotACommand from)) ≡ Err (NotACommand place)
+    by_tests : (b : Bool) (r : Option Code) → is_command m ≡ b → error_in (chunk_in m s).effects ≡ r → cond b (later_unless_refused r from (config_from (from + 1) ms (chunk_in m s).state)) (Err (NotACommand from)) ≡ Err (NotACommand place)
         → (IsQuiet (chunk_in m s).state → config_from (from + 1) ms (chunk_in m s).state ≡ Err (NotACommand place) → IsNoneAt (from + 1) (chunk_in m s).state ms place) → IsNoneAt from s (m ∷ ms) place
     by_tests false r p q h next = let here : from ≡ place = cc in (m, s, comes_here from s m ms place here quiet, p)
     by_tests true (Some other) p q h next = absurd cc
@@ -286,7 +286,7 @@ memory_is_there : (ms : List (List ℕ)) (place : ℕ) (s : State) → config_fr
 memory_is_there [] place s e = absurd cc
 memory_is_there (m ∷ ms) place s e = by_tests (is_command m) (error_in (chunk_in m s).effects) e (memory_is_there ms (place + 1) (chunk_in m s).state)
   where
-    by_tests : (b : Bool) (r : Option Code) → cond b (unless_refused r place (config_from (place + 1) ms (chunk_in m s).state)) (Err (NotACommand place)) ≡ Err NoMemory → (config_from (place + 1) ms (chunk_in m s).state ≡ Err NoMemory → ⊥) → ⊥
+    by_tests : (b : Bool) (r : Option Code) → cond b (later_unless_refused r place (config_from (place + 1) ms (chunk_in m s).state)) (Err (NotACommand place)) ≡ Err NoMemory → (config_from (place + 1) ms (chunk_in m s).state ≡ Err NoMemory → ⊥) → ⊥
     by_tests false r h next = absurd cc
     by_tests true (Some code) h next = absurd cc
     by_tests true None h next = next h
@@ -299,7 +299,7 @@ greeted_quiet = subst IsQuiet (sym greeted_is) (record { open_ = refl; held_none
 comes_to : (ms : List (List ℕ)) (place : ℕ) (m : List ℕ) (s : State) → Comes 0 greeted ms place m s → ComesTo ms place m s
 comes_to ms place m s c = record { before = c.before; later = c.later; parted = c.parted; place_is = omega (arith, c.place_is); taken = c.taken }
 
-pub given : (ms : List (List ℕ)) (c : Configuration) → config_by ms ≡ Ok c → (s : State) × Takes ms greeted s × (config_of s ≡ c)
+pub given : (ms : List (List ℕ)) (c : Configuration) → config_by ms ≡ Ok c → (s : State) × TakesMessages ms greeted s × (config_of s ≡ c)
 unfolding config_by
 given ms c e = all_taken ms 0 greeted c e
 

@@ -13,7 +13,7 @@ use Rattle.of_messages.specs.Hellos.{version_by, elements_of}
 use Rattle.of_messages.specs.Messages.{message_from}
 use Rattle.of_session.specs.declared.session.Phase.TheVariants.{Open}
 use Rattle.of_session.specs.declared.session.Next.{Next}
-use Rattle.of_session.specs.Stream.{IsMessage, Whole, beginning_of, length_of}
+use Rattle.of_session.specs.Stream.{IsWholeMessage, Whole, beginning_of, length_of}
 use Rattle.of_session.specs.Session.{read_as}
 use Rattle.of_session.proofs.Fronts.{message_front}
 use Rattle.of_text.specs.Configs.{Configuration}
@@ -24,11 +24,11 @@ use Rattle.of_switch.specs.declared.switch_error.SwitchError.{SwitchError}
 use Rattle.of_switch.specs.State.{Core, State, new_core, start}
 use Rattle.of_switch.specs.Steps.{Outcome, coming, connected, fed, gives, next_by, next_of}
 use Rattle.of_switch.specs.Calls.{Call, connect_refusal, feed_refusal}
-use Rattle.of_switch.specs.Runs.{behind, drain, chunk_in}
+use Rattle.of_switch.specs.Runs.{behind_effects, drain, chunk_in}
 use Rattle.of_switch.proofs.Joining.{drained_more, drained_none}
 use Rattle.of_config.specs.declared.fault.ConfigFault.{ConfigFault}
 use Rattle.of_config.specs.declared.fault.ConfigFault.TheVariants.{NoMemory, NotACommand, Refused}
-use Rattle.of_config.specs.Sending.{IsReady, code_of, config_by, config_from, error_in, greeted, is_command, or_else}
+use Rattle.of_config.specs.Sending.{IsReady, error_code_in, config_by, config_from, error_in, greeted, is_command, code_or_else}
 
 -- ---- an open connection
 
@@ -54,7 +54,7 @@ is_ready s h = λ i. record { connection = h i; core = s.core }
 
 -- ---- a command is one message
 
-pub is_message : (m : List ℕ) → is_command m ≡ true → IsMessage m
+pub is_message : (m : List ℕ) → is_command m ≡ true → IsWholeMessage m
 is_message m h =
     let rest = eqb (length_of m) (length m) && (eqb (type_of m) GROUP_MOD || eqb (type_of m) FLOW_MOD) in
     let outer = and_parts (leb 8 (length m)) rest h in
@@ -67,7 +67,7 @@ record IsHandled (m : List ℕ) (k : Core) : Type 0 where
   next : next_of (having m k) ≡ Some outcome
   after : IsReady outcome.state
 
-pub read_whole : (m : List ℕ) (k : Core) → IsMessage m → coming (having m k) ≡ read_as m (message_from k.control.role m)
+pub read_whole : (m : List ℕ) (k : Core) → IsWholeMessage m → coming (having m k) ≡ read_as m (message_from k.control.role m)
 read_whole m k one =
     let whole : beginning_of m ≡ Whole m [] = ap beginning_of (sym (append-nil m)) ∙ message_front m [] one in
     rw whole refl
@@ -97,7 +97,7 @@ waits_for_none s h = ap next_of (is_ready s h)
 pub whole_chunk : (m : List ℕ) (k : Core) (o : Outcome) → next_of (having m k) ≡ Some o → IsReady o.state → chunk_in m (ready k) ≡ o
 whole_chunk m k o e after =
     drained_more (having m k) o e
-    ∙ (ap (behind o.effects) (drained_none o.state (waits_for_none o.state after))
+    ∙ (ap (behind_effects o.effects) (drained_none o.state (waits_for_none o.state after))
     ∙ ap (λ (es : List Effect). gives es o.state) (append-nil o.effects))
 
 pub record IsSent (m : List ℕ) (s t : State) (effects : List Effect) : Type 0 where
@@ -132,13 +132,13 @@ error_next es i e lt is =
     ap error_in (drop-cons es i e lt ∙ ap (λ (x : Effect). x ∷ drop (suc i) es) (sym is))
     ∙ ap (λ (n : ℕ). error_in (e ∷ drop n es)) (sym (add-one i))
 
-pub error_here : (es : List Effect) (i : ℕ) (e : Effect) (m : List ℕ) (code : Code) → i < length es → e ≡ get_or es i e → e ≡ Answer m → code_of m ≡ Some code → error_in (drop i es) ≡ error_in es → Some code ≡ error_in es
+pub error_here : (es : List Effect) (i : ℕ) (e : Effect) (m : List ℕ) (code : Code) → i < length es → e ≡ get_or es i e → e ≡ Answer m → error_code_in m ≡ Some code → error_in (drop i es) ≡ error_in es → Some code ≡ error_in es
 error_here es i e m code lt is answer found same =
     let rest = error_in (drop (i + 1) es) in
     sym (sym same
     ∙ (error_next es i e lt is
     ∙ (ap (λ (x : Effect). error_in (x ∷ drop (i + 1) es)) answer
-    ∙ ap (λ (o : Option Code). or_else o rest) found)))
+    ∙ ap (λ (o : Option Code). code_or_else o rest) found)))
 
 -- ---- connecting
 

@@ -14,7 +14,7 @@ use Rattle.of_text.specs.Groups.{TextGroup, bucket_text}
 use Rattle.of_text.specs.Flows.{Flow}
 use Rattle.of_text.specs.Kept.{KeptFlow, in_text}
 use Rattle.of_text.specs.First.{first_refusal}
-use Rattle.of_text.specs.Configs.{Configuration, tables_of}
+use Rattle.of_text.specs.Configs.{Configuration, tables_of_flows}
 use Rattle.of_config.specs.declared.fault.ConfigFault.{ConfigFault}
 use Rattle.of_config.specs.declared.fault.ConfigFault.TheVariants.{NoMemory, NotACommand, Refused}
 
@@ -28,36 +28,36 @@ pub data Said : Type 0 where
   -- it is refused by itself
   Bad : (code : Code) → Said
 
-abbrev pub group_said : NewGroup → TextGroup
-group_said g = record { head = record { id = g.id; kind = g.kind }; buckets = map bucket_text g.buckets }
+abbrev pub new_group_text : NewGroup → TextGroup
+new_group_text g = record { head = record { id = g.id; kind = g.kind }; buckets = map bucket_text g.buckets }
 
-abbrev pub flow_kept : FlowMod → KeptFlow
-flow_kept m = record {
+abbrev pub flow_mod_kept : FlowMod → KeptFlow
+flow_mod_kept m = record {
   head = record { table = m.table; priority = m.priority; cookie = m.cookie; idle = m.idle_timeout; hard = m.hard_timeout; flags = m.flags };
   fields = m.fields;
   instructions = m.instructions;
 }
 
 abbrev pub flow_said : FlowMod → Flow
-flow_said m = in_text (flow_kept m)
+flow_said m = in_text (flow_mod_kept m)
 
-abbrev pub is_add : FlowModCommand → Bool
-is_add command.Add = true
-is_add other = false
+abbrev pub is_add_command : FlowModCommand → Bool
+is_add_command command.Add = true
+is_add_command other = false
 
 -- one that begins a held packet is none: here no packet is held
-abbrev pub added : Message → Said
-added (AGroupMod (Add g)) = IsGroup (group_said g)
-added (AFlowMod m) = if is_add m.command && m.buffer == OFP_NO_BUFFER then IsFlow (flow_said m) else Other
-added other = Other
+abbrev pub added_by_message : Message → Said
+added_by_message (AGroupMod (Add g)) = IsGroup (new_group_text g)
+added_by_message (AFlowMod m) = if is_add_command m.command && m.buffer == OFP_NO_BUFFER then IsFlow (flow_said m) else Other
+added_by_message other = Other
 
 abbrev pub said_by : Result Message Code → Said
-said_by (Ok message) = added message
+said_by (Ok message) = added_by_message message
 said_by (Err code) = Bad code
 
 -- as it is read by itself, from a controller whose role is equal
-abbrev pub said : List ℕ → Said
-said m = said_by (message_of m)
+abbrev pub message_said : List ℕ → Said
+message_said m = said_by (message_of m)
 
 -- ---- WHAT THE MESSAGES ADD: groups and flows, with the places of their messages, and the first that is at fault by itself or where it stands
 
@@ -70,32 +70,32 @@ pub record Listed : Type 0 where
 abbrev pub nothing_listed : Listed
 nothing_listed = record { places = []; groups = []; flows = []; fault = None }
 
-abbrev pub with_group : ℕ → TextGroup → Listed → Listed
-with_group place g l = record l { places = place ∷ l.places; groups = g ∷ l.groups }
+abbrev pub with_listed_group : ℕ → TextGroup → Listed → Listed
+with_listed_group place g l = record l { places = place ∷ l.places; groups = g ∷ l.groups }
 
-abbrev pub with_flow : ℕ → Flow → Listed → Listed
-with_flow place f l = record l { places = place ∷ l.places; flows = f ∷ l.flows }
+abbrev pub with_listed_flow : ℕ → Flow → Listed → Listed
+with_listed_flow place f l = record l { places = place ∷ l.places; flows = f ∷ l.flows }
 
 abbrev pub with_fault : ConfigFault → Listed → Listed
 with_fault fault l = record l { fault = Some fault }
 
 -- A group's number is this one at least, and the next group's is higher; after a flow comes none. `rest` is what follows.
 abbrev pub listed_by : (place least : ℕ) → Said → (rest : ℕ → Listed) → Listed
-listed_by place least (IsGroup g) rest = if nat_le least g.head.id then with_group place g (rest (g.head.id + 1)) else with_fault (NotACommand place) (rest least)
-listed_by place least (IsFlow f) rest = with_flow place f (rest 0x100000000)
+listed_by place least (IsGroup g) rest = if nat_le least g.head.id then with_listed_group place g (rest (g.head.id + 1)) else with_fault (NotACommand place) (rest least)
+listed_by place least (IsFlow f) rest = with_listed_flow place f (rest 0x100000000)
 listed_by place least Other rest = with_fault (NotACommand place) (rest least)
 listed_by place least (Bad code) rest = with_fault (Refused place code) (rest least)
 
-abbrev pub listed : (place least : ℕ) → List (List ℕ) → Listed
-listed place least [] = nothing_listed
-listed place least (m ∷ ms) = listed_by place least (said m) (λ next. listed (place + 1) next ms)
+abbrev pub listed_messages : (place least : ℕ) → List (List ℕ) → Listed
+listed_messages place least [] = nothing_listed
+listed_messages place least (m ∷ ms) = listed_by place least (message_said m) (λ next. listed_messages (place + 1) next ms)
 
 -- ---- THE FIRST FAULT: that one, or where it comes earlier the first group or flow that is refused beside all that the messages add
 
-abbrev pub place_of : ConfigFault → ℕ
-place_of NoMemory = 0
-place_of (NotACommand place) = place
-place_of (Refused place code) = place
+abbrev pub fault_place : ConfigFault → ℕ
+fault_place NoMemory = 0
+fault_place (NotACommand place) = place
+fault_place (Refused place code) = place
 
 abbrev pub refused_at : List ℕ → Option (ℕ × Code) → Option ConfigFault
 refused_at places None = None
@@ -104,7 +104,7 @@ refused_at places (Some r) = Some (Refused (slice_index_or places r.0 0) r.1)
 abbrev pub earlier : Option ConfigFault → Option ConfigFault → Option ConfigFault
 earlier None refused = refused
 earlier (Some fault) None = Some fault
-earlier (Some fault) (Some refused) = Some (if nat_lt (place_of refused) (place_of fault) then refused else fault)
+earlier (Some fault) (Some refused) = Some (if nat_lt (fault_place refused) (fault_place fault) then refused else fault)
 
 abbrev pub first_fault : Listed → Option ConfigFault
 first_fault l = earlier l.fault (refused_at l.places (first_refusal l.groups l.flows))
@@ -114,8 +114,8 @@ unless_fault None c = Ok c
 unless_fault (Some fault) c = Err fault
 
 abbrev pub config_listed : Listed → Result Configuration ConfigFault
-config_listed l = unless_fault (first_fault l) (record { groups = l.groups; tables = tables_of l.flows })
+config_listed l = unless_fault (first_fault l) (record { groups = l.groups; tables = tables_of_flows l.flows })
 
 -- THE CONFIGURATION OF A LIST OF MESSAGES
 unfoldable pub config_said : List (List ℕ) → Result Configuration ConfigFault
-config_said messages = config_listed (listed 0 0 messages)
+config_said messages = config_listed (listed_messages 0 0 messages)

@@ -37,8 +37,8 @@ or_later None later = later
 or_later (Some fault) later = Some fault
 
 -- what is kept of the messages so far, and what the later ones add
-abbrev pub joined : InMemory → Listed → Listed
-joined l later = record {
+abbrev pub joined_with_later : InMemory → Listed → Listed
+joined_with_later l later = record {
   places = l.places.items ++ later.places;
   groups = view_groups l.groups.items ++ later.groups;
   flows = view_flows l.flows.items ++ later.flows;

@@ -5,9 +5,9 @@ use Rattle.of_switch.specs.Runs.{chunk_in}
 use Rattle.of_config.specs.Sending.{error_in, greeted, is_command}
 
 -- THE SWITCH TAKES THE MESSAGES, one by one, and is then this one: each is a command, and none is answered by an ERROR
-abbrev pub Takes : List (List ℕ) → State → State → Type 0
-Takes [] s t = t ≡ s
-Takes (m ∷ ms) s t = (is_command m ≡ true) × (error_in (chunk_in m s).effects ≡ None) × Takes ms (chunk_in m s).state t
+abbrev pub TakesMessages : List (List ℕ) → State → State → Type 0
+TakesMessages [] s t = t ≡ s
+TakesMessages (m ∷ ms) s t = (is_command m ≡ true) × (error_in (chunk_in m s).effects ≡ None) × TakesMessages ms (chunk_in m s).state t
 
 -- THE MESSAGE AT A PLACE comes to a switch that has taken those before it
 pub record ComesTo (messages : List (List ℕ)) (place : ℕ) (m : List ℕ) (s : State) : Type 0 where
@@ -15,4 +15,4 @@ pub record ComesTo (messages : List (List ℕ)) (place : ℕ) (m : List ℕ) (s 
   pub later : List (List ℕ)
   pub parted : messages ≡ before ++ m ∷ later
   pub place_is : length before ≡ place
-  pub taken : Takes before greeted s
+  pub taken : TakesMessages before greeted s

@@ -24,18 +24,18 @@ abbrev pub is_command : List ℕ → Bool
 is_command m = nat_le 8 (length m) && (length_of m == length m && (type_of m == GROUP_MOD || type_of m == FLOW_MOD))
 
 -- the code of an ERROR (7.4.4); None of another message
-abbrev pub code_of : List ℕ → Option Code
-code_of m = if type_of m == ERROR && nat_le 12 (length m) then Some (record { kind = big_number 2 (drop 8 m); code = big_number 2 (drop 10 m) }) else None
+abbrev pub error_code_in : List ℕ → Option Code
+error_code_in m = if type_of m == ERROR && nat_le 12 (length m) then Some (record { kind = big_number 2 (drop 8 m); code = big_number 2 (drop 10 m) }) else None
 
 -- this, or else that
-abbrev pub or_else : Option Code → Option Code → Option Code
-or_else None other = other
-or_else (Some code) other = Some code
+abbrev pub code_or_else : Option Code → Option Code → Option Code
+code_or_else None other = other
+code_or_else (Some code) other = Some code
 
 -- the code of the first ERROR among effects
 abbrev pub error_in : List Effect → Option Code
 error_in [] = None
-error_in (Answer m ∷ effects) = or_else (code_of m) (error_in effects)
+error_in (Answer m ∷ effects) = code_or_else (error_code_in m) (error_in effects)
 error_in (Sent port frame ∷ effects) = error_in effects
 error_in (Closed ∷ effects) = error_in effects
 
@@ -50,16 +50,16 @@ abbrev pub IsReady : State → Type 0
 IsReady s = s.connection ≡ record { phase = Open; pending = [] }
 
 -- what follows a message, unless that is answered by an ERROR
-abbrev pub unless_refused : Option Code → ℕ → Result Configuration ConfigFault → Result Configuration ConfigFault
-unless_refused None place later = later
-unless_refused (Some code) place later = Err (Refused place code)
+abbrev pub later_unless_refused : Option Code → ℕ → Result Configuration ConfigFault → Result Configuration ConfigFault
+later_unless_refused None place later = later
+later_unless_refused (Some code) place later = Err (Refused place code)
 
 -- the configuration of the switch after the messages, of which the first has this place; or the first that is no command or is answered by an ERROR
 abbrev pub config_from : ℕ → List (List ℕ) → State → Result Configuration ConfigFault
 config_from place [] s = Ok (config_of s)
 config_from place (m ∷ ms) s =
     let sent = chunk_in m s in
-    if is_command m then unless_refused (error_in sent.effects) place (config_from (place + 1) ms sent.state) else Err (NotACommand place)
+    if is_command m then later_unless_refused (error_in sent.effects) place (config_from (place + 1) ms sent.state) else Err (NotACommand place)
 
 -- THE CONFIGURATION OF A LIST OF MESSAGES
 unfoldable pub config_by : List (List ℕ) → Result Configuration ConfigFault

@@ -4,8 +4,8 @@ ghost use Rattle.std.specs.List.{AllByRecursion};
 ghost use Rattle.of_text.specs.Groups.{group_rows};
 ghost use Rattle.of_text.specs.Rows.{Fits};
 ghost use Rattle.of_text.specs.Views.{view, view_group};
-ghost use Rattle.of_config.specs.Built.{IsFlow, IsGroup, Listed as AllListed, added, config_listed, config_said, earlier, flow_said, group_said, listed, listed_by, nothing_listed, place_of as place_is, said};
-ghost use Rattle.of_config.specs.BuiltViews.{IsSoundListed, IsSoundSaid, StandsInText, joined, or_later, view_said};
+ghost use Rattle.of_config.specs.Built.{IsFlow, IsGroup, Listed as AllListed, added_by_message, config_listed, config_said, earlier, flow_said, new_group_text, listed_messages, listed_by, nothing_listed, fault_place as place_is, message_said};
+ghost use Rattle.of_config.specs.BuiltViews.{IsSoundListed, IsSoundSaid, StandsInText, joined_with_later, or_later, view_said};
 
 use crate::fault::ConfigFault;
 use of_groups::Group;
@@ -29,7 +29,7 @@ enum Said {
 }
 
 fn group_from(alloc: Global, group: NewGroup) -> Result<GroupText, AllocError>
-    ensures text { IfOk result (λ g. view_group g ≡ group_said group) }
+    ensures text { IfOk result (λ g. view_group g ≡ new_group_text group) }
     ensures fits { IfOk result (λ g. AllByRecursion Fits (group_rows (view_group g))) }
 {
     let NewGroup { id, kind, buckets } = group;
@@ -61,7 +61,7 @@ fn flow_from(alloc: Global, flow_mod: &FlowMod) -> Result<FlowText, AllocError>
 
 // What a message that was read adds.
 fn said_of(alloc: Global, message: Message) -> Result<Said, AllocError>
-    ensures says { IfOk result (λ s. view_said s ≡ added message) }
+    ensures says { IfOk result (λ s. view_said s ≡ added_by_message message) }
     ensures sound { IfOk result IsSoundSaid }
 {
     match message {
@@ -79,7 +79,7 @@ fn said_of(alloc: Global, message: Message) -> Result<Said, AllocError>
 
 // What the bytes of a message add.
 fn read(alloc: Global, message: &[u8]) -> Result<Said, AllocError>
-    ensures says { IfOk result (λ s. view_said s ≡ said message.now) }
+    ensures says { IfOk result (λ s. view_said s ≡ message_said message.now) }
     ensures sound { IfOk result IsSoundSaid }
 {
     match read_message(alloc, message) {
@@ -103,7 +103,7 @@ struct Listed {
 
 impl Listed {
     fn new(alloc: Global) -> Self
-        ensures nothing { (later : AllListed) → joined result later ≡ later }
+        ensures nothing { (later : AllListed) → joined_with_later result later ≡ later }
         ensures least { result.least ≡ 0 }
         ensures sound { IsSoundListed result }
     {
@@ -132,7 +132,7 @@ impl Listed {
         requires fits { AllByRecursion Fits (group_rows (view_group group)) }
         requires sound { IsSoundListed self.old }
         ensures goes_on { OnOk result ((rest : ℕ → AllListed) →
-            joined self.old (listed_by place self.old.least (IsGroup (view_group group)) rest) ≡ joined self.new (rest self.new.least)) }
+            joined_with_later self.old (listed_by place self.old.least (IsGroup (view_group group)) rest) ≡ joined_with_later self.new (rest self.new.least)) }
         ensures sound { OnOk result (IsSoundListed self.new) }
     {
         let id = u64::from(group.head.id);
@@ -151,7 +151,7 @@ impl Listed {
         requires stands { StandsInText (view flow) }
         requires sound { IsSoundListed self.old }
         ensures goes_on { OnOk result ((rest : ℕ → AllListed) →
-            joined self.old (listed_by place self.old.least (IsFlow (view flow)) rest) ≡ joined self.new (rest self.new.least)) }
+            joined_with_later self.old (listed_by place self.old.least (IsFlow (view flow)) rest) ≡ joined_with_later self.new (rest self.new.least)) }
         ensures sound { OnOk result (IsSoundListed self.new) }
     {
         self.places.push(place)?;
@@ -166,7 +166,7 @@ impl Listed {
         requires sound { IsSoundListed self.old }
         // Whatever follows it.
         ensures goes_on { OnOk result ((rest : ℕ → AllListed) →
-            joined self.old (listed_by place self.old.least (view_said said) rest) ≡ joined self.new (rest self.new.least)) }
+            joined_with_later self.old (listed_by place self.old.least (view_said said) rest) ≡ joined_with_later self.new (rest self.new.least)) }
         ensures sound { OnOk result (IsSoundListed self.new) }
     {
         match said {
@@ -186,7 +186,7 @@ impl Listed {
 
 // What the messages add.
 fn list_of(alloc: Global, messages: &[Bytes]) -> Result<Listed, AllocError>
-    ensures listed { IfOk result (λ l. joined l nothing_listed ≡ listed 0 0 messages.now) }
+    ensures listed { IfOk result (λ l. joined_with_later l nothing_listed ≡ listed_messages 0 0 messages.now) }
     ensures sound { IfOk result IsSoundListed }
 {
     let mut all = Listed::new(alloc);
@@ -228,8 +228,8 @@ fn earlier_of(fault: Option<ConfigFault>, refused: ConfigFault) -> ConfigFault
 // The configuration of all that was added, or the first fault.
 fn configured(alloc: Global, all: Listed) -> Result<Config, ConfigFault>
     requires { IsSoundListed all }
-    ensures given { IfOk result (λ config. config_listed (joined all nothing_listed) ≡ Ok config) }
-    ensures failed { IfErr result (λ fault. (fault ≡ ConfigFault.NoMemory) ⊎ (config_listed (joined all nothing_listed) ≡ Err fault)) }
+    ensures given { IfOk result (λ config. config_listed (joined_with_later all nothing_listed) ≡ Ok config) }
+    ensures failed { IfErr result (λ fault. (fault ≡ ConfigFault.NoMemory) ⊎ (config_listed (joined_with_later all nothing_listed) ≡ Err fault)) }
 {
     let Listed {
         places,

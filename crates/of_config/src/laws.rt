@@ -10,7 +10,7 @@ ghost use Rattle.of_switch.specs.Steps.{gives};
 ghost use Rattle.of_switch.specs.Runs.{chunk_in};
 ghost use Rattle.of_switch.specs.Loading.{config_of};
 ghost use Rattle.of_config.specs.declared.fault.ConfigFault.TheVariants.{NoMemory, NotACommand, Refused};
-ghost use Rattle.of_config.specs.Outcomes.{ComesTo, Takes};
+ghost use Rattle.of_config.specs.Outcomes.{ComesTo, TakesMessages};
 ghost use Rattle.of_config.specs.Built.{config_said};
 ghost use Rattle.of_build.specs.Listing.{flow_adds, group_adds, messages_of};
 ghost use Rattle.of_config.specs.Sending.{config_by, greeted, is_command};
@@ -31,7 +31,8 @@ pub fn messages_by_number_build_it()
 /// Where it takes all, the configuration is the switch's. Of one that is refused, the ERROR with its first 64 bytes is all that
 /// the switch gives, and it is as before. One that is no command is not sent.
 pub fn each_is_taken_or_the_first_is_named()
-    ensures given { (messages : List (List ℕ)) (c : Configuration) → config_by messages ≡ Ok c → (s : State) × Takes messages greeted s × (config_of s ≡ c) }
+    ensures given { (messages : List (List ℕ)) (c : Configuration) → config_by messages ≡ Ok c →
+        (s : State) × TakesMessages messages greeted s × (config_of s ≡ c) }
     ensures refused { (messages : List (List ℕ)) (place : ℕ) (code : Code) → config_by messages ≡ Err (Refused place code)
         → (m : List ℕ) × (s : State) × ComesTo messages place m s × (is_command m ≡ true) ×
         (chunk_in m s ≡ gives (Answer (error_bytes (xid_of m) code (take 64 m)) ∷ []) s) }

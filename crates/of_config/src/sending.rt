@@ -1,7 +1,7 @@
 //! The configuration that messages give.
 ghost use Rattle.std.specs.Prelude.{◌≡◌, ◌+◌, ◌⊎◌, ℕ, List, ◌∷◌, true, Ok, Err, IfOk, IfErr, OnOk};
 ghost use Rattle.of_switch.specs.Runs.{chunk_in};
-ghost use Rattle.of_config.specs.Sending.{IsReady, code_of as code_is, config_by, config_from, error_in, greeted as greeted_switch, is_command as is_one_command};
+ghost use Rattle.of_config.specs.Sending.{IsReady, error_code_in as code_is, config_by, config_from, error_in, greeted as greeted_switch, is_command as is_one_command};
 
 use crate::fault::ConfigFault;
 use byteorder::{BigEndian, ByteOrder};

@@ -19,7 +19,7 @@ use Rattle.of_groups.specs.declared.group.Group.{Group}
 use Rattle.of_groups.specs.declared.group.GroupKind.{GroupKind}
 use Rattle.of_groups.specs.declared.group.GroupKind.TheVariants.{All, Indirect, FastFailover}
 use Rattle.of_groups.specs.Buckets.{sends, any_sends, watches, is_badly_watched, are_fit, is_fit as is_fit_bucket}
-use Rattle.of_groups.specs.Groups.{number_of, find_group, is_there, any_named, any_watches, names}
+use Rattle.of_groups.specs.Groups.{group_number, find_group, is_there, any_named, any_watches, names}
 use Rattle.of_groups.specs.Chains.{names_next, is_chain}
 use Rattle.of_groups.specs.Faults.{is_absent, is_bad_watch, is_not_one}
 use Rattle.of_groups.specs.Sound.{is_fit_group, AreSound as AreSoundGroups}
@@ -28,13 +28,13 @@ use Rattle.of_table.specs.Table.{FlowEntry, Table, empty_table, kept_flags, flag
 use Rattle.of_table.specs.Tables.{NumberedTables, tables_of, table_at}
 use Rattle.of_table.specs.declared.entry.Entry.{Entry}
 use Rattle.of_table.specs.Entries.{Numbered, no_entries, flows_of, table_of}
-use Rattle.of_table.specs.Sound.{AreSound, Key, key_of, is_same_key, are_unlike, is_fit, is_checked}
+use Rattle.of_table.specs.Sound.{AreSoundEntries, Key, entry_key, is_same_key, are_unlike, is_entry_fit, is_checked}
 use Rattle.of_table.specs.Selecting.{has_action}
 use Rattle.of_table.proofs.AddLemmas.{same_is, is_itself}
 use Rattle.of_ports.specs.declared.port.Port.{Port}
 use Rattle.of_text.specs.Flows.{Flow as TextFlow}
 use Rattle.of_text.specs.Groups.{TextBucket, TextGroup, bucket_of, bucket_text, group_at, groups_at, group_text, rows_of_groups}
-use Rattle.of_text.specs.Refusals.{names_absent, is_same as is_same_text}
+use Rattle.of_text.specs.Refusals.{names_absent, has_same_match as is_same_text}
 use Rattle.of_text.specs.Rows.{Fits}
 use Rattle.of_text.specs.Kept.{AllStandBehind, AreKeptGroups, IsEntry, IsKeptFlow, in_text, step_of, instruction_of}
 use Rattle.of_text.specs.KeptConfigs.{IsHeaded, AreKeptFlows, AreKeptTables, IsKeptConfig}
@@ -192,7 +192,7 @@ above_bare : (n : ℕ) (gs : List Group) → list_all (λ (h : Group). ltb n h.i
 above_bare n [] = refl
 above_bare n (g ∷ gs) = ap (λ (b : Bool). ltb n g.id && b) (above_bare n gs)
 
-rising_bare : (gs : List Group) → is_ascending number_of (map bare gs) ≡ is_ascending number_of gs
+rising_bare : (gs : List Group) → is_ascending group_number (map bare gs) ≡ is_ascending group_number gs
 rising_bare [] = refl
 rising_bare (g ∷ gs) = rw (above_bare g.id gs, rising_bare gs) refl
 
@@ -306,15 +306,15 @@ none_in p (x ∷ xs) y ys h = none_in p xs y ys (by_test (p x) h)
     by_test true e = absurd cc
     by_test false e = e
 
-before_unlike : (table : ℕ) (before : List FlowEntry) (e : FlowEntry) (after : List FlowEntry) → are_unlike (map key_of (before ++ e ∷ after)) ≡ true → list_any (is_same_text (entry_text table e)) (map (entry_text table) before) ≡ false
+before_unlike : (table : ℕ) (before : List FlowEntry) (e : FlowEntry) (after : List FlowEntry) → are_unlike (map entry_key (before ++ e ∷ after)) ≡ true → list_any (is_same_text (entry_text table e)) (map (entry_text table) before) ≡ false
 before_unlike table [] e after h = refl
 before_unlike table (b ∷ bs) e after h =
-    let parts = and_parts (not (list_any (is_same_key (key_of b)) (map key_of (bs ++ e ∷ after)))) (are_unlike (map key_of (bs ++ e ∷ after))) h in
-    let none : list_any (is_same_key (key_of b)) (map key_of bs ++ key_of e ∷ map key_of after) ≡ false = rw (map-append key_of bs (e ∷ after)) at (not_true _ parts.0) in
-    let one : is_same_key (key_of e) (key_of b) ≡ false = turned_key (key_of b) (key_of e) (none_in (is_same_key (key_of b)) (map key_of bs) (key_of e) (map key_of after) none) in
+    let parts = and_parts (not (list_any (is_same_key (entry_key b)) (map entry_key (bs ++ e ∷ after)))) (are_unlike (map entry_key (bs ++ e ∷ after))) h in
+    let none : list_any (is_same_key (entry_key b)) (map entry_key bs ++ entry_key e ∷ map entry_key after) ≡ false = rw (map-append entry_key bs (e ∷ after)) at (not_true _ parts.0) in
+    let one : is_same_key (entry_key e) (entry_key b) ≡ false = turned_key (entry_key b) (entry_key e) (none_in (is_same_key (entry_key b)) (map entry_key bs) (entry_key e) (map entry_key after) none) in
     rw (one, before_unlike table bs e after parts.1) refl
 
-entries_stand : (gs : List Group) (table : ℕ) (before flows : List FlowEntry) → are_unlike (map key_of (before ++ flows)) ≡ true → length before + length flows ≤ 4096 → list_all (names_existing_groups gs) flows ≡ true
+entries_stand : (gs : List Group) (table : ℕ) (before flows : List FlowEntry) → are_unlike (map entry_key (before ++ flows)) ≡ true → length before + length flows ≤ 4096 → list_all (names_existing_groups gs) flows ≡ true
     → AllStandBehind (map group_text gs) (map (entry_text table) before) (map (entry_text table) flows)
 entries_stand gs table before [] u l h = tt
 entries_stand gs table before (e ∷ flows) u l h =
@@ -339,40 +339,40 @@ entries_headed : (table : ℕ) (flows : List FlowEntry) → AllByRecursion (λ (
 entries_headed table [] h = tt
 entries_headed table (e ∷ flows) h = ((refl, h.0.head), entries_headed table flows h.1)
 
-entries_are : (table : ℕ) (flows : List FlowEntry) → AllByRecursion (λ (e : FlowEntry). IsKeptFlow (flow_kept table e.flow)) flows → list_all (is_fit table) flows ≡ true → list_all is_checked flows ≡ true → AllByRecursion (IsEntry table) (map (entry_text table) flows)
+entries_are : (table : ℕ) (flows : List FlowEntry) → AllByRecursion (λ (e : FlowEntry). IsKeptFlow (flow_kept table e.flow)) flows → list_all (is_entry_fit table) flows ≡ true → list_all is_checked flows ≡ true → AllByRecursion (IsEntry table) (map (entry_text table) flows)
 entries_are table [] h f c = tt
 entries_are table (e ∷ flows) h f c =
-    let fits = and_parts (is_fit table e) (list_all (is_fit table) flows) f in
+    let fits = and_parts (is_entry_fit table e) (list_all (is_entry_fit table) flows) f in
     let checks = and_parts (is_checked e) (list_all is_checked flows) c in
     let leads = and_parts (are_kept e.flow.instructions) (are_for table e.flow.instructions) fits.0 in
     let again = instructions_again e.flow.instructions in
     (record { fields = h.0.fields; kept = rw again leads.0; leads_on = rw again leads.1; checked = rw again checks.0 }, entries_are table flows h.1 fits.1 checks.1)
 
-table_kept : (gs : List Group) (table : ℕ) (flows : List FlowEntry) → AreSound table flows → AllByRecursion (λ (e : FlowEntry). IsKeptFlow (flow_kept table e.flow)) flows → list_all (names_existing_groups gs) flows ≡ true → AreKeptFlows (map group_text gs) table (map (entry_text table) flows)
+table_kept : (gs : List Group) (table : ℕ) (flows : List FlowEntry) → AreSoundEntries table flows → AllByRecursion (λ (e : FlowEntry). IsKeptFlow (flow_kept table e.flow)) flows → list_all (names_existing_groups gs) flows ≡ true → AreKeptFlows (map group_text gs) table (map (entry_text table) flows)
 table_kept gs table flows s k h = record {
   heads = entries_headed table flows k;
   entries = entries_are table flows k s.fit s.checked;
   stand = entries_stand gs table [] flows s.unlike (omega (arith, s.few)) h;
 }
 
-tables_kept : (gs : List Group) (k : ℕ) (ts : List Table) → ((j : ℕ) → j < length ts → AreSound (k + j) (slice_index_or ts j empty_table).flows) → AreKeptFrom k ts → list_all (all_name_existing_groups gs) ts ≡ true → AreKeptTables (map group_text gs) k (texts_from k ts)
+tables_kept : (gs : List Group) (k : ℕ) (ts : List Table) → ((j : ℕ) → j < length ts → AreSoundEntries (k + j) (slice_index_or ts j empty_table).flows) → AreKeptFrom k ts → list_all (all_name_existing_groups gs) ts ≡ true → AreKeptTables (map group_text gs) k (texts_from k ts)
 tables_kept gs k [] s h n = tt
 tables_kept gs k (t ∷ ts) s h n =
     let parts = and_parts (all_name_existing_groups gs t) (list_all (all_name_existing_groups gs) ts) n in
     let zero_is : k + 0 ≡ k = omega arith in
-    let here : AreSound k t.flows = subst (λ (m : ℕ). AreSound m t.flows) zero_is (s 0 (omega arith)) in
-    (table_kept gs k t.flows here h.0 parts.0, tables_kept gs (suc k) ts (λ j l. let is : k + suc j ≡ suc k + j = omega arith in subst (λ (m : ℕ). AreSound m (slice_index_or ts j empty_table).flows) is (s (suc j) (omega (arith, l)))) h.1 parts.1)
+    let here : AreSoundEntries k t.flows = subst (λ (m : ℕ). AreSoundEntries m t.flows) zero_is (s 0 (omega arith)) in
+    (table_kept gs k t.flows here h.0 parts.0, tables_kept gs (suc k) ts (λ j l. let is : k + suc j ≡ suc k + j = omega arith in subst (λ (m : ℕ). AreSoundEntries m (slice_index_or ts j empty_table).flows) is (s (suc j) (omega (arith, l)))) h.1 parts.1)
 
 texts_length : (k : ℕ) (ts : List Table) → length (texts_from k ts) ≡ length ts
 texts_length k [] = refl
 texts_length k (t ∷ ts) = ap suc (texts_length (suc k) ts)
 
-pub kept_config : (n : NumberedTables) (gs : List Group) (ports : List Port) (held : HeldFrames) (groups : List TextGroup) (tables : List (List TextFlow)) → length n.tables ≡ 16 → ((k : ℕ) → AreSound k (table_at k (tables_of n)).flows) → AreSoundGroups gs → GroupsExist (without_numbers n gs ports held)
+pub kept_config : (n : NumberedTables) (gs : List Group) (ports : List Port) (held : HeldFrames) (groups : List TextGroup) (tables : List (List TextFlow)) → length n.tables ≡ 16 → ((k : ℕ) → AreSoundEntries k (table_at k (tables_of n)).flows) → AreSoundGroups gs → GroupsExist (without_numbers n gs ports held)
     → groups ≡ map group_text gs → AllByRecursion Fits (rows_of_groups groups) → tables ≡ texts_from 0 (tables_of n).tables → AreKeptFrom 0 (tables_of n).tables → IsKeptConfig (record { groups = groups; tables = tables })
 kept_config n gs ports held groups tables many sound groups_sound standing g fits t kept =
     let count : length (texts_from 0 (tables_of n).tables) ≡ 16 = texts_length 0 (tables_of n).tables ∙ (length-map n.tables table_of ∙ many) in
     let groups_are : AreKeptGroups (map group_text gs) = groups_kept gs groups_sound standing.numbers (rw g at fits) in
-    let tables_are = tables_kept gs 0 (tables_of n).tables (λ j l. let zero_is : 0 + j ≡ j = omega arith in subst (λ (m : ℕ). AreSound m (table_at j (tables_of n)).flows) (sym zero_is) (sound j)) kept standing.entries in
+    let tables_are = tables_kept gs 0 (tables_of n).tables (λ j l. let zero_is : 0 + j ≡ j = omega arith in subst (λ (m : ℕ). AreSoundEntries m (table_at j (tables_of n)).flows) (sym zero_is) (sound j)) kept standing.entries in
     rw (g, t) (record { groups = groups_are; sixteen = count; tables = tables_are })
 
 -- ---- table by table

@@ -10,11 +10,11 @@ use Rattle.of_machine.specs.declared.data.Packet.{Packet}
 use Rattle.of_machine.specs.Growth.{AllShort, frame_of}
 use Rattle.of_machine.specs.Rows.{Work}
 use Rattle.of_machine.specs.Runs.{Machine, run_of}
-use Rattle.of_machine.specs.Renumbering.{renumbered}
+use Rattle.of_machine.specs.Renumbering.{renumbered_machine}
 use Rattle.of_machine.proofs.Renumbering.{run_is_renumbered}
 use Rattle.of_datapath.specs.declared.control.AsyncConfig.{AsyncConfig}
 use Rattle.of_datapath.specs.declared.effect.Effect.{Effect}
-use Rattle.of_datapath.specs.Told.{each_told, effects_of, frames_for, given, held_after}
+use Rattle.of_datapath.specs.Told.{each_told, effects_of, frames_for, given_items, held_after}
 use Rattle.of_datapath.specs.Applying.{with_held, with_reception, without_used}
 use Rattle.of_datapath.specs.declared.reception.Reception.{Reception}
 use Rattle.of_datapath.specs.Datapath.{Forwarding, world_of, applied, forwards, all_sent, all_tallied}
@@ -24,7 +24,7 @@ use Rattle.of_datapath.proofs.Worlds.{AreDistinct, renumbered_world}
 
 -- what is done by places, of a run by numbers
 by_places : (heard : AsyncConfig) (seen : List Port) (p : Packet) (work : List Work) (t : NumberedTables) (groups : List Group) (ports : List Port) (f : Forwarding) → AreDistinct t
-    → applied heard seen (run_of (world_of (without_numbers t groups ports none_held)) p work) f ≡ applied heard seen (renumbered (place_in t) (run_of (numbered_world t groups ports) p work)) f
+    → applied heard seen (run_of (world_of (without_numbers t groups ports none_held)) p work) f ≡ applied heard seen (renumbered_machine (place_in t) (run_of (numbered_world t groups ports) p work)) f
 by_places heard seen p work t groups ports f distinct =
     ap (λ (m : Machine). applied heard seen m f)
     (run_is_renumbered (place_in t) (numbered_world t groups ports) (world_of (without_numbers t groups ports none_held)) (renumbered_world t groups ports distinct) p work)
@@ -37,21 +37,21 @@ pub way_is : (heard : AsyncConfig) (p packet : Packet) (work : List Work) (t : N
     → counts ≡ (run_of (numbered_world t groups ports) packet work).counts
     → seen ≡ ports
     → next ≡ before.held.next
-    → effects ≡ each_told heard next (given heard seen items)
-    → after ≡ all_sent effects (all_tallied (all_placed t counts) (record before { held = hold_all (flat_map (frames_for heard) (given heard seen items)) before.held }))
+    → effects ≡ each_told heard next (given_items heard seen items)
+    → after ≡ all_sent effects (all_tallied (all_placed t counts) (record before { held = hold_all (flat_map (frames_for heard) (given_items heard seen items)) before.held }))
     → applied heard ports (run_of (world_of (without_numbers t groups ports none_held)) p work) before ≡ forwards effects after
 way_is heard p packet work t groups ports items counts effects seen next before after distinct enters is_items is_counts same id told ends =
     let m = run_of (numbered_world t groups ports) p work in
     let the_items : items ≡ m.items = is_items ∙ ap (λ (q : Packet). (run_of (numbered_world t groups ports) q work).items) enters in
     let the_counts : counts ≡ m.counts = is_counts ∙ ap (λ (q : Packet). (run_of (numbered_world t groups ports) q work).counts) enters in
-    let the_given : given heard seen items ≡ given heard ports m.items = ap (given heard seen) the_items ∙ ap (λ (ps : List Port). given heard ps m.items) same in
+    let the_given : given_items heard seen items ≡ given_items heard ports m.items = ap (given_items heard seen) the_items ∙ ap (λ (ps : List Port). given_items heard ps m.items) same in
     let the_effects : effects ≡ effects_of heard ports before.held m.items =
-    told ∙ ap (λ (n : ℕ). each_told heard n (given heard seen items)) id ∙ ap (each_told heard before.held.next) the_given in
+    told ∙ ap (λ (n : ℕ). each_told heard n (given_items heard seen items)) id ∙ ap (each_told heard before.held.next) the_given in
     let left : List Item → Forwarding = λ is. record before { held = hold_all (flat_map (frames_for heard) is) before.held } in
     let ended : after ≡ all_sent (effects_of heard ports before.held m.items) (all_tallied (all_placed t m.counts) (record before { held = held_after heard ports before.held m.items })) =
     ends ∙ ap (λ (is : List Item). all_sent effects (all_tallied (all_placed t counts) (left is))) the_given
-    ∙ ap (λ (es : List Effect). all_sent es (all_tallied (all_placed t counts) (left (given heard ports m.items)))) the_effects
-    ∙ ap (λ (cs : List Count). all_sent (effects_of heard ports before.held m.items) (all_tallied (all_placed t cs) (left (given heard ports m.items)))) the_counts in
+    ∙ ap (λ (es : List Effect). all_sent es (all_tallied (all_placed t counts) (left (given_items heard ports m.items)))) the_effects
+    ∙ ap (λ (cs : List Count). all_sent (effects_of heard ports before.held m.items) (all_tallied (all_placed t cs) (left (given_items heard ports m.items)))) the_counts in
     by_places heard ports p work t groups ports before distinct
     ∙ (ap (λ (g : Forwarding). forwards (effects_of heard ports before.held m.items) g) (sym ended)
     ∙ ap (λ (es : List Effect). forwards es after) (sym the_effects))
@@ -65,11 +65,11 @@ pub went : (heard : AsyncConfig) (p packet : Packet) (work : List Work) (t : Num
     → mid ≡ contents t groups ports held
     → held.next ≡ before.held.next
     → ((frames : List Held) → with_held id frames (with_reception reception (without_numbers t groups ports held)) ≡ record before { held = hold_all frames before.held })
-    → effects ≡ each_told heard mid.held.next (given heard mid.ports items)
-    → after ≡ all_sent effects (all_tallied (all_placed mid.tables counts) (with_held id (flat_map (frames_for heard) (given heard mid.ports items)) (with_reception reception (without_numbers mid.tables mid.groups mid.ports mid.held))))
+    → effects ≡ each_told heard mid.held.next (given_items heard mid.ports items)
+    → after ≡ all_sent effects (all_tallied (all_placed mid.tables counts) (with_held id (flat_map (frames_for heard) (given_items heard mid.ports items)) (with_reception reception (without_numbers mid.tables mid.groups mid.ports mid.held))))
     → applied heard ports (run_of (world_of (without_numbers t groups ports none_held)) p work) before ≡ forwards effects after
 went heard p packet work t groups ports held mid items counts effects reception id before after distinct enters is_items is_counts same next begins told ends =
-    let frames = flat_map (frames_for heard) (given heard mid.ports items) in
+    let frames = flat_map (frames_for heard) (given_items heard mid.ports items) in
     let here : after ≡ all_sent effects (all_tallied (all_placed t counts) (record before { held = hold_all frames before.held })) =
     ends ∙ ap (λ (k : Contents). all_sent effects (all_tallied (all_placed k.tables counts) (with_held id frames (with_reception reception (without_numbers k.tables k.groups k.ports k.held))))) same
     ∙ ap (λ (f : Forwarding). all_sent effects (all_tallied (all_placed t counts) f)) (begins frames) in

@@ -9,7 +9,7 @@ use Rattle.of_machine.specs.declared.data.Item.TheVariants.{Sent, PacketIn}
 use Rattle.of_machine.specs.declared.data.ToController.{ToController}
 use Rattle.of_ports.specs.declared.port.Port.{Port}
 use Rattle.of_datapath.specs.declared.control.AsyncConfig.{AsyncConfig}
-use Rattle.of_datapath.specs.Told.{each_told, effect_of, effects_of, frames_for, given, held_after, held_of, id_after, id_after_all, is_held, limit_of, packet_in_of}
+use Rattle.of_datapath.specs.Told.{each_told, effect_of, effects_of, frames_for, given_items, held_after, held_of, id_after, id_after_all, is_held, limit_of, packet_in_of}
 
 module _ (heard : AsyncConfig) where
   -- an item is told at its place
@@ -42,7 +42,7 @@ module _ (heard : AsyncConfig) where
       let last : (hold_all (flat_map (frames_for heard) first ++ held_of p ∷ flat_map (frames_for heard) more) b).next ≡ id_after_all heard b.next (first ++ PacketIn p ∷ more) = ap (λ (hs : List Held). (hold_all hs b).next) (sym (frames_are first more p e)) ∙ next_is b (first ++ PacketIn p ∷ more) in
       others_under (flat_map (frames_for heard) first) (flat_map (frames_for heard) more) (held_of p) b n few (last ∙ (same ∙ sym (next_is b first)))
 
-  module _ (ports : List Port) (b : HeldFrames) (items first rest : List Item) (p : ToController) (split : given heard ports items ≡ first ++ PacketIn p ∷ rest) where
+  module _ (ports : List Port) (b : HeldFrames) (items first rest : List Item) (p : ToController) (split : given_items heard ports items ≡ first ++ PacketIn p ∷ rest) where
     told_as : slice_get (effects_of heard ports b items) (length first) ≡ Some (effect_of heard (id_after_all heard b.next first) (PacketIn p))
     told_as = ap (λ (is : List Item). slice_get (each_told heard b.next is) (length first)) split ∙ told_at b.next first rest (PacketIn p)
 
@@ -56,7 +56,7 @@ module _ (heard : AsyncConfig) where
     found n e few =
         let fs = flat_map (frames_for heard) first in
         let rs = flat_map (frames_for heard) rest in
-        let all : flat_map (frames_for heard) (given heard ports items) ≡ fs ++ held_of p ∷ rs = ap (flat_map (frames_for heard)) split ∙ frames_are first rest p e in
+        let all : flat_map (frames_for heard) (given_items heard ports items) ≡ fs ++ held_of p ∷ rs = ap (flat_map (frames_for heard)) split ∙ frames_are first rest p e in
         ap (λ (id : ℕ). held id (held_after heard ports b items)) (sym (next_is b first))
         ∙ (ap (λ (hs : List Held). held (hold_all fs b).next (hold_all hs b)) all
         ∙ held_under fs rs (held_of p) b n few)

@@ -6,7 +6,7 @@ use Rattle.std.specs.List.{AllByRecursion, list_any}
 use Rattle.std.proofs.lemmas.List.{append-nil, map-append, length-map}
 use Rattle.of_text.specs.declared.flow.FlowText.{FlowText}
 use Rattle.of_text.specs.Flows.{Flow as TextFlow}
-use Rattle.of_text.specs.Refusals.{is_same as is_same_text}
+use Rattle.of_text.specs.Refusals.{has_same_match as is_same_text}
 use Rattle.of_text.specs.Groups.{TextGroup}
 use Rattle.of_text.specs.Kept.{IsEntry, AllStandBehind}
 use Rattle.of_text.specs.Views.{view, view_flows}
@@ -15,18 +15,18 @@ use Rattle.of_table.specs.Tables.{Tables, NumberedTables, no_tables, tables_of, 
 use Rattle.of_table.specs.Entries.{table_of}
 use Rattle.of_table.specs.declared.selection.Cause.TheVariants.{Moment}
 use Rattle.of_table.proofs.PlaceLemmas.{find_none, filter_others}
-use Rattle.of_datapath.specs.Loading.{flow_in, loaded_entry, loaded_table, loaded_tables}
+use Rattle.of_datapath.specs.Loading.{loaded_flow, loaded_entry, loaded_table, loaded_tables}
 
 -- ---- one more flow
 
-same_any : (now : ℕ) (f : TextFlow) (before : List TextFlow) → list_any (is_same (flow_in f)) (map (loaded_entry now) before) ≡ list_any (is_same_text f) before
+same_any : (now : ℕ) (f : TextFlow) (before : List TextFlow) → list_any (is_same (loaded_flow f)) (map (loaded_entry now) before) ≡ list_any (is_same_text f) before
 same_any now f [] = refl
 same_any now f (g ∷ gs) = rw (same_any now f gs) refl
 
-added_last : (now : ℕ) (f : TextFlow) (before : List TextFlow) → list_any (is_same_text f) before ≡ false → added now (flow_in f) (map (loaded_entry now) before) ≡ map (loaded_entry now) (before ++ f ∷ [])
+added_last : (now : ℕ) (f : TextFlow) (before : List TextFlow) → list_any (is_same_text f) before ≡ false → added now (loaded_flow f) (map (loaded_entry now) before) ≡ map (loaded_entry now) (before ++ f ∷ [])
 added_last now f before h =
-    let none : list_any (is_same (flow_in f)) (map (loaded_entry now) before) ≡ false = same_any now f before ∙ h in
-    rw (find_none (is_same (flow_in f)) (map (loaded_entry now) before) none, filter_others (is_same (flow_in f)) (map (loaded_entry now) before) none)
+    let none : list_any (is_same (loaded_flow f)) (map (loaded_entry now) before) ≡ false = same_any now f before ∙ h in
+    rw (find_none (is_same (loaded_flow f)) (map (loaded_entry now) before) none, filter_others (is_same (loaded_flow f)) (map (loaded_entry now) before) none)
     (sym (map-append (loaded_entry now) before (f ∷ [])))
 
 get_set : {X : Type 0} (xs : List X) (k : ℕ) (x d : X) → k < length xs → get_or (set xs k x) k d ≡ x
@@ -45,7 +45,7 @@ set_same {X} (y ∷ xs) zero x d lt is = ap (λ (z : X). z ∷ xs) (sym is)
 set_same {X} (y ∷ xs) (suc k) x d lt is = ap (λ (ys : List X). y ∷ ys) (set_same xs k x d (omega (arith, lt)) is)
 
 -- nothing refuses it
-pub no_fault : (k : ℕ) (f : TextFlow) (ts : Tables) → k < 16 → list_any (is_same (flow_in f)) (table_at k ts).flows ≡ false → length (table_at k ts).flows < 4096 → tables_fault k (flow_in f) ts ≡ None
+pub no_fault : (k : ℕ) (f : TextFlow) (ts : Tables) → k < 16 → list_any (is_same (loaded_flow f)) (table_at k ts).flows ≡ false → length (table_at k ts).flows < 4096 → tables_fault k (loaded_flow f) ts ≡ None
 no_fault k f ts lt unlike room =
     let a : nat_le 16 k ≡ false = grind (arith, nat_tests) in
     let b : nat_le 4096 (length (table_at k ts).flows) ≡ false = grind (arith, nat_tests) in
@@ -89,25 +89,25 @@ there : (table now : ℕ) (before : List TextFlow) (old new : Tables) → table 
 there table now before old new lt is = ap (table_at table) is ∙ get_set old.tables table (loaded_table now before) empty_table lt
 
 pub loading_next : (table : ℕ) (all : List TextFlow) (left rest : List FlowText) (x : FlowText) (old new : Tables) → table < length old.tables → (l : Loading table all left old new) → left ≡ x ∷ rest
-    → IsEntry table (view x) × (list_any (is_same (flow_in (view x))) (table_at table new).flows ≡ false) × (length (table_at table new).flows < 4096)
+    → IsEntry table (view x) × (list_any (is_same (loaded_flow (view x))) (table_at table new).flows ≡ false) × (length (table_at table new).flows < 4096)
 loading_next table all left rest x old new lt l e =
     let entries : AllByRecursion (IsEntry table) (view_flows (x ∷ rest)) = subst (λ (fs : List FlowText). AllByRecursion (IsEntry table) (view_flows fs)) e l.entries in
     let stand : AllStandBehind l.groups l.before (view_flows (x ∷ rest)) = subst (λ (fs : List FlowText). AllStandBehind l.groups l.before (view_flows fs)) e l.stand in
     let at = there table old.latest l.before old new lt l.is in (
       entries.0,
-      ap (λ (t : Table). list_any (is_same (flow_in (view x))) t.flows) at ∙ (same_any old.latest (view x) l.before ∙ stand.0.unlike),
+      ap (λ (t : Table). list_any (is_same (loaded_flow (view x))) t.flows) at ∙ (same_any old.latest (view x) l.before ∙ stand.0.unlike),
       omega (arith, ap (λ (t : Table). length t.flows) at, length-map l.before (loaded_entry old.latest), stand.0.room),
     )
 
 pub loading_more : (table : ℕ) (all : List TextFlow) (left rest : List FlowText) (x : FlowText) (old now new : Tables) → table < length old.tables → Loading table all left old now → left ≡ x ∷ rest
-    → new ≡ added_to table (flow_in (view x)) now → Loading table all rest old new
+    → new ≡ added_to table (loaded_flow (view x)) now → Loading table all rest old new
 loading_more table all left rest x old now new lt l e is =
     let entries : AllByRecursion (IsEntry table) (view_flows (x ∷ rest)) = subst (λ (fs : List FlowText). AllByRecursion (IsEntry table) (view_flows fs)) e l.entries in
     let stand : AllStandBehind l.groups l.before (view_flows (x ∷ rest)) = subst (λ (fs : List FlowText). AllStandBehind l.groups l.before (view_flows fs)) e l.stand in
     let at = there table old.latest l.before old now lt l.is in
     let moment : now.latest ≡ old.latest = ap (λ (t : Tables). t.latest) l.is in
     let last = added_last old.latest (view x) l.before stand.0.unlike in
-    let table_is : record (table_at table now) { flows = added now.latest (flow_in (view x)) (table_at table now).flows } ≡ loaded_table old.latest (l.before ++ view x ∷ []) =
+    let table_is : record (table_at table now) { flows = added now.latest (loaded_flow (view x)) (table_at table now).flows } ≡ loaded_table old.latest (l.before ++ view x ∷ []) =
     rw (at, moment) (ap (λ (fs : List FlowEntry). record { lookups = 0; matched = 0; flows = fs }) last) in
     let tables_are : now.tables ≡ set old.tables table (loaded_table old.latest l.before) = ap (λ (t : Tables). t.tables) l.is in
     record {

@@ -12,7 +12,7 @@ use Rattle.of_table.specs.declared.flow.Flow.{Flow}
 use Rattle.of_table.specs.Table.{FlowEntry, Table, winner_place, flow_at}
 use Rattle.of_table.specs.Tables.{NumberedTables, tables_of, table_at}
 use Rattle.of_table.specs.Entries.{Numbered, no_entries, entry_of, flows_of, rows_of, place_of}
-use Rattle.of_table.specs.Sound.{Key, key_of, row_key}
+use Rattle.of_table.specs.Sound.{Key, entry_key, row_key}
 use Rattle.of_table.proofs.WinnerLemmas.{winner_within}
 use Rattle.of_actions.specs.InstructionLists.{are_kept, are_for}
 use Rattle.of_groups.specs.declared.group.Group.{Group}
@@ -21,7 +21,7 @@ use Rattle.of_groups.proofs.ChainLaws.{chain_at_most}
 use Rattle.of_groups.proofs.WorldLemmas.{groups_serve}
 use Rattle.of_ports.specs.declared.port.Port.{Port}
 use Rattle.of_machine.specs.Sound.{IsSound}
-use Rattle.of_ports.specs.Ports.{is_live_at, number_of}
+use Rattle.of_ports.specs.Ports.{is_live_at, number_of_port}
 use Rattle.of_actions.specs.Rising.{is_ascending}
 use Rattle.of_datapath.specs.Datapath.{world_of, winner_in, flow_in}
 use Rattle.of_buffers.specs.Buffers.{none_held}
@@ -47,7 +47,7 @@ module _ (n : NumberedTables) (groups : List Group) (ports : List Port) where
   fit_here fit t place f e = both (are_kept f.instructions) (are_for t f.instructions) (flow_fit t place (table_at t (tables_of n)).flows f (fit t).fit e)
 
   -- the invariants of the world by places
-  pub sound_by_places : AreFit n → AreSoundGroups groups → is_ascending number_of ports ≡ true → IsSound (world_of (without_numbers n groups ports none_held))
+  pub sound_by_places : AreFit n → AreSoundGroups groups → is_ascending number_of_port ports ≡ true → IsSound (world_of (without_numbers n groups ports none_held))
   sound_by_places fit sound rising = record {
     rising = rising;
     found = λ t fields place h. there t fields place h;
@@ -113,6 +113,6 @@ few_entries n t fit =
     omega (arith, few, same)
 
 -- the rows of a classifier without their numbers
-pub rows_without : (entries : List Entry) → map row_key (rows_of entries) ≡ map key_of (flows_of entries)
+pub rows_without : (entries : List Entry) → map row_key (rows_of entries) ≡ map entry_key (flows_of entries)
 rows_without [] = refl
-rows_without (e ∷ es) = ap (λ (ks : List Key). key_of (entry_of e) ∷ ks) (rows_without es)
+rows_without (e ∷ es) = ap (λ (ks : List Key). entry_key (entry_of e) ∷ ks) (rows_without es)

@@ -11,7 +11,7 @@ use Rattle.of_actions.specs.declared.instruction.Instruction.{Instruction}
 use Rattle.of_actions.specs.declared.instruction.Instruction.TheVariants as instructions
 use Rattle.of_groups.specs.declared.group.Group.{Group}
 use Rattle.of_groups.specs.Buckets.{sends}
-use Rattle.of_groups.specs.Groups.{number_of, is_there, with_group, left, at_group}
+use Rattle.of_groups.specs.Groups.{group_number, is_there, with_group, groups_left, at_group}
 use Rattle.of_groups.specs.Faults.{is_absent}
 use Rattle.of_groups.proofs.PutLemmas.{there_with}
 use Rattle.of_table.specs.declared.flow.Flow.{Flow}
@@ -228,12 +228,12 @@ put_stands g f small k = record {
 
 -- fewer groups, with the entries that name them
 
-there_left : (n m : ℕ) (gs : List Group) → eqb m n ≡ false → is_there m gs ≡ true → is_there m (without number_of n gs) ≡ true
+there_left : (n m : ℕ) (gs : List Group) → eqb m n ≡ false → is_there m gs ≡ true → is_there m (without group_number n gs) ≡ true
 there_left n m [] e h = h
 there_left n m (g ∷ gs) e h = by_tests (eqb g.id n) (eqb g.id m) refl refl h (there_left n m gs e)
   where
-    by_tests : (a b : Bool) → eqb g.id n ≡ a → eqb g.id m ≡ b → (eqb g.id m || is_there m gs) ≡ true → (is_there m gs ≡ true → is_there m (without number_of n gs) ≡ true)
-        → is_there m (cond (not (eqb g.id n)) (g ∷ without number_of n gs) (without number_of n gs)) ≡ true
+    by_tests : (a b : Bool) → eqb g.id n ≡ a → eqb g.id m ≡ b → (eqb g.id m || is_there m gs) ≡ true → (is_there m gs ≡ true → is_there m (without group_number n gs) ≡ true)
+        → is_there m (cond (not (eqb g.id n)) (g ∷ without group_number n gs) (without group_number n gs)) ≡ true
     by_tests true true a b h again =
         let same : m ≡ n = sym (eqb-true g.id m b) ∙ eqb-true g.id n a in
         let never : eqb m n ≡ true = eq-eqb m n same in
@@ -242,7 +242,7 @@ there_left n m (g ∷ gs) e h = by_tests (eqb g.id n) (eqb g.id m) refl refl h (
     by_tests false true a b h again = rw (a, b) refl
     by_tests false false a b h again = rw (a, b) (again (rw b at h))
 
-gone_or_left : (which : Option ℕ) (gs : List Group) (a : Action) → sends (is_absent gs) a ≡ false → is_to which a ≡ false → sends (is_absent (left which gs)) a ≡ false
+gone_or_left : (which : Option ℕ) (gs : List Group) (a : Action) → sends (is_absent gs) a ≡ false → is_to which a ≡ false → sends (is_absent (groups_left which gs)) a ≡ false
 gone_or_left None gs (ToGroup m) h k = absurd cc
 gone_or_left (Some n) gs (ToGroup m) h k = not_there (there_left n m gs k (there h))
   where
@@ -253,7 +253,7 @@ gone_or_left (Some n) gs (ToGroup m) h k = not_there (there_left n m gs k (there
         by_test true t = refl
         by_test false t = absurd cc
 
-    not_there : is_there m (without number_of n gs) ≡ true → is_absent (without number_of n gs) m ≡ false
+    not_there : is_there m (without group_number n gs) ≡ true → is_absent (without group_number n gs) m ≡ false
     not_there e = rw e refl
 gone_or_left which gs other h k = refl
 
@@ -266,19 +266,19 @@ unnamed which e h = by_test (names_group which e) refl
         let never : stays (OfGroup which) e ≡ false = rw t refl in
         absurd cc
 
-entry_left : (which : Option ℕ) (gs : List Group) (e : FlowEntry) → names_existing_groups gs e ≡ true → stays (OfGroup which) e ≡ true → names_existing_groups (left which gs) e ≡ true
+entry_left : (which : Option ℕ) (gs : List Group) (e : FlowEntry) → names_existing_groups gs e ≡ true → stays (OfGroup which) e ≡ true → names_existing_groups (groups_left which gs) e ≡ true
 entry_left which gs e h s =
     let p = sends (is_absent gs) in
-    let q = sends (is_absent (left which gs)) in
+    let q = sends (is_absent (groups_left which gs)) in
     not_false _ (any_either (has_action p) (has_action q) (has_action (is_to which)) (has_either p q (is_to which) (gone_or_left which gs)) e.flow.instructions (not_true _ h) (unnamed which e s))
 
-numbers_left : (which : Option ℕ) (gs : List Group) → list_all is_numbered gs ≡ true → list_all is_numbered (left which gs) ≡ true
+numbers_left : (which : Option ℕ) (gs : List Group) → list_all is_numbered gs ≡ true → list_all is_numbered (groups_left which gs) ≡ true
 numbers_left None gs h = refl
 numbers_left (Some n) gs h = all-filter is_numbered (λ (g : Group). not (eqb g.id n)) gs h
 
-pub groups_left_stand : (which : Option ℕ) (f : Forwarding) → GroupsExist f → GroupsExist (record f { tables = left_in (OfGroup which) f.tables; groups = left which f.groups })
+pub groups_left_stand : (which : Option ℕ) (f : Forwarding) → GroupsExist f → GroupsExist (record f { tables = left_in (OfGroup which) f.tables; groups = groups_left which f.groups })
 groups_left_stand which f k = record {
-  entries = each_stands f.groups (left which f.groups) (left_table (OfGroup which)) (λ n t h. all_left (names_existing_groups f.groups) (stays (OfGroup which)) (names_existing_groups (left which f.groups)) (entry_left which f.groups) t.flows h) 0 f.tables.tables k.entries;
+  entries = each_stands f.groups (groups_left which f.groups) (left_table (OfGroup which)) (λ n t h. all_left (names_existing_groups f.groups) (stays (OfGroup which)) (names_existing_groups (groups_left which f.groups)) (entry_left which f.groups) t.flows h) 0 f.tables.tables k.entries;
   numbers = numbers_left which f.groups k.numbers;
 }
 

@@ -4,7 +4,7 @@ use Rattle.std.specs.List.{position_or_len}
 use Rattle.std.proofs.Common.{eqb}
 use Rattle.std.specs.Prelude.{slice_index_or}
 use Rattle.std.proofs.Math.ListN.{get_or-map}
-use Rattle.of_table.specs.Entries.{no_entries, numbers_of}
+use Rattle.of_table.specs.Entries.{no_entries, entry_numbers}
 use Rattle.of_table.specs.Tables.{NumberedTables, all_numbers}
 use Rattle.of_machine.specs.declared.data.Count.{Count}
 use Rattle.of_machine.specs.declared.data.Count.TheVariants.{Lookup, Matched, TxDropped, Group, Bucket}
@@ -13,13 +13,13 @@ use Rattle.of_buffers.specs.Buffers.{Held}
 use Rattle.of_datapath.specs.declared.reception.Reception.{Reception}
 use Rattle.of_datapath.specs.Applying.{with_held, with_reception}
 use Rattle.of_datapath.specs.Datapath.{Forwarding, tallied, all_tallied, sent, all_sent}
-use Rattle.of_datapath.specs.Numbers.{entries_at, placed, all_placed}
+use Rattle.of_datapath.specs.Numbers.{entries_at, placed_count, all_placed}
 
 -- a place depends on the numbers alone
-numbers_at : (n : NumberedTables) (t : ℕ) → numbers_of (entries_at n t) ≡ slice_index_or (all_numbers n) t []
-numbers_at n t = sym (get_or-map (λ x. numbers_of x.entries) n.tables t no_entries)
+numbers_at : (n : NumberedTables) (t : ℕ) → entry_numbers (entries_at n t) ≡ slice_index_or (all_numbers n) t []
+numbers_at n t = sym (get_or-map (λ x. entry_numbers x.entries) n.tables t no_entries)
 
-placed_same : (n m : NumberedTables) (c : Count) → all_numbers n ≡ all_numbers m → placed n c ≡ placed m c
+placed_same : (n m : NumberedTables) (c : Count) → all_numbers n ≡ all_numbers m → placed_count n c ≡ placed_count m c
 placed_same n m (Lookup t) e = refl
 placed_same n m (Matched t number bytes) e =
     ap (λ (ns : List ℕ). Matched t (position_or_len (λ k. eqb k number) ns) bytes) (numbers_at n t ∙ ap (λ (ns : List (List ℕ)). slice_index_or ns t []) e ∙ sym (numbers_at m t))
@@ -29,10 +29,10 @@ placed_same n m (Bucket group place bytes) e = refl
 
 -- one count more
 pub tallied_more : (first now : NumberedTables) (counts : List Count) (i : ℕ) (c d : Count) (f f' : Forwarding) (whole : Forwarding) → i < length counts → c ≡ get_or counts i d
-    → all_numbers now ≡ all_numbers first → all_tallied (all_placed first (drop i counts)) f ≡ whole → f' ≡ tallied (placed now c) f → all_tallied (all_placed first (drop (i + 1) counts)) f' ≡ whole
+    → all_numbers now ≡ all_numbers first → all_tallied (all_placed first (drop i counts)) f ≡ whole → f' ≡ tallied (placed_count now c) f → all_tallied (all_placed first (drop (i + 1) counts)) f' ≡ whole
 tallied_more first now counts i c d f f' whole lt is numbers so step =
     let here : drop i counts ≡ c ∷ drop (suc i) counts = drop-cons counts i d lt ∙ ap (λ (x : Count). x ∷ drop (suc i) counts) (sym is) in
-    let next : f' ≡ tallied (placed first c) f = step ∙ ap (λ (x : Count). tallied x f) (placed_same now first c numbers) in
+    let next : f' ≡ tallied (placed_count first c) f = step ∙ ap (λ (x : Count). tallied x f) (placed_same now first c numbers) in
     rw (add-one i, next) (ap (λ (cs : List Count). all_tallied (all_placed first cs) f) (sym here) ∙ so)
 
 -- one effect sent more

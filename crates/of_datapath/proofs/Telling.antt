@@ -6,12 +6,12 @@ use Rattle.of_machine.specs.Growth.{AllShort}
 use Rattle.of_ports.specs.declared.port.Port.{Port}
 use Rattle.of_datapath.specs.declared.control.AsyncConfig.{AsyncConfig}
 use Rattle.of_datapath.specs.declared.effect.Effect.{Effect}
-use Rattle.of_datapath.specs.Told.{each_told, effect_of, frames_for, given, id_after, is_given}
+use Rattle.of_datapath.specs.Told.{each_told, effect_of, frames_for, given_items, id_after, is_given}
 
 -- what was told, with what will be told of the items that are left, is the whole
 pub record Telling (heard : AsyncConfig) (ports : List Port) (id : ℕ) (effects all_effects : List Effect) (frames all_frames : List Held) (left : List Item) : Type 0 where
-  pub effects_are : effects ++ each_told heard id (given heard ports left) ≡ all_effects
-  pub frames_are : frames ++ flat_map (frames_for heard) (given heard ports left) ≡ all_frames
+  pub effects_are : effects ++ each_told heard id (given_items heard ports left) ≡ all_effects
+  pub frames_are : frames ++ flat_map (frames_for heard) (given_items heard ports left) ≡ all_frames
 
 module _ (heard : AsyncConfig) (ports : List Port) (id : ℕ) (effects all_effects : List Effect) (frames all_frames : List Held) (i : Item) (left : List Item) where
   -- of an item that is given
@@ -19,8 +19,8 @@ module _ (heard : AsyncConfig) (ports : List Port) (id : ℕ) (effects all_effec
       → id' ≡ id_after heard id i → effects' ≡ effects ++ effect_of heard id i ∷ [] → frames' ≡ frames ++ frames_for heard i
       → Telling heard ports id' effects' all_effects frames' all_frames left
   told_one id' effects' frames' e so id_is effects_are frames_are =
-      let here : given heard ports (i ∷ left) ≡ i ∷ given heard ports left = rw e refl in
-      let gs = given heard ports left in
+      let here : given_items heard ports (i ∷ left) ≡ i ∷ given_items heard ports left = rw e refl in
+      let gs = given_items heard ports left in
       record {
         effects_are = rw (id_is, effects_are)
             (append_assoc effects (effect_of heard id i ∷ []) (each_told heard (id_after heard id i) gs)
@@ -33,7 +33,7 @@ module _ (heard : AsyncConfig) (ports : List Port) (id : ℕ) (effects all_effec
   -- of one that is not
   pub told_none : is_given heard ports i ≡ false → Telling heard ports id effects all_effects frames all_frames (i ∷ left) → Telling heard ports id effects all_effects frames all_frames left
   told_none e so =
-      let here : given heard ports (i ∷ left) ≡ given heard ports left = rw e refl in
+      let here : given_items heard ports (i ∷ left) ≡ given_items heard ports left = rw e refl in
       record {
         effects_are = ap (λ (is : List Item). effects ++ each_told heard id is) (sym here) ∙ so.effects_are;
         frames_are = ap (λ (is : List Item). frames ++ flat_map (frames_for heard) is) (sym here) ∙ so.frames_are;

@@ -12,7 +12,7 @@ use Rattle.of_wire.proofs.NumberedLemmas.{distinct-map}
 use Rattle.of_table.specs.declared.entry.Entry.{Entry}
 use Rattle.of_table.specs.Table.{FlowEntry, Table, winner_place, flow_at}
 use Rattle.of_table.specs.Tables.{NumberedTables, numbered_at, tables_of, table_at}
-use Rattle.of_table.specs.Entries.{Numbered, no_entries, entry_of, flows_of, numbers_of, entry_number, place_of, is_there, table_of}
+use Rattle.of_table.specs.Entries.{Numbered, no_entries, entry_of, flows_of, entry_numbers, entry_number, place_of, is_entry_there, table_of}
 use Rattle.of_table.proofs.PlaceLemmas.{any-place}
 use Rattle.of_table.proofs.WinnerLemmas.{winner_within}
 use Rattle.of_groups.specs.declared.group.Group.{Group}
@@ -21,36 +21,36 @@ use Rattle.of_groups.proofs.ChainLaws.{chain_at_most}
 use Rattle.of_groups.proofs.WorldLemmas.{groups_serve}
 use Rattle.of_ports.specs.declared.port.Port.{Port}
 use Rattle.of_table.specs.declared.flow.Flow.{Flow}
-use Rattle.of_table.specs.Sound.{AreSound, are_fit, is_fit}
+use Rattle.of_table.specs.Sound.{AreSoundEntries, are_instructions_fit, is_entry_fit}
 use Rattle.of_actions.specs.InstructionLists.{are_kept, are_for}
 use Rattle.std.specs.List.{list_all}
 use Rattle.of_machine.specs.Sound.{IsSound}
 use Rattle.of_machine.specs.Renumbering.{IsRenumbered}
-use Rattle.of_ports.specs.Ports.{is_live_at, number_of}
+use Rattle.of_ports.specs.Ports.{is_live_at, number_of_port}
 use Rattle.of_actions.specs.Rising.{is_ascending}
 use Rattle.of_datapath.specs.Datapath.{world_of}
 use Rattle.of_buffers.specs.Buffers.{none_held}
-use Rattle.of_datapath.specs.Numbers.{without_numbers, entries_at, number_at, numbered_winner, numbered_flow, numbered_world, place_in}
+use Rattle.of_datapath.specs.Numbers.{without_numbers, entries_at, entry_number_at, numbered_winner, numbered_flow, numbered_world, place_in}
 use Rattle.of_datapath.proofs.GroupWorlds.{are_buckets}
 use Rattle.of_datapath.proofs.PlaceNumbers.{itself, number_at_place, place_of_number}
 
 -- the number that a lookup returned is that of the winner's place
-pub answer_is : (es : List Entry) (w r : Option ℕ) → w ≡ option_map (λ n. place_of n es) r → IfSome r (λ n. IsTrue (is_there n es)) → r ≡ option_map (number_at es) w
+pub answer_is : (es : List Entry) (w r : Option ℕ) → w ≡ option_map (λ n. place_of n es) r → IfSome r (λ n. IsTrue (is_entry_there n es)) → r ≡ option_map (entry_number_at es) w
 answer_is es w None e there = rw e refl
-answer_is es w (Some n) e there = rw e (ap Some (sym (number_at_place n (numbers_of es) there)))
+answer_is es w (Some n) e there = rw e (ap Some (sym (number_at_place n (entry_numbers es) there)))
 
 -- where there is a winner there is an entry
-place_within : (fields : Field → Option ℕ) (es : List Entry) (k : ℕ) → winner_place fields (flows_of es) ≡ Some k → k < length (numbers_of es)
+place_within : (fields : Field → Option ℕ) (es : List Entry) (k : ℕ) → winner_place fields (flows_of es) ≡ Some k → k < length (entry_numbers es)
 place_within fields es k h =
     let within = winner_within fields es k h in
     omega (arith, within, length-map es entry_number)
 
-distinct_numbers : (es : List Entry) → is_distinct entry_number es ≡ true → is_distinct itself (numbers_of es) ≡ true
+distinct_numbers : (es : List Entry) → is_distinct entry_number es ≡ true → is_distinct itself (entry_numbers es) ≡ true
 distinct_numbers es h = distinct-map entry_number itself es ∙ h
 
-same_place : (es : List Entry) (fields : Field → Option ℕ) (o : Option ℕ) → is_distinct entry_number es ≡ true → winner_place fields (flows_of es) ≡ o → o ≡ option_map (λ n. place_of n es) (option_map (number_at es) o)
+same_place : (es : List Entry) (fields : Field → Option ℕ) (o : Option ℕ) → is_distinct entry_number es ≡ true → winner_place fields (flows_of es) ≡ o → o ≡ option_map (λ n. place_of n es) (option_map (entry_number_at es) o)
 same_place es fields None distinct e = refl
-same_place es fields (Some k) distinct e = ap Some (sym (place_of_number (numbers_of es) k (distinct_numbers es distinct) (place_within fields es k e)))
+same_place es fields (Some k) distinct e = ap Some (sym (place_of_number (entry_numbers es) k (distinct_numbers es distinct) (place_within fields es k e)))
 
 -- the tables have distinct numbers, each
 abbrev pub AreDistinct : NumberedTables → Type 0
@@ -87,16 +87,16 @@ flow_none zero (f ∷ flows) le = absurd (omega (arith, le))
 flow_none (suc k) (f ∷ flows) le = flow_none k flows (omega (arith, le))
 
 sound_by : (es : List Entry) (fields : Field → Option ℕ) (n : ℕ) (w : Option ℕ) → is_distinct entry_number es ≡ true → winner_place fields (flows_of es) ≡ w
-    → option_map (number_at es) w ≡ Some n → flow_at (place_of n es) (flows_of es) ≡ None → ⊥
+    → option_map (entry_number_at es) w ≡ Some n → flow_at (place_of n es) (flows_of es) ≡ None → ⊥
 sound_by es fields n None distinct e h none = absurd cc
 sound_by es fields n (Some k) distinct e h none =
-    let same : number_at es k ≡ n = cc in
+    let same : entry_number_at es k ≡ n = cc in
     let lt = place_within fields es k e in
-    let at : place_of n es ≡ k = ap (λ (x : ℕ). place_of x es) (sym same) ∙ place_of_number (numbers_of es) k (distinct_numbers es distinct) lt in
+    let at : place_of n es ≡ k = ap (λ (x : ℕ). place_of x es) (sym same) ∙ place_of_number (entry_numbers es) k (distinct_numbers es distinct) lt in
     flow_some k (flows_of es) (omega (arith, lt, length-map es entry_of, length-map es entry_number)) (ap (λ (x : ℕ). flow_at x (flows_of es)) (sym at) ∙ none)
 
 -- a flow at a place has what each has
-pub flow_fit : (k place : ℕ) (flows : List FlowEntry) (f : Flow) → list_all (is_fit k) flows ≡ true → flow_at place flows ≡ Some f → are_fit k f.instructions ≡ true
+pub flow_fit : (k place : ℕ) (flows : List FlowEntry) (f : Flow) → list_all (is_entry_fit k) flows ≡ true → flow_at place flows ≡ Some f → are_instructions_fit k f.instructions ≡ true
 flow_fit k place [] f h e = absurd (no_flow place e)
   where
     no_flow : (k : ℕ) → flow_at k [] ≡ Some f → ⊥
@@ -113,15 +113,15 @@ both false b h = absurd cc
 
 -- the instructions of an entry are valid in its table
 abbrev pub AreFit : NumberedTables → Type 0
-AreFit n = (t : ℕ) → AreSound t (table_at t (tables_of n)).flows
+AreFit n = (t : ℕ) → AreSoundEntries t (table_at t (tables_of n)).flows
 
 fit_here : (n : NumberedTables) (t number : ℕ) (f : Flow) → AreFit n → numbered_flow n t number ≡ Some f → (are_kept f.instructions ≡ true) × (are_for t f.instructions ≡ true)
 fit_here n t number f fit e =
-    let flows : list_all (is_fit t) (flows_of (entries_at n t)) ≡ true = rw (table_is n t) at (fit t).fit in
+    let flows : list_all (is_entry_fit t) (flows_of (entries_at n t)) ≡ true = rw (table_is n t) at (fit t).fit in
     both (are_kept f.instructions) (are_for t f.instructions) (flow_fit t (place_of number (entries_at n t)) (flows_of (entries_at n t)) f flows e)
 
 -- the invariants of a world: each winner is the number of an entry, its instructions are valid there, and so are the groups
-pub sound_world : (n : NumberedTables) (groups : List Group) (ports : List Port) → AreDistinct n → AreFit n → AreSoundGroups groups → is_ascending number_of ports ≡ true → IsSound (numbered_world n groups ports)
+pub sound_world : (n : NumberedTables) (groups : List Group) (ports : List Port) → AreDistinct n → AreFit n → AreSoundGroups groups → is_ascending number_of_port ports ≡ true → IsSound (numbered_world n groups ports)
 sound_world n groups ports distinct fit sound rising = record {
   rising = rising;
   kept = λ t number f e. (fit_here n t number f fit e).0;
@@ -133,15 +133,15 @@ sound_world n groups ports distinct fit sound rising = record {
   found = λ t fields number h none. sound_by (entries_at n t) fields number (winner_place fields (flows_of (entries_at n t))) (distinct t) refl h none;
 }
 
-there_by : (es : List Entry) (n : ℕ) (there : Bool) → is_there n es ≡ there → (flow_at (place_of n es) (flows_of es) ≡ None → ⊥) → is_there n es ≡ true
+there_by : (es : List Entry) (n : ℕ) (there : Bool) → is_entry_there n es ≡ there → (flow_at (place_of n es) (flows_of es) ≡ None → ⊥) → is_entry_there n es ≡ true
 there_by es n true e some = e
 there_by es n false e some =
-    let far : ltb (place_of n es) (length (numbers_of es)) ≡ false = sym (any-place (λ m. eqb m n) (numbers_of es)) ∙ e in
+    let far : ltb (place_of n es) (length (entry_numbers es)) ≡ false = sym (any-place (λ m. eqb m n) (entry_numbers es)) ∙ e in
     absurd (some (flow_none (place_of n es) (flows_of es) (omega (arith, ltb-false _ _ far, length-map es entry_of, length-map es entry_number))))
 
 -- a flow that exists has the number of an entry
-pub is_there_by : (n : NumberedTables) (t number : ℕ) → numbered_flow n t number ≢ None → IsTrue (is_there number (entries_at n t))
-is_there_by n t number h = there_by (entries_at n t) number (is_there number (entries_at n t)) refl h
+pub is_there_by : (n : NumberedTables) (t number : ℕ) → numbered_flow n t number ≢ None → IsTrue (is_entry_there number (entries_at n t))
+is_there_by n t number h = there_by (entries_at n t) number (is_entry_there number (entries_at n t)) refl h
 
 -- and its table is one of the sixteen
 pub is_table : (n : NumberedTables) (t number : ℕ) → length n.tables ≡ 16 → numbered_flow n t number ≢ None → t < 16
@@ -155,4 +155,4 @@ is_table n t number sixteen h = elim (cases_lt t 16) [
 
 -- beyond them no entry wins
 pub no_winner : (n : NumberedTables) (t : ℕ) (fields : Field → Option ℕ) → length n.tables ≤ t → numbered_winner n t fields ≡ None
-no_winner n t fields le = ap (λ (x : Numbered). option_map (number_at x.entries) (winner_place fields (flows_of x.entries))) (get_or_past n.tables t no_entries le)
+no_winner n t fields le = ap (λ (x : Numbered). option_map (entry_number_at x.entries) (winner_place fields (flows_of x.entries))) (get_or_past n.tables t no_entries le)

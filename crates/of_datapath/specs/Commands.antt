@@ -149,9 +149,9 @@ notice_effects heard now ns = map (notice_effect now) (filter (is_notice_admitte
 -- ---- PACKET_OUT (7.3.7)
 
 -- its packet is a held frame, whose id it has, or a frame of its own
-abbrev pub frame_of : PacketData → HeldFrames → Option (List ℕ)
-frame_of (Buffered id) b = option_map (λ h. h.frame) (held id b)
-frame_of (Frame bytes) b = Some bytes
+abbrev pub packet_out_frame : PacketData → HeldFrames → Option (List ℕ)
+packet_out_frame (Buffered id) b = option_map (λ h. h.frame) (held id b)
+packet_out_frame (Frame bytes) b = Some bytes
 
 -- a held frame is used
 abbrev pub without_packet : PacketData → HeldFrames → HeldFrames
@@ -161,7 +161,7 @@ without_packet (Frame bytes) b = b
 -- no frame is held under that id (1/8); an action names a group that does not exist (2/9)
 abbrev pub packet_out_refusals : PacketOut → List Group → HeldFrames → List (Bool × Code)
 packet_out_refusals m groups b =
-    (is_none (frame_of m.packet b), OFPBRC_BUFFER_UNKNOWN)
+    (is_none (packet_out_frame m.packet b), OFPBRC_BUFFER_UNKNOWN)
     ∷ (list_any (is_to_absent_group groups) m.actions, OFPBAC_BAD_OUT_GROUP)
     ∷ []
 

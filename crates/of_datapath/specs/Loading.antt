@@ -11,13 +11,13 @@ use Rattle.of_datapath.specs.Commands.{flags_of}
 use Rattle.of_datapath.specs.Datapath.{Forwarding}
 
 -- a flow of a text, whose flags are 1, 8 and 16 alone, as a FLOW_MOD would give it
-abbrev pub flow_in : TextFlow → Flow
-flow_in f = record { fields = f.fields; priority = f.head.priority; cookie = f.head.cookie; idle_timeout = f.head.idle; hard_timeout = f.head.hard; flags = kept_flags (flags_of f.head.flags); instructions = instructions_of f }
+abbrev pub loaded_flow : TextFlow → Flow
+loaded_flow f = record { fields = f.fields; priority = f.head.priority; cookie = f.head.cookie; idle_timeout = f.head.idle; hard_timeout = f.head.hard; flags = kept_flags (flags_of f.head.flags); instructions = instructions_of f }
 
 -- LOADING: the flows become entries that are added now, and their counters and those of their tables are 0
 
 abbrev pub loaded_entry : ℕ → TextFlow → FlowEntry
-loaded_entry now f = with_flow now (flow_in f) None
+loaded_entry now f = with_flow now (loaded_flow f) None
 
 abbrev pub loaded_table : ℕ → List TextFlow → Table
 loaded_table now flows = record { lookups = 0; matched = 0; flows = map (loaded_entry now) flows }

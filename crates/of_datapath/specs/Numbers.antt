@@ -5,7 +5,7 @@ use Rattle.of_layers.specs.declared.field.Field.{Field}
 use Rattle.of_table.specs.declared.flow.Flow.{Flow}
 use Rattle.of_table.specs.declared.entry.Entry.{Entry}
 use Rattle.of_table.specs.Table.{winner_place, flow_at}
-use Rattle.of_table.specs.Entries.{flows_of, numbers_of, place_of}
+use Rattle.of_table.specs.Entries.{flows_of, entry_numbers, place_of}
 use Rattle.of_table.specs.Tables.{NumberedTables, numbered_at, tables_of}
 use Rattle.of_groups.specs.declared.group.Group.{Group}
 use Rattle.of_groups.specs.Groups.{bucket_at}
@@ -46,11 +46,11 @@ abbrev pub entries_at : NumberedTables → ℕ → List Entry
 entries_at n t = (numbered_at t n).entries
 
 -- the number of the entry at a place by age
-abbrev pub number_at : List Entry → ℕ → ℕ
-number_at entries place = slice_index (numbers_of entries) place
+abbrev pub entry_number_at : List Entry → ℕ → ℕ
+entry_number_at entries place = slice_index (entry_numbers entries) place
 
 abbrev pub numbered_winner : NumberedTables → ℕ → (Field → Option ℕ) → Option ℕ
-numbered_winner n t fields = option_map (number_at (entries_at n t)) (winner_place fields (flows_of (entries_at n t)))
+numbered_winner n t fields = option_map (entry_number_at (entries_at n t)) (winner_place fields (flows_of (entries_at n t)))
 
 abbrev pub numbered_flow : NumberedTables → ℕ → ℕ → Option Flow
 numbered_flow n t number = flow_at (place_of number (entries_at n t)) (flows_of (entries_at n t))
@@ -64,8 +64,8 @@ abbrev pub place_in : NumberedTables → ℕ → ℕ → ℕ
 place_in n t number = place_of number (entries_at n t)
 
 -- counts with these places for the numbers
-abbrev pub placed : NumberedTables → Count → Count
-placed n = renumbered_count (place_in n)
+abbrev pub placed_count : NumberedTables → Count → Count
+placed_count n = renumbered_count (place_in n)
 
 abbrev pub all_placed : NumberedTables → List Count → List Count
-all_placed n counts = map (placed n) counts
+all_placed n counts = map (placed_count n) counts

@@ -8,7 +8,7 @@ use Rattle.of_ports.specs.Config.{config_bits}
 use Rattle.of_ports.specs.Ports.{state_bits}
 use Rattle.of_statistics.specs.Ports.{described}
 use Rattle.of_datapath.specs.declared.control.AsyncConfig.{AsyncConfig}
-use Rattle.of_datapath.specs.Told.{told}
+use Rattle.of_datapath.specs.Told.{asynchronous_effects}
 use Rattle.of_datapath.specs.declared.effect.Effect.{Effect}
 use Rattle.of_datapath.specs.declared.effect.Effect.TheVariants.{Answer}
 
@@ -27,7 +27,7 @@ status_bit Modify = 4
 
 -- sent where the controller's mask has this reason
 abbrev pub status_told : AsyncConfig → PortStatusReason → Port → List Effect
-status_told heard reason p = told heard.port_status (status_bit reason) (status reason p ∷ [])
+status_told heard reason p = asynchronous_effects heard.port_status (status_bit reason) (status reason p ∷ [])
 
 -- a change is sent where the 64 bytes of the port's description change
 abbrev pub change_told : AsyncConfig → Port → Port → List Effect

@@ -17,8 +17,8 @@ use Rattle.of_datapath.specs.Commands.{unless_any}
 use Rattle.of_datapath.specs.Datapath.{Forwarding}
 
 -- the entries that are asked for: those that a DELETE with the same values would select
-abbrev pub asked : FlowStatsRequest → Selector
-asked r = record {
+abbrev pub asked_selector : FlowStatsRequest → Selector
+asked_selector r = record {
   table = unless_any OFPTT_ALL r.table;
   fields = r.fields;
   priority = None;
@@ -42,14 +42,14 @@ asks_absent_port GroupFeatures ports = false
 asks_absent_port PortDescription ports = false
 
 -- OFPBRC_BAD_PORT (1/11)
-abbrev pub multipart_refusals : MultipartRequest → List Port → List (Bool × Code)
-multipart_refusals request ports = (asks_absent_port request ports, OFPBRC_BAD_PORT) ∷ []
+abbrev pub absent_port_refusals : MultipartRequest → List Port → List (Bool × Code)
+absent_port_refusals request ports = (asks_absent_port request ports, OFPBRC_BAD_PORT) ∷ []
 
 -- the replies
 abbrev pub multipart_bytes : ℕ → MultipartRequest → Forwarding → List (List ℕ)
 multipart_bytes xid Description f = description_bytes xid ∷ []
-multipart_bytes xid (Flow r) f = flow_bytes xid (asked r) f.tables
-multipart_bytes xid (Aggregate r) f = aggregate_bytes xid (asked r) f.tables ∷ []
+multipart_bytes xid (Flow r) f = flow_bytes xid (asked_selector r) f.tables
+multipart_bytes xid (Aggregate r) f = aggregate_bytes xid (asked_selector r) f.tables ∷ []
 multipart_bytes xid Table f = table_bytes xid f.tables ∷ []
 multipart_bytes xid (PortStats which) f = port_stats_bytes xid f.tables.latest which f.ports ∷ []
 multipart_bytes xid (Group which) f = group_bytes xid which f.groups f.tables

@@ -4,7 +4,7 @@ use Rattle.std.specs.Option.{option_map_or}
 use Rattle.of_wire.specs.declared.limits.TheConstants.{OFP_NO_BUFFER}
 use Rattle.of_wire.specs.Reasons.{packet_in_number}
 use Rattle.of_headers.specs.Faults.{frame_fault}
-use Rattle.of_buffers.specs.Buffers.{Held, HeldFrames, following, hold_all}
+use Rattle.of_buffers.specs.Buffers.{Held, HeldFrames, id_following, hold_all}
 use Rattle.of_messages.specs.Written.{packet_in_bytes}
 use Rattle.of_wire.specs.declared.reasons.PacketInReason.{PacketInReason}
 use Rattle.of_wire.specs.declared.reasons.PacketInReason.TheVariants as reason
@@ -20,8 +20,8 @@ use Rattle.of_datapath.specs.declared.effect.Effect.TheVariants.{Answer, Sent}
 
 -- ASYNCHRONOUS MESSAGES are filtered by reason: each is a bit of the mask of its message (7.3.10)
 
-abbrev pub told : ℕ → ℕ → List Effect → List Effect
-told mask reason effects = if lets_pass mask reason then effects else []
+abbrev pub asynchronous_effects : ℕ → ℕ → List Effect → List Effect
+asynchronous_effects mask reason effects = if lets_pass mask reason then effects else []
 
 abbrev pub is_no_match : PacketInReason → Bool
 is_no_match reason.NoMatch = true
@@ -37,8 +37,8 @@ abbrev pub is_given : AsyncConfig → List Port → Item → Bool
 is_given heard ports (item.Sent port frame) = true
 is_given heard ports (item.PacketIn p) = lets_pass heard.packet_in (2 ^ packet_in_number p.reason) && not (is_suppressed ports p)
 
-abbrev pub given : AsyncConfig → List Port → List Item → List Item
-given heard ports items = filter (is_given heard ports) items
+abbrev pub given_items : AsyncConfig → List Port → List Item → List Item
+given_items heard ports items = filter (is_given heard ports) items
 
 -- A PACKET_IN (7.4.1) has the whole frame, or its first bytes and the id under which the frame is held
 
@@ -75,7 +75,7 @@ frames_for heard (item.PacketIn p) = if is_held heard p then held_of p ∷ [] el
 -- and then the next frame gets the id that follows
 abbrev pub id_after : AsyncConfig → ℕ → Item → ℕ
 id_after heard id (item.Sent port frame) = id
-id_after heard id (item.PacketIn p) = if is_held heard p then following id else id
+id_after heard id (item.PacketIn p) = if is_held heard p then id_following id else id
 
 -- THE ID OF A LIST'S NEXT FRAME: that after all these items
 abbrev pub id_after_all : AsyncConfig → ℕ → List Item → ℕ
@@ -88,7 +88,7 @@ each_told heard id [] = []
 each_told heard id (i ∷ items) = effect_of heard id i ∷ each_told heard (id_after heard id i) items
 
 abbrev pub effects_of : AsyncConfig → List Port → HeldFrames → List Item → List Effect
-effects_of heard ports b items = each_told heard b.next (given heard ports items)
+effects_of heard ports b items = each_told heard b.next (given_items heard ports items)
 
 abbrev pub held_after : AsyncConfig → List Port → HeldFrames → List Item → HeldFrames
-held_after heard ports b items = hold_all (flat_map (frames_for heard) (given heard ports items)) b
+held_after heard ports b items = hold_all (flat_map (frames_for heard) (given_items heard ports items)) b

@@ -9,10 +9,10 @@ ghost use Rattle.of_machine.specs.Rows.{Lookup as LookUp, acts, entering};
 ghost use Rattle.of_table.specs.Tables.{left_in, notices_in};
 ghost use Rattle.of_datapath.specs.Commands.{notice_effects};
 ghost use Rattle.std.specs.Prelude.{flat_map};
-ghost use Rattle.of_datapath.specs.Told.{each_told, frames_for, given};
+ghost use Rattle.of_datapath.specs.Told.{each_told, frames_for, given_items};
 ghost use Rattle.of_datapath.specs.Applying.{with_held, with_reception, without_used};
 ghost use Rattle.of_datapath.specs.Datapath.{all_sent, all_tallied, forwards, framed, idle, received, sent, tallied, through, without_held};
-ghost use Rattle.of_datapath.specs.Numbers.{Contents, all_placed, contents_of, forwarding_of, numbered_world, place_in, placed};
+ghost use Rattle.of_datapath.specs.Numbers.{Contents, all_placed, contents_of, forwarding_of, numbered_world, place_in, placed_count};
 
 use crate::commands::notices;
 use crate::control::AsyncConfig;
@@ -203,9 +203,9 @@ impl<L: Lookup> Datapath<L> {
     ) -> Result<Effects, AllocError>
         requires { AllShort 65485 outcome.items.items }
         ensures ok { IfOk result (λ effects.
-            (effects.items ≡ each_told heard self.old.held.next (given heard self.old.ports outcome.items.items))
+            (effects.items ≡ each_told heard self.old.held.next (given_items heard self.old.ports outcome.items.items))
             × (forwarding_of self.new ≡ all_sent effects.items (all_tallied (all_placed self.old.tables outcome.counts.items)
-            (with_held used (flat_map (frames_for heard) (given heard self.old.ports outcome.items.items))
+            (with_held used (flat_map (frames_for heard) (given_items heard self.old.ports outcome.items.items))
             (with_reception reception (forwarding_of self.old)))))) }
         ensures err { OnErr result (contents_of self.new ≡ contents_of self.old) }
     {
@@ -294,7 +294,7 @@ impl<L: Lookup> Datapath<L> {
     }
 
     fn tally(&mut self, count: &Count)
-        ensures forwarding { forwarding_of self.new ≡ tallied (placed self.old.tables count.now) (forwarding_of self.old) }
+        ensures forwarding { forwarding_of self.new ≡ tallied (placed_count self.old.tables count.now) (forwarding_of self.old) }
         ensures numbers { all_numbers self.new.tables ≡ all_numbers self.old.tables }
     {
         match *count {

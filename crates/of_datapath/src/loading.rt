@@ -9,7 +9,7 @@ ghost use Rattle.of_text.specs.Groups.{TextGroup};
 ghost use Rattle.of_text.specs.Kept.{AllStandBehind, IsEntry, instructions_of};
 ghost use Rattle.of_text.specs.Views.{view, view_flows};
 ghost use Rattle.of_datapath.specs.Commands.{flags_of};
-ghost use Rattle.of_datapath.specs.Loading.{flow_in, loaded_table, loaded_tables};
+ghost use Rattle.of_datapath.specs.Loading.{loaded_flow, loaded_table, loaded_tables};
 
 use crate::commands::has_flag;
 use of_classifier::Lookup;
@@ -33,7 +33,7 @@ fn flags_from(flags: u16) -> FlowFlags
 fn flow_from(flow: &FlowText) -> Result<Flow, AllocError>
     requires fields { IsMatch (view flow.now).fields }
     requires kept { IsTrue (are_kept (instructions_of (view flow.now))) }
-    ensures { IfOk result (λ f. f ≡ flow_in (view flow.now)) }
+    ensures { IfOk result (λ f. f ≡ loaded_flow (view flow.now)) }
 {
     Ok(Flow {
         fields: flow.to_match()?,
@@ -55,9 +55,9 @@ fn load_flow<L: Lookup>(
 ) -> Result<(), AllocError>
     requires table { table < 16 }
     requires entry { IsEntry table (view flow.now) }
-    requires unlike { list_any (is_same (flow_in (view flow.now))) (table_at table (tables_of tables.old)).flows ≡ false }
+    requires unlike { list_any (is_same (loaded_flow (view flow.now))) (table_at table (tables_of tables.old)).flows ≡ false }
     requires room { length (table_at table (tables_of tables.old)).flows < 4096 }
-    ensures { OnOk result (tables_of tables.new ≡ added_to table (flow_in (view flow.now)) (tables_of tables.old)) }
+    ensures { OnOk result (tables_of tables.new ≡ added_to table (loaded_flow (view flow.now)) (tables_of tables.old)) }
 {
     let flow = flow_from(flow)?;
     match tables.add(table, flow) {

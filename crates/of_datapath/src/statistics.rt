@@ -1,6 +1,6 @@
 //! What a MULTIPART_REQUEST is answered (OpenFlow 1.3.5, 7.3.5).
 ghost use Rattle.std.specs.Prelude.{◌≡◌, ◌∷◌, [], IfOk, map};
-ghost use Rattle.of_datapath.specs.Statistics.{asked, asks_absent_port as asks_for_absent};
+ghost use Rattle.of_datapath.specs.Statistics.{asked_selector, asks_absent_port as asks_for_absent};
 ghost use Rattle.of_datapath.specs.Commands.{unless_any as none_for};
 ghost use Rattle.of_datapath.specs.declared.effect.Effect.TheVariants.{Answer};
 
@@ -24,7 +24,7 @@ fn unless_any(number: u32) -> Option<u32>
 
 /// The entries that a request for statistics of flows selects (OpenFlow 1.3.5, 7.3.5.2).
 pub fn asked_by(request: FlowStatsRequest) -> Selector
-    ensures { result ≡ asked request }
+    ensures { result ≡ asked_selector request }
 {
     Selector {
         table: if request.table == OFPTT_ALL {

@@ -4,7 +4,7 @@ ghost use Rattle.std.specs.Option.{option_map_or};
 ghost use Rattle.of_ports.specs.Ports.{port_at};
 ghost use Rattle.of_buffers.specs.Buffers.{last_id};
 ghost use Rattle.of_machine.specs.Growth.{AllShort, frame_of};
-ghost use Rattle.of_datapath.specs.Told.{each_told, effect_of, frames_for, given, id_after, is_given as is_given_to, is_held as is_to_be_held, is_suppressed as is_silenced_by, limit_of as limit_for, packet_in_of};
+ghost use Rattle.of_datapath.specs.Told.{each_told, effect_of, frames_for, given_items, id_after, is_given as is_given_to, is_held as is_to_be_held, is_suppressed as is_silenced_by, limit_of as limit_for, packet_in_of};
 
 use crate::control::{AsyncConfig, lets_through};
 use crate::effect::{Effect, Effects};
@@ -149,8 +149,8 @@ pub fn told_from(
 ) -> Result<Told, AllocError>
     requires short { AllShort 65485 items.items }
     requires id { next_id ≤ last_id }
-    ensures effects { IfOk result (λ told. told.effects.items ≡ each_told heard next_id (given heard ports.now items.items)) }
-    ensures held { IfOk result (λ told. told.held.items ≡ flat_map (frames_for heard) (given heard ports.now items.items)) }
+    ensures effects { IfOk result (λ told. told.effects.items ≡ each_told heard next_id (given_items heard ports.now items.items)) }
+    ensures held { IfOk result (λ told. told.held.items ≡ flat_map (frames_for heard) (given_items heard ports.now items.items)) }
 {
     let mut told = Told {
         effects: Effects::new(alloc),

@@ -4,8 +4,8 @@ use Rattle.std.specs.Prelude.{nat_le, Option, Some, None, if◌then◌else◌}
 use Rattle.std.specs.List.{flat_map}
 use Rattle.std.proofs.lemmas.List.{append-nil}
 use Rattle.std.proofs.lemmas.Bool.Decides.{nat_tests}
-use Rattle.of_explain.specs.Replies.{within, front_row, length_by, and_rows, first_rows, rows_of, reply_row}
-use Rattle.of_explain.specs.Fields.{number_at}
+use Rattle.of_explain.specs.Replies.{within, front_row, length_by, and_rows, first_rows, rows_of_reply, reply_row}
+use Rattle.of_explain.specs.Fields.{big_number_at}
 
 true_le : (a b : ℕ) → nat_le a b ≡ true → a ≤ b
 true_le a b h = grind (arith, nat_tests)
@@ -24,7 +24,7 @@ within_is most (Some s) size is =
 
 row_within : (type : ℕ) (body : List ℕ) (size : ℕ) → front_row type body ≡ Some size → (1 ≤ size) × (size ≤ length body)
 unfolding front_row
-row_within type body size is = within_is (length body) (length_by type (number_at 0 2 body)) size is
+row_within type body size is = within_is (length body) (length_by type (big_number_at 0 2 body)) size is
 
 -- how many are asked for at most does not matter, if it is enough
 none_of : (type m : ℕ) (body : List ℕ) (o : Option ℕ) → front_row type body ≡ o → length body ≤ 0 → [] ≡ and_rows (first_rows m type) body o
@@ -44,35 +44,35 @@ enough zero (suc m) type body h k = none_of type m body (front_row type body) re
 enough (suc n) zero type body h k = sym (none_of type n body (front_row type body) refl k)
 enough (suc n) (suc m) type body h k = more_of n m type body (front_row type body) (enough n m type) refl h k
 
-first_by : (n type : ℕ) (body : List ℕ) (size : ℕ) → front_row type body ≡ Some size → length body ≤ n → 1 ≤ size → size ≤ length body → first_rows n type body ≡ take size body ∷ rows_of type (drop size body)
-unfolding rows_of
+first_by : (n type : ℕ) (body : List ℕ) (size : ℕ) → front_row type body ≡ Some size → length body ≤ n → 1 ≤ size → size ≤ length body → first_rows n type body ≡ take size body ∷ rows_of_reply type (drop size body)
+unfolding rows_of_reply
 first_by zero type body size is h low high = absurd (omega (arith, h, low, high))
 first_by (suc n) type body size is h low high =
     let rest = drop size body in
     ap (and_rows (first_rows n type) body) is ∙ ap (λ (x : List (List ℕ)). take size body ∷ x) (enough n (length rest) type rest (omega (arith, length-drop size body, low, high, h)) (omega arith))
 
-first_row : (type : ℕ) (body : List ℕ) (size : ℕ) → front_row type body ≡ Some size → 1 ≤ size → size ≤ length body → rows_of type body ≡ take size body ∷ rows_of type (drop size body)
-unfolding rows_of
+first_row : (type : ℕ) (body : List ℕ) (size : ℕ) → front_row type body ≡ Some size → 1 ≤ size → size ≤ length body → rows_of_reply type body ≡ take size body ∷ rows_of_reply type (drop size body)
+unfolding rows_of_reply
 first_row type body size is low high = first_by (length body) type body size is (omega arith) low high
 
 none_by : (n type : ℕ) (body : List ℕ) → front_row type body ≡ None → first_rows n type body ≡ []
 none_by zero type body is = refl
 none_by (suc n) type body is = ap (and_rows (first_rows n type) body) is
 
-no_row : (type : ℕ) (body : List ℕ) → front_row type body ≡ None → rows_of type body ≡ []
-unfolding rows_of
+no_row : (type : ℕ) (body : List ℕ) → front_row type body ≡ None → rows_of_reply type body ≡ []
+unfolding rows_of_reply
 no_row type body is = none_by (length body) type body is
 
 -- one more is printed
 pub printed_more : (type size : ℕ) (body out out' all : List ℕ) → front_row type body ≡ Some size → 1 ≤ size → size ≤ length body → out' ≡ out ++ reply_row type (take size body)
-    → out ++ flat_map (reply_row type) (rows_of type body) ≡ all → out' ++ flat_map (reply_row type) (rows_of type (drop size body)) ≡ all
+    → out ++ flat_map (reply_row type) (rows_of_reply type body) ≡ all → out' ++ flat_map (reply_row type) (rows_of_reply type (drop size body)) ≡ all
 printed_more type size body out out' all is low high more told =
-    let others = flat_map (reply_row type) (rows_of type (drop size body)) in
+    let others = flat_map (reply_row type) (rows_of_reply type (drop size body)) in
     ap (λ (x : List ℕ). x ++ others) more ∙ (append_assoc out (reply_row type (take size body)) others ∙ (ap (λ (x : List (List ℕ)). out ++ flat_map (reply_row type) x) (sym (first_row type body size is low high)) ∙ told))
 
 pub fewer_bytes : (size : ℕ) (body : List ℕ) → 1 ≤ size → size ≤ length body → length (drop size body) < length body
 fewer_bytes size body low high = omega (arith, length-drop size body, low, high)
 
 -- all are printed
-pub printed_all : (type : ℕ) (body out all : List ℕ) → front_row type body ≡ None → out ++ flat_map (reply_row type) (rows_of type body) ≡ all → out ≡ all
+pub printed_all : (type : ℕ) (body out all : List ℕ) → front_row type body ≡ None → out ++ flat_map (reply_row type) (rows_of_reply type body) ≡ all → out ≡ all
 printed_all type body out all is told = sym (append-nil out) ∙ (ap (λ (x : List (List ℕ)). out ++ flat_map (reply_row type) x) (sym (no_row type body is)) ∙ told)

@@ -33,10 +33,10 @@ echoed (b ∷ bs) = ended (b ∷ bs)
 
 -- ---- what the switch gives: a note for each effect, and the rows of a reply
 
-abbrev pub effect_words : Effect → List ℕ
-effect_words (Answer bytes) = codes "to the controller: " ++ message_words bytes
-effect_words (Sent port frame) = port_and_size (codes "sent out of port") port frame
-effect_words Closed = codes "the switch ends the connection"
+abbrev pub explained_effect_words : Effect → List ℕ
+explained_effect_words (Answer bytes) = codes "to the controller: " ++ message_words bytes
+explained_effect_words (Sent port frame) = port_and_size (codes "sent out of port") port frame
+explained_effect_words Closed = codes "the switch ends the connection"
 
 -- below an answer, its rows
 abbrev pub effect_rows : Effect → List ℕ
@@ -44,21 +44,21 @@ effect_rows (Answer bytes) = reply_rows bytes
 effect_rows other = []
 
 abbrev pub effect_note : Effect → List ℕ
-effect_note e = note (effect_words e) ++ effect_rows e
+effect_note e = note (explained_effect_words e) ++ effect_rows e
 
 abbrev pub effect_notes : List Effect → List ℕ
 effect_notes effects = flat_map effect_note effects
 
 -- ---- why an event is refused
 
-abbrev pub refusal_words : SwitchError → List ℕ
-refusal_words refusals.NoMemory = codes "refused: no memory"
-refusal_words refusals.NotConnected = codes "refused: there is no connection"
-refusal_words refusals.Connected = codes "refused: there is a connection already"
-refusal_words refusals.PortExists = codes "refused: there is a port of that number already"
-refusal_words refusals.NoSuchPort = codes "refused: there is no port of that number"
-refusal_words refusals.TooManyPorts = codes "refused: there are 64 ports already"
-refusal_words refusals.BadPortNumber = codes "refused: a port's number is 1 to 4294967040"
+abbrev pub switch_error_words : SwitchError → List ℕ
+switch_error_words refusals.NoMemory = codes "refused: no memory"
+switch_error_words refusals.NotConnected = codes "refused: there is no connection"
+switch_error_words refusals.Connected = codes "refused: there is a connection already"
+switch_error_words refusals.PortExists = codes "refused: there is a port of that number already"
+switch_error_words refusals.NoSuchPort = codes "refused: there is no port of that number"
+switch_error_words refusals.TooManyPorts = codes "refused: there are 64 ports already"
+switch_error_words refusals.BadPortNumber = codes "refused: a port's number is 1 to 4294967040"
 
 -- ---- the way of a frame, on the switch before it
 
@@ -116,7 +116,7 @@ end_notes other effects = []
 -- THE NOTES BELOW A ROW: of an event that happens, what it does, a note for each of its effects, and how that ends; of one that is refused, why
 abbrev pub report_notes : List ℕ → Option Event → Report → List ℕ
 report_notes before row (Gives effects) = before ++ (effect_notes effects ++ end_notes row effects)
-report_notes before row (IsRefused refusal) = note (refusal_words refusal)
+report_notes before row (IsRefused refusal) = note (switch_error_words refusal)
 
 -- THE TALE: the line, and the notes of the very report that `replay` prints
 abbrev pub explained : RowText

@@ -15,8 +15,8 @@ use Rattle.of_explain.specs.Names.{name_in}
 -- ---- the forms
 
 -- a number of `size` bytes at a place; None where the message ends before it
-abbrev pub number_at : ℕ → ℕ → List ℕ → Option ℕ
-number_at at size m = if nat_le (at + size) (length m) then Some (big_number size (drop at m)) else None
+abbrev pub big_number_at : ℕ → ℕ → List ℕ → Option ℕ
+big_number_at at size m = if nat_le (at + size) (length m) then Some (big_number size (drop at m)) else None
 
 -- a word, and the number in decimal
 abbrev pub and_number : List ℕ → Option ℕ → List ℕ
@@ -33,9 +33,9 @@ unfoldable pub in_hex : List ℕ → ℕ → ℕ → List ℕ → List ℕ
 in_hex word at size m = if nat_le (at + size) (length m) then word ++ codes " 0x" ++ encode_lower (take size (drop at m)) else []
 
 -- a word, and the number; nothing where it is 0xffffffff: OFP_NO_BUFFER, OFPP_ANY and OFPG_ANY name none
-abbrev pub unless_any : List ℕ → Option ℕ → List ℕ
-unless_any word None = []
-unless_any word (Some n) = if n == OFPP_ANY then [] else word ++ 32 ∷ decimal n
+abbrev pub words_unless_any : List ℕ → Option ℕ → List ℕ
+words_unless_any word None = []
+words_unless_any word (Some n) = if n == OFPP_ANY then [] else word ++ 32 ∷ decimal n
 
 -- words, but nothing where the number is 0
 abbrev pub unless_zero : Option ℕ → List ℕ → List ℕ
@@ -50,19 +50,19 @@ pub record Field : Type 0 where
   pub size : ℕ
   pub form : Form
 
-abbrev pub in_form : List ℕ → ℕ → ℕ → List ℕ → Form → List ℕ
-in_form word at size m Plainly = and_number word (number_at at size m)
-in_form word at size m (Named names) = and_name word names (number_at at size m)
-in_form word at size m InHex = in_hex word at size m
-in_form word at size m UnlessAny = unless_any word (number_at at size m)
-in_form word at size m UnlessZero = unless_zero (number_at at size m) (in_hex word at size m)
+abbrev pub field_in_form : List ℕ → ℕ → ℕ → List ℕ → Form → List ℕ
+field_in_form word at size m Plainly = and_number word (big_number_at at size m)
+field_in_form word at size m (Named names) = and_name word names (big_number_at at size m)
+field_in_form word at size m InHex = in_hex word at size m
+field_in_form word at size m UnlessAny = words_unless_any word (big_number_at at size m)
+field_in_form word at size m UnlessZero = unless_zero (big_number_at at size m) (in_hex word at size m)
 
-abbrev pub field_words : List ℕ → Field → List ℕ
-field_words m f = in_form f.word f.at f.size m f.form
+abbrev pub message_field_words : List ℕ → Field → List ℕ
+message_field_words m f = field_in_form f.word f.at f.size m f.form
 
 -- fields, one after the other
-unfoldable pub words : List Field → List ℕ → List ℕ
-words fields m = flat_map (field_words m) fields
+unfoldable pub fields_words : List Field → List ℕ → List ℕ
+fields_words fields m = flat_map (message_field_words m) fields
 
 -- ---- the fields of a struct
 
@@ -70,20 +70,20 @@ abbrev pub same : String → String → Bool
 same a b = bytes_eq (codes a) (codes b)
 
 -- where the first field of that name is, in a struct that begins there, and how many bytes it has
-abbrev pub place_of : String → ℕ → Struct → Option (ℕ × ℕ)
-place_of name at [] = None
-place_of name at (byte other ∷ s) = if same name other then Some (at, 1) else place_of name (at + 1) s
-place_of name at (number other w ∷ s) = if same name other then Some (at, w) else place_of name (at + w) s
-place_of name at (plain other w ∷ s) = if same name other then Some (at, w) else place_of name (at + w) s
-place_of name at (pad w ∷ s) = place_of name (at + w) s
+abbrev pub place_in_struct : String → ℕ → Struct → Option (ℕ × ℕ)
+place_in_struct name at [] = None
+place_in_struct name at (byte other ∷ s) = if same name other then Some (at, 1) else place_in_struct name (at + 1) s
+place_in_struct name at (number other w ∷ s) = if same name other then Some (at, w) else place_in_struct name (at + w) s
+place_in_struct name at (plain other w ∷ s) = if same name other then Some (at, w) else place_in_struct name (at + w) s
+place_in_struct name at (pad w ∷ s) = place_in_struct name (at + w) s
 
 -- its number in a message
-abbrev pub number_in : String → ℕ → Struct → List ℕ → Option ℕ
-number_in name at s m = option_and_then (λ p. number_at p.0 p.1 m) (place_of name at s)
+abbrev pub field_number : String → ℕ → Struct → List ℕ → Option ℕ
+field_number name at s m = option_and_then (λ p. big_number_at p.0 p.1 m) (place_in_struct name at s)
 
 -- a field by its name, with the word before it and its form
-abbrev pub told : String → String → Form → ℕ → Struct → List Field
-told name word form at s = map (λ p. record { word = codes word; at = p.0; size = p.1; form = form }) (option_to_list (place_of name at s))
+abbrev pub labelled_field : String → String → Form → ℕ → Struct → List Field
+labelled_field name word form at s = map (λ p. record { word = codes word; at = p.0; size = p.1; form = form }) (option_to_list (place_in_struct name at s))
 
 -- fields of a struct that begins there, in the order of the text
 abbrev pub fields : ℕ → Struct → List (ℕ → Struct → List Field) → List Field

@@ -19,9 +19,9 @@ name_for Multiparts n = nth_part 32 n words.MULTIPARTS
 name_for Roles n = nth_part 32 n words.ROLES
 
 -- a name, or the number where there is none
-abbrev pub named : Option (List ℕ) → ℕ → List ℕ
-named None n = decimal n
-named (Some name) n = name
+abbrev pub name_or_number : Option (List ℕ) → ℕ → List ℕ
+name_or_number None n = decimal n
+name_or_number (Some name) n = name
 
 abbrev pub name_in : Names → ℕ → List ℕ
-name_in names n = named (name_for names n) n
+name_in names n = name_or_number (name_for names n) n

@@ -12,7 +12,7 @@ use Rattle.of_lines.specs.declared.row.Row.TheVariants as rows
 use Rattle.of_text.specs.Lines.{ended}
 use Rattle.of_explain.specs.declared.fields.Form.TheVariants.{Plainly, Named, InHex}
 use Rattle.of_explain.specs.declared.names.Names.TheVariants.{GroupTypes}
-use Rattle.of_explain.specs.Fields.{Field, fields, number_in, told, words}
+use Rattle.of_explain.specs.Fields.{Field, fields, field_number, labelled_field, fields_words}
 use Rattle.of_explain.specs.Messages.{multipart_type}
 use Rattle.of_explain.specs.Requests.{row_line}
 
@@ -35,7 +35,7 @@ within most None = None
 within most (Some size) = if nat_le 1 size then (if nat_le size most then Some size else None) else None
 
 unfoldable pub front_row : ℕ → List ℕ → Option ℕ
-front_row type body = within (length body) (length_by type (number_in "length" 0 tables.flow_stats body))
+front_row type body = within (length body) (length_by type (field_number "length" 0 tables.flow_stats body))
 
 -- the row at the front, and then others
 abbrev pub and_rows : (List ℕ → List (List ℕ)) → List ℕ → Option ℕ → List (List ℕ)
@@ -48,56 +48,56 @@ first_rows zero type body = []
 first_rows (suc n) type body = and_rows (first_rows n type) body (front_row type body)
 
 -- all: each has some bytes
-unfoldable pub rows_of : ℕ → List ℕ → List (List ℕ)
-rows_of type body = first_rows (length body) type body
+unfoldable pub rows_of_reply : ℕ → List ℕ → List (List ℕ)
+rows_of_reply type body = first_rows (length body) type body
 
 -- ---- what each says
 
 -- 7.3.5.2
-abbrev pub flow_row : List Field
-flow_row =
+abbrev pub flow_row_fields : List Field
+flow_row_fields =
     fields 0 tables.flow_stats
-    (told "table_id" "table" Plainly ∷ told "priority" " priority" Plainly ∷ told "cookie" " cookie" InHex
-    ∷ told "duration_sec" " seconds" Plainly ∷ told "packet_count" " packets" Plainly ∷ told "byte_count" " bytes" Plainly ∷ [])
+    (labelled_field "table_id" "table" Plainly ∷ labelled_field "priority" " priority" Plainly ∷ labelled_field "cookie" " cookie" InHex
+    ∷ labelled_field "duration_sec" " seconds" Plainly ∷ labelled_field "packet_count" " packets" Plainly ∷ labelled_field "byte_count" " bytes" Plainly ∷ [])
 
 -- 7.3.5.4
-abbrev pub table_row : List Field
-table_row =
+abbrev pub table_row_fields : List Field
+table_row_fields =
     fields 0 tables.table_stats
-    (told "table_id" "table" Plainly ∷ told "active_count" " flows" Plainly ∷ told "lookup_count" " lookups" Plainly
-    ∷ told "matched_count" " matched" Plainly ∷ [])
+    (labelled_field "table_id" "table" Plainly ∷ labelled_field "active_count" " flows" Plainly ∷ labelled_field "lookup_count" " lookups" Plainly
+    ∷ labelled_field "matched_count" " matched" Plainly ∷ [])
 
 -- 7.3.5.6
-abbrev pub port_row : List Field
-port_row =
+abbrev pub port_row_fields : List Field
+port_row_fields =
     fields 0 tables.port_stats
-    (told "port_no" "port" Plainly ∷ told "rx_packets" " rx_packets" Plainly ∷ told "rx_bytes" " rx_bytes" Plainly ∷ told "rx_dropped" " rx_dropped" Plainly
-    ∷ told "tx_packets" " tx_packets" Plainly ∷ told "tx_bytes" " tx_bytes" Plainly ∷ told "tx_dropped" " tx_dropped" Plainly
-    ∷ told "duration_sec" " seconds" Plainly ∷ [])
+    (labelled_field "port_no" "port" Plainly ∷ labelled_field "rx_packets" " rx_packets" Plainly ∷ labelled_field "rx_bytes" " rx_bytes" Plainly ∷ labelled_field "rx_dropped" " rx_dropped" Plainly
+    ∷ labelled_field "tx_packets" " tx_packets" Plainly ∷ labelled_field "tx_bytes" " tx_bytes" Plainly ∷ labelled_field "tx_dropped" " tx_dropped" Plainly
+    ∷ labelled_field "duration_sec" " seconds" Plainly ∷ [])
 
 -- 7.3.5.9
-abbrev pub group_row : List Field
-group_row =
+abbrev pub group_row_fields : List Field
+group_row_fields =
     fields 0 tables.group_stats
-    (told "group_id" "group" Plainly ∷ told "ref_count" " references" Plainly ∷ told "packet_count" " packets" Plainly ∷ told "byte_count" " bytes" Plainly
-    ∷ told "duration_sec" " seconds" Plainly ∷ [])
+    (labelled_field "group_id" "group" Plainly ∷ labelled_field "ref_count" " references" Plainly ∷ labelled_field "packet_count" " packets" Plainly ∷ labelled_field "byte_count" " bytes" Plainly
+    ∷ labelled_field "duration_sec" " seconds" Plainly ∷ [])
 
 -- 7.3.5.10
 abbrev pub group_desc_row : List Field
-group_desc_row = fields 0 tables.group_desc (told "group_id" "group" Plainly ∷ told "type" " type" (Named GroupTypes) ∷ [])
+group_desc_row = fields 0 tables.group_desc (labelled_field "group_id" "group" Plainly ∷ labelled_field "type" " type" (Named GroupTypes) ∷ [])
 
 -- the configuration and the state are sums of bits (7.2.1)
 abbrev pub port_desc_row : List Field
 port_desc_row =
     fields 0 tables.port
-    (told "port_no" "port" Plainly ∷ told "hw_addr" " hw" InHex ∷ told "config" " config" Plainly ∷ told "state" " state" Plainly ∷ [])
+    (labelled_field "port_no" "port" Plainly ∷ labelled_field "hw_addr" " hw" InHex ∷ labelled_field "config" " config" Plainly ∷ labelled_field "state" " state" Plainly ∷ [])
 
 unfoldable pub row_told : ℕ → List Field
 row_told type =
-    if type == 1 then flow_row
-    else if type == 3 then table_row
-    else if type == 4 then port_row
-    else if type == 6 then group_row
+    if type == 1 then flow_row_fields
+    else if type == 3 then table_row_fields
+    else if type == 4 then port_row_fields
+    else if type == 6 then group_row_fields
     else if type == 7 then group_desc_row
     else if type == 13 then port_desc_row
     else []
@@ -119,17 +119,17 @@ deeper_lines said = flat_map deeper_line said
 
 -- a row in words, after eight spaces, and below it its match
 unfoldable pub reply_row : ℕ → List ℕ → List ℕ
-reply_row type r = (codes "        " ++ ended (words (row_told type) r)) ++ deeper_lines (row_match type r)
+reply_row type r = (codes "        " ++ ended (fields_words (row_told type) r)) ++ deeper_lines (row_match type r)
 
 -- ---- THE ROWS OF AN ANSWER: of a MULTIPART_REPLY those of its type, and of no other message
 
 abbrev pub rows_by : Option ℕ → List ℕ → List ℕ
 rows_by None body = []
-rows_by (Some type) body = flat_map (reply_row type) (rows_of type body)
+rows_by (Some type) body = flat_map (reply_row type) (rows_of_reply type body)
 
 abbrev pub rows_if : Option ℕ → List ℕ → List ℕ
 rows_if None m = []
 rows_if (Some kind) m = if kind == MULTIPART_REPLY then rows_by (multipart_type m) (drop 16 m) else []
 
 unfoldable pub reply_rows : List ℕ → List ℕ
-reply_rows m = rows_if (number_in "type" 0 tables.header m) m
+reply_rows m = rows_if (field_number "type" 0 tables.header m) m

@@ -14,7 +14,7 @@ use Rattle.of_messages.specs.Messages.{message_of}
 use Rattle.of_session.specs.Stream.{First, Whole, Bad, Partial, beginning_of}
 use Rattle.of_lines.specs.declared.row.Row.{Row}
 use Rattle.of_lines.specs.declared.row.Row.TheVariants as rows
-use Rattle.of_text.specs.Rows.{encoding}
+use Rattle.of_text.specs.Rows.{row_encoding}
 use Rattle.of_text.specs.Flows.{step_rows}
 use Rattle.of_text.specs.Groups.{TextGroup, bucket_text, group_rows}
 use Rattle.of_text.specs.Kept.{step_of}
@@ -42,21 +42,21 @@ asked_rows (Flow r) = map rows.Match r.fields
 asked_rows (Aggregate r) = map rows.Match r.fields
 asked_rows other = []
 
-abbrev pub rows_in : Message → List Row
-rows_in (FlowMod m) = flow_mod_rows m
-rows_in (GroupMod m) = group_mod_rows m
-rows_in (PacketOut m) = map rows.Do m.actions
-rows_in (Multipart request) = asked_rows request
-rows_in other = []
+abbrev pub message_rows : Message → List Row
+message_rows (FlowMod m) = flow_mod_rows m
+message_rows (GroupMod m) = group_mod_rows m
+message_rows (PacketOut m) = map rows.Do m.actions
+message_rows (Multipart request) = asked_rows request
+message_rows other = []
 
 -- one that is refused by itself has none
 abbrev pub rows_said : Result Message Code → List Row
-rows_said (Ok message) = rows_in message
+rows_said (Ok message) = message_rows message
 rows_said (Err code) = []
 
 -- a line of flow text, after eight spaces
 abbrev pub row_line : Row → List ℕ
-row_line row = codes "        " ++ ended (encoding row)
+row_line row = codes "        " ++ ended (row_encoding row)
 
 abbrev pub row_lines : List Row → List ℕ
 row_lines said = flat_map row_line said
@@ -82,9 +82,9 @@ first_messages zero bytes = []
 first_messages (suc n) bytes = and_others (first_messages n) (beginning_of bytes)
 
 -- all: each has some bytes
-unfoldable pub messages_of : List ℕ → List (List ℕ)
-messages_of bytes = first_messages (length bytes) bytes
+unfoldable pub messages_in_bytes : List ℕ → List (List ℕ)
+messages_in_bytes bytes = first_messages (length bytes) bytes
 
 -- THE NOTES OF A CHUNK, after the bytes that wait
 abbrev pub chunk_notes : List ℕ → List ℕ → List ℕ
-chunk_notes waiting chunk = flat_map request_notes (messages_of (waiting ++ chunk))
+chunk_notes waiting chunk = flat_map request_notes (messages_in_bytes (waiting ++ chunk))

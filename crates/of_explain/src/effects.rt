@@ -1,7 +1,7 @@
 //! What a switch gives, in words.
 ghost use Rattle.std.specs.Prelude.{◌≡◌, ◌++◌, OnOk};
 ghost use Rattle.of_text.specs.Lines.{note};
-ghost use Rattle.of_explain.specs.Explained.{effect_notes, effect_rows, effect_words, refusal_words as words_of_refusal};
+ghost use Rattle.of_explain.specs.Explained.{effect_notes, effect_rows, explained_effect_words, switch_error_words as words_of_refusal};
 
 use crate::messages::push_message;
 use crate::notes::push_port_and_size;
@@ -12,7 +12,7 @@ use std::alloc::{AllocError, Global};
 
 // Appends an effect in words.
 fn push_effect(alloc: Global, out: &mut Vec<u8>, effect: &Effect) -> Result<(), AllocError>
-    ensures { OnOk result (out.new.items ≡ out.old.items ++ effect_words effect.now) }
+    ensures { OnOk result (out.new.items ≡ out.old.items ++ explained_effect_words effect.now) }
 {
     match effect {
         Effect::Answer(bytes) => {
@@ -29,7 +29,7 @@ fn push_effect(alloc: Global, out: &mut Vec<u8>, effect: &Effect) -> Result<(), 
 
 // Appends the note of an effect.
 fn push_effect_note(alloc: Global, out: &mut Vec<u8>, effect: &Effect) -> Result<(), AllocError>
-    ensures { OnOk result (out.new.items ≡ out.old.items ++ note (effect_words effect.now)) }
+    ensures { OnOk result (out.new.items ≡ out.old.items ++ note (explained_effect_words effect.now)) }
 {
     begin_note(out)?;
     push_effect(alloc, out, effect)?;

@@ -1,6 +1,6 @@
 //! Fields of messages in words.
 ghost use Rattle.std.specs.Prelude.{◌≡◌, ◌≤◌, ◌<◌, ◌^◌, ◌++◌, map, IsTrue, OnOk};
-ghost use Rattle.of_explain.specs.Fields.{and_name, and_number, are_short, field_of, field_words, in_hex, number_at as a_number_at, unless_any, words};
+ghost use Rattle.of_explain.specs.Fields.{and_name, and_number, are_short, field_of, message_field_words, in_hex, big_number_at as a_number_at, words_unless_any, fields_words};
 
 use crate::names::{Names, push_name};
 use crate::notes::push_with_number;
@@ -82,7 +82,7 @@ fn push_by_name(
 
 // Appends a word and a number; nothing where it is 0xffffffff.
 fn push_unless_any(out: &mut Vec<u8>, word: &[u8], number: Option<u64>) -> Result<(), AllocError>
-    ensures { OnOk result (out.new.items ≡ out.old.items ++ unless_any word.now number) }
+    ensures { OnOk result (out.new.items ≡ out.old.items ++ words_unless_any word.now number) }
 {
     match number {
         Some(number) if number != u64::from(OFPP_ANY) => push_with_number(out, word, number),
@@ -122,7 +122,7 @@ fn push_field(
 ) -> Result<(), AllocError>
     requires some { 1 ≤ (field_of field.now).size }
     requires most { (field_of field.now).size ≤ 8 }
-    ensures { OnOk result (out.new.items ≡ out.old.items ++ field_words message.now (field_of field.now)) }
+    ensures { OnOk result (out.new.items ≡ out.old.items ++ message_field_words message.now (field_of field.now)) }
 {
     let Field(word, at, size, form) = *field;
     let word = word.as_bytes();
@@ -142,7 +142,7 @@ fn push_field(
 }
 
 /// Appends fields, one after the other. What is beyond the end of the message is left out.
-#[tactic(auto, unfolding(crate::specs::Fields::words))]
+#[tactic(auto, unfolding(crate::specs::Fields::fields_words))]
 pub fn push_fields(
     alloc: Global,
     out: &mut Vec<u8>,
@@ -150,7 +150,7 @@ pub fn push_fields(
     fields: &[Field],
 ) -> Result<(), AllocError>
     requires { IsTrue (are_short (map field_of fields.now)) }
-    ensures { OnOk result (out.new.items ≡ out.old.items ++ words (map field_of fields.now) message.now) }
+    ensures { OnOk result (out.new.items ≡ out.old.items ++ fields_words (map field_of fields.now) message.now) }
 {
     for field in fields {
         push_field(alloc, out, message, field)?;

@@ -1,7 +1,7 @@
 //! Messages in words.
 ghost use Rattle.std.specs.Prelude.{◌≡◌, ◌++◌, OnOk};
-ghost use Rattle.of_explain.specs.Fields.{number_at as a_number_at};
-ghost use Rattle.of_explain.specs.Messages.{and_code, error_fields, fields_of, message_words, multipart_fields, multipart_reply_fields, type_and_fields};
+ghost use Rattle.of_explain.specs.Fields.{big_number_at as a_number_at};
+ghost use Rattle.of_explain.specs.Messages.{and_code, error_fields, fields_of_message, message_words, multipart_fields, multipart_reply_fields, type_and_fields};
 
 use crate::fields::{half_at, number_at, push_fields};
 use crate::names::{Names, push_name, push_named};
@@ -55,9 +55,9 @@ fn push_multipart_reply(alloc: Global, out: &mut Vec<u8>, message: &[u8]) -> Res
 }
 
 // Appends what a message of that type says.
-#[tactic(auto, unfolding(crate::specs::Messages::fields_of))]
+#[tactic(auto, unfolding(crate::specs::Messages::fields_of_message))]
 fn push_body(alloc: Global, out: &mut Vec<u8>, kind: u64, message: &[u8]) -> Result<(), AllocError>
-    ensures { OnOk result (out.new.items ≡ out.old.items ++ fields_of kind message.now) }
+    ensures { OnOk result (out.new.items ≡ out.old.items ++ fields_of_message kind message.now) }
 {
     match kind {
         1 => push_error(alloc, out, message),

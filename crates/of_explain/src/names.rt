@@ -2,7 +2,7 @@
 ghost use Rattle.std.specs.Prelude.{◌≡◌, ◌++◌, decimal, OnOk};
 ghost use Rattle.std.specs.Option.{option_map};
 ghost use Rattle.of_wire.specs.Parts.{nth_part};
-ghost use Rattle.of_explain.specs.Names.{name_for, name_in, named};
+ghost use Rattle.of_explain.specs.Names.{name_for, name_in, name_or_number};
 
 use itoa::Buffer;
 use of_formats::message_name;
@@ -97,7 +97,7 @@ fn push_decimal(out: &mut Vec<u8>, number: u64) -> Result<(), AllocError>
 
 /// Appends a name, or the number where there is none.
 pub fn push_named(out: &mut Vec<u8>, name: Option<&[u8]>, number: u64) -> Result<(), AllocError>
-    ensures { OnOk result (out.new.items ≡ out.old.items ++ named (option_map (λ n. n.now) name.entry) number) }
+    ensures { OnOk result (out.new.items ≡ out.old.items ++ name_or_number (option_map (λ n. n.now) name.entry) number) }
 {
     match name {
         None => push_decimal(out, number),

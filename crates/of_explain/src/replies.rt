@@ -3,8 +3,8 @@ ghost use Rattle.std.specs.Prelude.{◌≡◌, ◌++◌, ◌≤◌, codes, drop,
 ghost use Rattle.std.specs.List.{AllByRecursion, flat_map};
 ghost use Rattle.of_text.specs.Rows.{Fits};
 ghost use Rattle.of_text.specs.Lines.{ended};
-ghost use Rattle.of_explain.specs.Fields.{words};
-ghost use Rattle.of_explain.specs.Replies.{deeper_line, deeper_lines, front_row, length_by, reply_row, reply_rows, row_match, row_told, rows_of};
+ghost use Rattle.of_explain.specs.Fields.{fields_words};
+ghost use Rattle.of_explain.specs.Replies.{deeper_line, deeper_lines, front_row, length_by, reply_row, reply_rows, row_match, row_told, rows_of_reply};
 
 use crate::fields::{half_at, number_at, push_fields};
 use crate::requests::push_line;
@@ -63,7 +63,7 @@ fn match_of_row(alloc: Global, kind: u16, row: &[u8]) -> Result<Vec<Row>, AllocE
 
 // Appends a row in words as a line after eight spaces.
 fn push_row_line(alloc: Global, out: &mut Vec<u8>, kind: u16, row: &[u8]) -> Result<(), AllocError>
-    ensures { OnOk result (out.new.items ≡ out.old.items ++ (codes "        " ++ ended (words (row_told kind) row.now))) }
+    ensures { OnOk result (out.new.items ≡ out.old.items ++ (codes "        " ++ ended (fields_words (row_told kind) row.now))) }
 {
     out.extend_from_slice(b"        ")?;
     push_fields(alloc, out, row, row_fields(kind))?;
@@ -103,7 +103,7 @@ fn push_row(alloc: Global, out: &mut Vec<u8>, kind: u16, row: &[u8]) -> Result<(
 
 // Appends the rows of a reply of this type.
 fn push_rows(alloc: Global, out: &mut Vec<u8>, kind: u16, body: &[u8]) -> Result<(), AllocError>
-    ensures { OnOk result (out.new.items ≡ out.old.items ++ flat_map (reply_row kind) (rows_of kind body.now)) }
+    ensures { OnOk result (out.new.items ≡ out.old.items ++ flat_map (reply_row kind) (rows_of_reply kind body.now)) }
 {
     let mut rest = body;
     while let Some(size) = first_row(kind, rest) {

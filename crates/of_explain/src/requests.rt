@@ -3,7 +3,7 @@ ghost use Rattle.std.specs.Prelude.{◌≡◌, ◌++◌, OnOk};
 ghost use Rattle.std.specs.List.{AllByRecursion, flat_map};
 ghost use Rattle.of_text.specs.Rows.{Fits};
 ghost use Rattle.of_text.specs.Lines.{note};
-ghost use Rattle.of_explain.specs.Requests.{messages_of, chunk_notes, request_notes, row_line, row_lines, said_words};
+ghost use Rattle.of_explain.specs.Requests.{messages_in_bytes, chunk_notes, request_notes, row_line, row_lines, said_words};
 
 use crate::messages::push_message;
 use crate::said::lines_said;
@@ -61,7 +61,7 @@ pub fn push_request(alloc: Global, out: &mut Vec<u8>, message: &[u8]) -> Result<
 
 // Appends each message of a stream.
 fn push_requests(alloc: Global, out: &mut Vec<u8>, stream: &mut Stream) -> Result<(), AllocError>
-    ensures { OnOk result (out.new.items ≡ out.old.items ++ flat_map request_notes (messages_of stream.old)) }
+    ensures { OnOk result (out.new.items ≡ out.old.items ++ flat_map request_notes (messages_in_bytes stream.old)) }
 {
     loop {
         match stream.front() {

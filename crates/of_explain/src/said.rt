@@ -9,7 +9,7 @@ ghost use Rattle.of_text.specs.Kept.{step_of};
 ghost use Rattle.of_text.specs.Rows.{Fits};
 ghost use Rattle.of_text.specs.Views.{view_bucket, view_group};
 ghost use Rattle.of_explain.specs.Replies.{match_rows};
-ghost use Rattle.of_explain.specs.Requests.{asked_rows, flow_mod_rows, group_mod_rows, group_said, rows_in, rows_said};
+ghost use Rattle.of_explain.specs.Requests.{asked_rows, flow_mod_rows, group_mod_rows, group_said, message_rows, rows_said};
 
 use of_actions::Instruction;
 use of_groups::Group;
@@ -159,7 +159,7 @@ fn multipart_lines(alloc: Global, request: MultipartRequest) -> Result<Vec<Row>,
 }
 
 fn lines_in(alloc: Global, message: Message) -> Result<Vec<Row>, AllocError>
-    ensures text { IfOk result (λ rows. rows.items ≡ rows_in message) }
+    ensures text { IfOk result (λ rows. rows.items ≡ message_rows message) }
     ensures fits { IfOk result (λ rows. AllByRecursion Fits rows.items) }
 {
     match message {

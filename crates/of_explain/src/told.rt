@@ -1,7 +1,7 @@
 //! The fields of messages and of rows that are printed, in the order of the text: the word before each, its place, its size, and its form.
 ghost use Rattle.std.specs.Prelude.{◌≡◌, map, IsTrue};
 ghost use Rattle.of_explain.specs.Fields.{are_short, field_of};
-ghost use Rattle.of_explain.specs.Messages.{asked_by, counted_by, told_of};
+ghost use Rattle.of_explain.specs.Messages.{asked_for_fields, counted_by, told_of};
 ghost use Rattle.of_explain.specs.Replies.{row_told};
 
 use crate::fields::Field;
@@ -188,9 +188,9 @@ pub fn message_fields(kind: u64) -> &'static [Field]
 }
 
 /// What a multipart request of that type asks for (7.3.5).
-#[tactic(auto, unfolding(crate::specs::Messages::asked_by))]
+#[tactic(auto, unfolding(crate::specs::Messages::asked_for_fields))]
 pub fn asked_fields(kind: Option<u16>) -> &'static [Field]
-    ensures fields { map field_of result.now ≡ asked_by kind }
+    ensures fields { map field_of result.now ≡ asked_for_fields kind }
     ensures short { IsTrue (are_short (map field_of result.now)) }
 {
     match kind {

@@ -5,7 +5,7 @@ use Rattle.std.proofs.lemmas.List.{append-nil, append_assoc, length-append, leng
 use Rattle.byteorder.specs.Endian.{big_number, big_bytes}
 use Rattle.byteorder.specs.Numbers.{big_from-lt, big_number-reads_back, length-bytes_high_first}
 use Rattle.of_wire.proofs.Numbers.{IsBytes, IsBytes-drop, big_bytes-big_number}
-use Rattle.of_formats.specs.Structs.{Slot, Struct, byte, number, plain, pad, width, size, numbers, texts, bytes_from, written_with, Fits, cleared}
+use Rattle.of_formats.specs.Structs.{Slot, Struct, byte, number, plain, pad, slot_width, size, numbers, texts, bytes_from, written_with, FitsStruct, cleared}
 
 -- ---- a struct at a place is a struct at the front of what begins there
 
@@ -55,7 +55,7 @@ texts_behind s i part more e =
 
 -- ---- what is written is read again
 
-pub written_is_read : (s : Struct) (ns : List ℕ) (xs : List (List ℕ)) (rest : List ℕ) → Fits s ns xs → numbers s 0 (written_with s ns xs ++ rest) ≡ ns
+pub written_is_read : (s : Struct) (ns : List ℕ) (xs : List (List ℕ)) (rest : List ℕ) → FitsStruct s ns xs → numbers s 0 (written_with s ns xs ++ rest) ≡ ns
 written_is_read [] [] [] rest f = refl
 written_is_read [] [] (x ∷ xs) rest f = absurd f
 written_is_read [] (n ∷ ns) xs rest f = absurd f
@@ -84,7 +84,7 @@ bytes_read [] rest (suc w) e = absurd (omega arith)
 bytes_read (b ∷ x) rest zero e = absurd (omega arith)
 bytes_read (b ∷ x) rest (suc w) e = ap (λ (l : List ℕ). b ∷ l) (sym (bytes_at w 1 0 (b ∷ (x ++ rest))) ∙ bytes_read x rest w (omega arith))
 
-pub written_texts : (s : Struct) (ns : List ℕ) (xs : List (List ℕ)) (rest : List ℕ) → Fits s ns xs → texts s 0 (written_with s ns xs ++ rest) ≡ xs
+pub written_texts : (s : Struct) (ns : List ℕ) (xs : List (List ℕ)) (rest : List ℕ) → FitsStruct s ns xs → texts s 0 (written_with s ns xs ++ rest) ≡ xs
 written_texts [] [] [] rest f = refl
 written_texts [] [] (x ∷ xs) rest f = absurd f
 written_texts [] (n ∷ ns) xs rest f = absurd f
@@ -107,7 +107,7 @@ written_texts (pad w ∷ s) ns xs rest f =
 
 -- ---- its length
 
-pub length_written : (s : Struct) (ns : List ℕ) (xs : List (List ℕ)) → Fits s ns xs → length (written_with s ns xs) ≡ size s
+pub length_written : (s : Struct) (ns : List ℕ) (xs : List (List ℕ)) → FitsStruct s ns xs → length (written_with s ns xs) ≡ size s
 length_written [] [] [] f = refl
 length_written [] [] (x ∷ xs) f = absurd f
 length_written [] (n ∷ ns) xs f = absurd f
@@ -125,7 +125,7 @@ length_bytes : (n at : ℕ) (m : List ℕ) → length (bytes_from at n m) ≡ n
 length_bytes zero at m = refl
 length_bytes (suc n) at m = let rest = length_bytes n (suc at) m in omega arith
 
-pub numbers_fit : (s : Struct) (at : ℕ) (m : List ℕ) → IsBytes m → Fits s (numbers s at m) (texts s at m)
+pub numbers_fit : (s : Struct) (at : ℕ) (m : List ℕ) → IsBytes m → FitsStruct s (numbers s at m) (texts s at m)
 numbers_fit [] at m b = tt
 numbers_fit (byte name ∷ s) at m b = (b at, numbers_fit s (at + 1) m b)
 numbers_fit (number name w ∷ s) at m b = (big_from-lt 0 w (drop at m) (IsBytes-drop at m b), numbers_fit s (at + w) m b)

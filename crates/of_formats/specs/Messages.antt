@@ -30,9 +30,9 @@ is_bad_size (Some (Least n)) k = nat_lt k n
 
 -- ---- the sizes are those of the structs
 
-abbrev pub bytes_of : Size → ℕ
-bytes_of (Exact n) = n
-bytes_of (Least n) = n
+abbrev pub size_in_bytes : Size → ℕ
+size_in_bytes (Exact n) = n
+size_in_bytes (Least n) = n
 
 -- a match has 8 bytes at least (7.2.3)
 abbrev pub smallest_match : Struct

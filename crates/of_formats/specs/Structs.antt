@@ -25,15 +25,15 @@ u32 name = number name 4
 abbrev pub u64 : String → Slot
 u64 name = number name 8
 
-abbrev pub width : Slot → ℕ
-width (byte name) = 1
-width (number name w) = w
-width (plain name w) = w
-width (pad w) = w
+abbrev pub slot_width : Slot → ℕ
+slot_width (byte name) = 1
+slot_width (number name w) = w
+slot_width (plain name w) = w
+slot_width (pad w) = w
 
 abbrev pub size : Struct → ℕ
 size [] = 0
-size (slot ∷ s) = width slot + size s
+size (slot ∷ s) = slot_width slot + size s
 
 -- READ: the numbers of the fields of a struct that begins there, one for each field that is a number. So where a reader names them all, its last case, `other`, never applies.
 abbrev pub numbers : Struct → ℕ → List ℕ → List ℕ
@@ -71,16 +71,16 @@ abbrev pub written : Struct → List ℕ → List ℕ
 written s ns = written_with s ns []
 
 -- the numbers fit their bytes, and the bytes have their width
-abbrev pub Fits : Struct → List ℕ → List (List ℕ) → Type 0
-Fits [] [] [] = Unit {0}
-Fits [] ns xs = ⊥
-Fits (byte name ∷ s) [] xs = ⊥
-Fits (byte name ∷ s) (n ∷ ns) xs = (n < 256) × Fits s ns xs
-Fits (number name w ∷ s) [] xs = ⊥
-Fits (number name w ∷ s) (n ∷ ns) xs = (n < 256 ^ w) × Fits s ns xs
-Fits (plain name w ∷ s) ns [] = ⊥
-Fits (plain name w ∷ s) ns (x ∷ xs) = (length x ≡ w) × Fits s ns xs
-Fits (pad w ∷ s) ns xs = Fits s ns xs
+abbrev pub FitsStruct : Struct → List ℕ → List (List ℕ) → Type 0
+FitsStruct [] [] [] = Unit {0}
+FitsStruct [] ns xs = ⊥
+FitsStruct (byte name ∷ s) [] xs = ⊥
+FitsStruct (byte name ∷ s) (n ∷ ns) xs = (n < 256) × FitsStruct s ns xs
+FitsStruct (number name w ∷ s) [] xs = ⊥
+FitsStruct (number name w ∷ s) (n ∷ ns) xs = (n < 256 ^ w) × FitsStruct s ns xs
+FitsStruct (plain name w ∷ s) ns [] = ⊥
+FitsStruct (plain name w ∷ s) ns (x ∷ xs) = (length x ≡ w) × FitsStruct s ns xs
+FitsStruct (pad w ∷ s) ns xs = FitsStruct s ns xs
 
 -- the bytes of a struct with its padding cleared
 abbrev pub cleared : Struct → List ℕ → List ℕ

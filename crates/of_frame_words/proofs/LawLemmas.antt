@@ -5,20 +5,20 @@ use Rattle.std.specs.List.{list_any}
 use Rattle.of_layers.specs.declared.field.Field.{Field}
 use Rattle.of_layers.specs.declared.field.Field.TheVariants.{InPort, Metadata, EthType, VlanVid, VlanPcp, IpProto}
 use Rattle.of_layers.specs.declared.field.Prerequisite.TheVariants as needs
-use Rattle.of_layers.specs.Fields.{row_of, number_of, bits_of, prerequisite_of}
+use Rattle.of_layers.specs.Fields.{row_of, number_of, bit_count, prerequisite_of}
 use Rattle.of_shapes.specs.declared.shape.Shape.{Shape}
 use Rattle.of_shapes.specs.declared.shape.Shape.TheVariants as shapes
 use Rattle.of_shapes.specs.declared.shape.Tagging.{Tagging}
 use Rattle.of_shapes.specs.declared.shape.Tagging.TheVariants.{Untagged, Tagged}
-use Rattle.of_shapes.specs.Rules.{has_header, protocol_of, type_of}
-use Rattle.of_frames.specs.Given.{given, or_zero, fields_given, vlan_vid_given, vlan_pcp_given}
+use Rattle.of_shapes.specs.Rules.{has_header, protocol_of, shape_type}
+use Rattle.of_frames.specs.Given.{given_number, or_zero, fields_given, vlan_vid_given, vlan_pcp_given}
 use Rattle.of_frames.proofs.FrameLemmas.{given_fields, given_frame}
 use Rattle.of_oxm.specs.declared.match_field.MatchField.{MatchField}
 use Rattle.of_oxm.specs.Relations.{agrees, matches_map}
 use Rattle.of_ovs_words.specs.Outcomes.{◌>>=◌}
 use Rattle.of_ovs_words.specs.Words.{words_from}
-use Rattle.of_frame_words.specs.Frames.{ReceivedFrame, Has, IsDefault, at_port, with_setting, set_by, shape_by, tagging_by, received_by, received, map_of, missed, unless_missed, checked, frame_in, is_unsaid}
-use Rattle.of_frame_words.specs.Said.{WordRefusal, with_words}
+use Rattle.of_frame_words.specs.Frames.{ReceivedFrame, Has, IsDefault, at_port, with_setting, set_by, shape_by, tagging_by, received_by, received_frame, map_of, missed, unless_missed, checked, frame_in_words, is_unsaid}
+use Rattle.of_frame_words.specs.Said.{WordRefusal, with_setting_words}
 
 -- ---- settings that are all had
 
@@ -83,9 +83,9 @@ defaults v port f = elim f as (λ f. v f ≡ 0 → (number_of f == number_of InP
   | Metadata ↦ λ z e. inr refl
   | VlanVid ↦ λ z e. inr (ap (λ (x : ℕ). Some (vlan_vid_given (tagging_by x) v)) z)
   | VlanPcp ↦ λ z e. pcp_default (tagging_by (v VlanVid)) v z
-  | EthType ↦ λ z e. inr (ap (λ (x : ℕ). Some (unwrap_or (type_of (shape_by x (v IpProto))) (x % 65536))) z)
+  | EthType ↦ λ z e. inr (ap (λ (x : ℕ). Some (unwrap_or (shape_type (shape_by x (v IpProto))) (x % 65536))) z)
   | IpProto ↦ λ z e. protocol_default (v EthType) (v IpProto) z
-  | f ↦ λ z e. default_by (has_header (shape_by (v EthType) (v IpProto)) (prerequisite_of f)) (given v f) (ap (λ (x : ℕ). x % 2 ^ bits_of f) z)
+  | f ↦ λ z e. default_by (has_header (shape_by (v EthType) (v IpProto)) (prerequisite_of f)) (given_number v f) (ap (λ (x : ℕ). x % 2 ^ bit_count f) z)
 ]
 
 map_is : (v : Field → ℕ) (f : Field) → map_of (received_by v) f ≡ fields_given (shape_by (v EthType) (v IpProto)) (tagging_by (v VlanVid)) v (v InPort) 0 f
@@ -100,15 +100,15 @@ unless_ok settings r s None e = (refl, same r s e)
     same r s e = cc
 unless_ok settings r s (Some x) e = absurd cc
 
-pub has_what_is_said : (port : ℕ) (text : List ℕ) (settings : List MatchField) (r : ReceivedFrame) → with_words [] (words_from 0 text) ≡ Ok settings → frame_in port text ≡ Ok r → Has port settings r
-unfolding frame_in
+pub has_what_is_said : (port : ℕ) (text : List ℕ) (settings : List MatchField) (r : ReceivedFrame) → with_setting_words [] (words_from 0 text) ≡ Ok settings → frame_in_words port text ≡ Ok r → Has port settings r
+unfolding frame_in_words
 has_what_is_said port text settings r w e =
     let v = or_zero (set_by settings (at_port port)) in
-    let here : checked settings (received port settings) ≡ Ok r = sym (ap (λ x. x >>= λ settings. checked settings (received port settings)) w) ∙ e in
-    let ok = unless_ok settings (received port settings) r (missed settings (map_of (received port settings))) here in
+    let here : checked settings (received_frame port settings) ≡ Ok r = sym (ap (λ x. x >>= λ settings. checked settings (received_frame port settings)) w) ∙ e in
+    let ok = unless_ok settings (received_frame port settings) r (missed settings (map_of (received_frame port settings))) here in
     subst (Has port settings) ok.1 (record {
       frame = given_frame (shape_by (v EthType) (v IpProto)) (tagging_by (v VlanVid)) v;
-      said = none_missed settings (map_of (received port settings)) ok.0;
+      said = none_missed settings (map_of (received_frame port settings)) ok.0;
       others = λ f u i. subst IsDefault (sym (map_is v f)) (defaults v (v InPort) f (unsaid_zero port settings f u i) i);
       port_is = λ u. ap (λ (o : Option ℕ). unwrap_or o 0) (unset settings (at_port port) InPort u);
     })

@@ -19,9 +19,9 @@ use Rattle.of_ovs_words.specs.Outcomes.{◌>>=◌}
 use Rattle.of_ovs_words.specs.Words.{words_from}
 use Rattle.of_frame_words.specs.declared.why.NoFrame.{NoFrame}
 use Rattle.of_frame_words.specs.declared.why.NoFrame.TheVariants.{NoMemory, Refused}
-use Rattle.of_frame_words.specs.Frames.{ReceivedFrame, at_port, with_setting, set_by, shape_by, tagging_by, received, received_by, frame_in, map_of, missed, why_missed, unless_missed, checked}
-use Rattle.of_frame_words.specs.Refusals.{IsRefusal, Stops}
-use Rattle.of_frame_words.specs.Said.{WordRefusal, with_words}
+use Rattle.of_frame_words.specs.Frames.{ReceivedFrame, at_port, with_setting, set_by, shape_by, tagging_by, received_frame, received_by, frame_in_words, map_of, missed, why_missed, unless_missed, checked}
+use Rattle.of_frame_words.specs.Refusals.{IsRefusal, FrameStops}
+use Rattle.of_frame_words.specs.Said.{WordRefusal, with_setting_words}
 use Rattle.of_frame_words.proofs.WordLemmas.{refusal_stops}
 
 -- the port alone
@@ -54,21 +54,21 @@ received_is key said shape tagging frame k s t e =
 pub checked_ok : (settings : List MatchField) (r : ReceivedFrame) (map : Field → Option ℕ) → map ≡ map_of r → None ≡ missed settings map → checked settings r ≡ Ok r
 checked_ok settings r map k m = ap (unless_missed settings r) (sym (m ∙ ap (missed settings) k))
 
-pub checked_stop : (settings : List MatchField) (r : ReceivedFrame) (map : Field → Option ℕ) (e : MatchField) (stop : NoFrame) → map ≡ map_of r → Some e ≡ missed settings map → IsRefusal (text_for e.field) (why_missed settings e) stop → Stops (checked settings r) stop
+pub checked_stop : (settings : List MatchField) (r : ReceivedFrame) (map : Field → Option ℕ) (e : MatchField) (stop : NoFrame) → map ≡ map_of r → Some e ≡ missed settings map → IsRefusal (text_for e.field) (why_missed settings e) stop → FrameStops (checked settings r) stop
 checked_stop settings r map e stop k m h = refusal_stops (checked settings r) (text_for e.field) (why_missed settings e) stop (ap (unless_missed settings r) (sym (m ∙ ap (missed settings) k))) h
 
 -- ---- the whole
 
-pub frame_stops : (port : ℕ) (text : List ℕ) (s : List MatchField) (stop : NoFrame) → s ≡ [] → Stops (with_words s (words_from 0 text)) stop → Stops (frame_in port text) stop
-unfolding frame_in
+pub frame_stops : (port : ℕ) (text : List ℕ) (s : List MatchField) (stop : NoFrame) → s ≡ [] → FrameStops (with_setting_words s (words_from 0 text)) stop → FrameStops (frame_in_words port text) stop
+unfolding frame_in_words
 frame_stops port text s NoMemory e h = tt
 frame_stops port text s (Refused r) e h =
-    ap (λ (x : Result (List MatchField) WordRefusal). x >>= λ settings. checked settings (received port settings)) (ap (λ (xs : List MatchField). with_words xs (words_from 0 text)) (sym e) ∙ h)
+    ap (λ (x : Result (List MatchField) WordRefusal). x >>= λ settings. checked settings (received_frame port settings)) (ap (λ (xs : List MatchField). with_setting_words xs (words_from 0 text)) (sym e) ∙ h)
 
-pub frame_is : (port : ℕ) (text : List ℕ) (s settings : List MatchField) (r : ReceivedFrame) → s ≡ [] → with_words s (words_from 0 text) ≡ Ok settings → r ≡ received port settings → frame_in port text ≡ checked settings r
-unfolding frame_in
+pub frame_is : (port : ℕ) (text : List ℕ) (s settings : List MatchField) (r : ReceivedFrame) → s ≡ [] → with_setting_words s (words_from 0 text) ≡ Ok settings → r ≡ received_frame port settings → frame_in_words port text ≡ checked settings r
+unfolding frame_in_words
 frame_is port text s settings r e w h =
-    ap (λ (x : Result (List MatchField) WordRefusal). x >>= λ settings. checked settings (received port settings)) (ap (λ (xs : List MatchField). with_words xs (words_from 0 text)) (sym e) ∙ w) ∙ ap (checked settings) (sym h)
+    ap (λ (x : Result (List MatchField) WordRefusal). x >>= λ settings. checked settings (received_frame port settings)) (ap (λ (xs : List MatchField). with_setting_words xs (words_from 0 text)) (sym e) ∙ w) ∙ ap (checked settings) (sym h)
 
 pub err_weaker : {T E : Type 0} (r : Result T E) (P Q : E → Type 0) → ((e : E) → P e → Q e) → IfErr r P → IfErr r Q
 err_weaker (Ok x) P Q f h = h

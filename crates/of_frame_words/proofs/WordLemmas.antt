@@ -3,29 +3,29 @@ use Rattle.std.proofs.Common.{◌≡◌, ℕ, ◌<◌, eqb, sym, Bool, true, fal
 use Rattle.of_oxm.specs.declared.match_field.MatchField.{MatchField}
 use Rattle.of_ovs_words.specs.declared.why.Why.{Why as WordWhy}
 use Rattle.of_ovs_words.specs.Outcomes.{◌>>=◌}
-use Rattle.of_ovs_words.specs.Words.{words_from, word_in, after_word, value_of}
+use Rattle.of_ovs_words.specs.Words.{words_from, word_in, after_word, word_value}
 use Rattle.of_ovs_words.proofs.WordLemmas.{first_word}
 use Rattle.of_frame_words.specs.declared.why.Why.{Why}
 use Rattle.of_frame_words.specs.declared.why.Why.TheVariants.{Word, Mask}
 use Rattle.of_frame_words.specs.declared.why.Refusal.{Refusal}
 use Rattle.of_frame_words.specs.declared.why.NoFrame.{NoFrame}
 use Rattle.of_frame_words.specs.declared.why.NoFrame.TheVariants.{NoMemory, Refused}
-use Rattle.of_frame_words.specs.Refusals.{IsRefusal, Stops, view_refusal}
-use Rattle.of_frame_words.specs.Said.{WordRefusal, refuse, said, of_word, has_mask, with_word, with_words}
+use Rattle.of_frame_words.specs.Refusals.{IsRefusal, FrameStops, view_word_refusal}
+use Rattle.of_frame_words.specs.Said.{WordRefusal, refuse, word_said, of_word, has_mask, with_setting_word, with_setting_words}
 
 -- ---- refusals
 
-same_refusal : {A : Type 0} (word : List ℕ) (why : Why) (r : Refusal) → r.word.items ≡ word → r.why ≡ why → ◌≡◌ {A = Result A WordRefusal} (refuse word why) (Err (view_refusal r))
+same_refusal : {A : Type 0} (word : List ℕ) (why : Why) (r : Refusal) → r.word.items ≡ word → r.why ≡ why → ◌≡◌ {A = Result A WordRefusal} (refuse word why) (Err (view_word_refusal r))
 same_refusal word why r e f = λ j. Err (record { word = sym e j; why = sym f j })
 
-pub refusal_stops : {A : Type 0} (outcome : Result A WordRefusal) (word : List ℕ) (why : Why) (stop : NoFrame) → outcome ≡ refuse word why → IsRefusal word why stop → Stops outcome stop
+pub refusal_stops : {A : Type 0} (outcome : Result A WordRefusal) (word : List ℕ) (why : Why) (stop : NoFrame) → outcome ≡ refuse word why → IsRefusal word why stop → FrameStops outcome stop
 refusal_stops outcome word why NoMemory e h = tt
 refusal_stops outcome word why (Refused r) e h = e ∙ same_refusal word why r h.0 h.1
 
 pub refusal_as : (w x : List ℕ) (why other : Why) (stop : NoFrame) → w ≡ x → why ≡ other → IsRefusal w why stop → IsRefusal x other stop
 refusal_as w x why other stop e f h = subst (λ (a : List ℕ). IsRefusal a other stop) e (subst (λ (b : Why). IsRefusal w b stop) f h)
 
-pub stops_same : {A : Type 0} (a b : Result A WordRefusal) (stop : NoFrame) → a ≡ b → Stops b stop → Stops a stop
+pub stops_same : {A : Type 0} (a b : Result A WordRefusal) (stop : NoFrame) → a ≡ b → FrameStops b stop → FrameStops a stop
 stops_same a b NoMemory e h = tt
 stops_same a b (Refused r) e h = e ∙ h
 
@@ -39,46 +39,46 @@ plain_by : (t : Bool) (a rest : Result (List MatchField) WordRefusal) → t ≡ 
 plain_by true a rest e = absurd cc
 plain_by false a rest e = refl
 
-pub masked_stop : (settings : List MatchField) (word : List ℕ) (stop : NoFrame) → has_mask (value_of word) ≡ true → IsRefusal word Mask stop → Stops (with_word settings word) stop
-unfolding with_word
-masked_stop settings word stop m h = refusal_stops (with_word settings word) word Mask stop (masked_by (has_mask (value_of word)) word (of_word word (said settings word)) m) h
+pub masked_stop : (settings : List MatchField) (word : List ℕ) (stop : NoFrame) → has_mask (word_value word) ≡ true → IsRefusal word Mask stop → FrameStops (with_setting_word settings word) stop
+unfolding with_setting_word
+masked_stop settings word stop m h = refusal_stops (with_setting_word settings word) word Mask stop (masked_by (has_mask (word_value word)) word (of_word word (word_said settings word)) m) h
 
-pub refused_stop : (settings : List MatchField) (word : List ℕ) (why : WordWhy) (stop : NoFrame) → has_mask (value_of word) ≡ false → said settings word ≡ Err why → IsRefusal word (Word why) stop → Stops (with_word settings word) stop
-unfolding with_word
+pub refused_stop : (settings : List MatchField) (word : List ℕ) (why : WordWhy) (stop : NoFrame) → has_mask (word_value word) ≡ false → word_said settings word ≡ Err why → IsRefusal word (Word why) stop → FrameStops (with_setting_word settings word) stop
+unfolding with_setting_word
 refused_stop settings word why stop m e h =
-    refusal_stops (with_word settings word) word (Word why) stop (plain_by (has_mask (value_of word)) (refuse word Mask) (of_word word (said settings word)) m ∙ ap (of_word word) e) h
+    refusal_stops (with_setting_word settings word) word (Word why) stop (plain_by (has_mask (word_value word)) (refuse word Mask) (of_word word (word_said settings word)) m ∙ ap (of_word word) e) h
 
-pub word_added : (settings next : List MatchField) (word : List ℕ) → has_mask (value_of word) ≡ false → said settings word ≡ Ok next → with_word settings word ≡ Ok next
-unfolding with_word
-word_added settings next word m e = plain_by (has_mask (value_of word)) (refuse word Mask) (of_word word (said settings word)) m ∙ ap (of_word word) e
+pub word_added : (settings next : List MatchField) (word : List ℕ) → has_mask (word_value word) ≡ false → word_said settings word ≡ Ok next → with_setting_word settings word ≡ Ok next
+unfolding with_setting_word
+word_added settings next word m e = plain_by (has_mask (word_value word)) (refuse word Mask) (of_word word (word_said settings word)) m ∙ ap (of_word word) e
 
 -- ---- words
 
 words_next : (s : List MatchField) (rest : List ℕ) → 0 < length rest →
-    with_words s (words_from 0 rest) ≡ cond (eqb (length (word_in 0 rest)) 0) (with_words s (words_from 0 (after_word 0 rest))) (with_word s (word_in 0 rest) >>= λ next. with_words next (words_from 0 (after_word 0 rest)))
-words_next s rest h = ap (with_words s) (first_word rest h)
+    with_setting_words s (words_from 0 rest) ≡ cond (eqb (length (word_in 0 rest)) 0) (with_setting_words s (words_from 0 (after_word 0 rest))) (with_setting_word s (word_in 0 rest) >>= λ next. with_setting_words next (words_from 0 (after_word 0 rest)))
+words_next s rest h = ap (with_setting_words s) (first_word rest h)
 
-pub words_end : (s : List MatchField) (rest : List ℕ) → rest ≡ [] → with_words s (words_from 0 rest) ≡ Ok s
+pub words_end : (s : List MatchField) (rest : List ℕ) → rest ≡ [] → with_setting_words s (words_from 0 rest) ≡ Ok s
 unfolding words_from
 words_end s rest e = rw e refl
 
-pub words_passed : (s : List MatchField) (rest word after : List ℕ) → 0 < length rest → word ≡ word_in 0 rest → after ≡ after_word 0 rest → eqb (length word) 0 ≡ true → with_words s (words_from 0 rest) ≡ with_words s (words_from 0 after)
+pub words_passed : (s : List MatchField) (rest word after : List ℕ) → 0 < length rest → word ≡ word_in 0 rest → after ≡ after_word 0 rest → eqb (length word) 0 ≡ true → with_setting_words s (words_from 0 rest) ≡ with_setting_words s (words_from 0 after)
 words_passed s rest word after h w a e =
     let none : eqb (length (word_in 0 rest)) 0 ≡ true = ap (λ (x : List ℕ). eqb (length x) 0) (sym w) ∙ e in
     words_next s rest h ∙ rw (none, a) refl
 
-pub words_more : (s next : List MatchField) (rest word after : List ℕ) → 0 < length rest → word ≡ word_in 0 rest → after ≡ after_word 0 rest → eqb (length word) 0 ≡ false → with_word s word ≡ Ok next → with_words s (words_from 0 rest) ≡ with_words next (words_from 0 after)
+pub words_more : (s next : List MatchField) (rest word after : List ℕ) → 0 < length rest → word ≡ word_in 0 rest → after ≡ after_word 0 rest → eqb (length word) 0 ≡ false → with_setting_word s word ≡ Ok next → with_setting_words s (words_from 0 rest) ≡ with_setting_words next (words_from 0 after)
 words_more s next rest word after h w a e k =
     let some : eqb (length (word_in 0 rest)) 0 ≡ false = ap (λ (x : List ℕ). eqb (length x) 0) (sym w) ∙ e in
-    let outcome : with_word s (word_in 0 rest) ≡ Ok next = ap (with_word s) (sym w) ∙ k in
+    let outcome : with_setting_word s (word_in 0 rest) ≡ Ok next = ap (with_setting_word s) (sym w) ∙ k in
     words_next s rest h ∙ rw (some, outcome, a) refl
 
-words_refused : (s : List MatchField) (rest word : List ℕ) (r : WordRefusal) → 0 < length rest → word ≡ word_in 0 rest → eqb (length word) 0 ≡ false → with_word s word ≡ Err r → with_words s (words_from 0 rest) ≡ Err r
+words_refused : (s : List MatchField) (rest word : List ℕ) (r : WordRefusal) → 0 < length rest → word ≡ word_in 0 rest → eqb (length word) 0 ≡ false → with_setting_word s word ≡ Err r → with_setting_words s (words_from 0 rest) ≡ Err r
 words_refused s rest word r h w e k =
     let some : eqb (length (word_in 0 rest)) 0 ≡ false = ap (λ (x : List ℕ). eqb (length x) 0) (sym w) ∙ e in
-    let outcome : with_word s (word_in 0 rest) ≡ Err r = ap (with_word s) (sym w) ∙ k in
+    let outcome : with_setting_word s (word_in 0 rest) ≡ Err r = ap (with_setting_word s) (sym w) ∙ k in
     words_next s rest h ∙ rw (some, outcome) refl
 
-pub words_stop : (s : List MatchField) (rest word : List ℕ) (stop : NoFrame) → 0 < length rest → word ≡ word_in 0 rest → eqb (length word) 0 ≡ false → Stops (with_word s word) stop → Stops (with_words s (words_from 0 rest)) stop
+pub words_stop : (s : List MatchField) (rest word : List ℕ) (stop : NoFrame) → 0 < length rest → word ≡ word_in 0 rest → eqb (length word) 0 ≡ false → FrameStops (with_setting_word s word) stop → FrameStops (with_setting_words s (words_from 0 rest)) stop
 words_stop s rest word NoMemory h w e k = tt
-words_stop s rest word (Refused r) h w e k = words_refused s rest word (view_refusal r) h w e k
+words_stop s rest word (Refused r) h w e k = words_refused s rest word (view_word_refusal r) h w e k

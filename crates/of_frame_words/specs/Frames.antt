@@ -25,7 +25,7 @@ use Rattle.of_ovs_words.specs.Outcomes.{◌>>=◌}
 use Rattle.of_ovs_words.specs.Words.{words_from}
 use Rattle.of_frame_words.specs.declared.why.Why.{Why}
 use Rattle.of_frame_words.specs.declared.why.Why.TheVariants.{Word, Impossible}
-use Rattle.of_frame_words.specs.Said.{WordRefusal, refuse, with_words}
+use Rattle.of_frame_words.specs.Said.{WordRefusal, refuse, with_setting_words}
 
 -- ---- the fields that settings say
 
@@ -44,17 +44,17 @@ at_port port other = None
 
 -- ---- the headers that they ask for
 
-abbrev pub over_ipv4 : ℕ → Shape
-over_ipv4 protocol = if protocol == 6 then shapes.Ipv4Tcp else if protocol == 17 then shapes.Ipv4Udp else if protocol == 1 then shapes.Ipv4Icmp else shapes.Ipv4
+abbrev pub shape_of_ipv4_protocol : ℕ → Shape
+shape_of_ipv4_protocol protocol = if protocol == 6 then shapes.Ipv4Tcp else if protocol == 17 then shapes.Ipv4Udp else if protocol == 1 then shapes.Ipv4Icmp else shapes.Ipv4
 
-abbrev pub over_ipv6 : ℕ → Shape
-over_ipv6 protocol = if protocol == 6 then shapes.Ipv6Tcp else if protocol == 17 then shapes.Ipv6Udp else if protocol == 58 then shapes.Ipv6Icmp else shapes.Ipv6
+abbrev pub shape_of_ipv6_protocol : ℕ → Shape
+shape_of_ipv6_protocol protocol = if protocol == 6 then shapes.Ipv6Tcp else if protocol == 17 then shapes.Ipv6Udp else if protocol == 58 then shapes.Ipv6Icmp else shapes.Ipv6
 
 abbrev pub shape_by : ℕ → ℕ → Shape
 shape_by type protocol =
     if type == 0x0806 then shapes.Arp
-    else if type == 0x0800 then over_ipv4 protocol
-    else if type == 0x86dd then over_ipv6 protocol
+    else if type == 0x0800 then shape_of_ipv4_protocol protocol
+    else if type == 0x86dd then shape_of_ipv6_protocol protocol
     else shapes.Bare
 
 -- OFPVID_PRESENT (OpenFlow 1.3.5, 7.2.3.7)
@@ -70,8 +70,8 @@ pub record ReceivedFrame : Type 0 where
 abbrev pub received_by : (Field → ℕ) → ReceivedFrame
 received_by v = record { port = v InPort; frame = frame_given (shape_by (v EthType) (v IpProto)) (tagging_by (v VlanVid)) v }
 
-abbrev pub received : ℕ → List MatchField → ReceivedFrame
-received port settings = received_by (or_zero (set_by settings (at_port port)))
+abbrev pub received_frame : ℕ → List MatchField → ReceivedFrame
+received_frame port settings = received_by (or_zero (set_by settings (at_port port)))
 
 abbrev pub map_of : ReceivedFrame → Field → Option ℕ
 map_of r = field_map (layers_of r.frame) r.port 0
@@ -82,20 +82,20 @@ abbrev pub missed : List MatchField → (Field → Option ℕ) → Option MatchF
 missed settings map = find (λ e. not (agrees e (map e.field))) settings
 
 -- the prerequisite of its field is missing (OpenFlow 1.3.5, 7.2.3.8)
-abbrev pub why_missing : Prerequisite → WordWhy
-why_missing needs.Nothing = words.Unknown
-why_missing needs.Tag = words.NeedsTag
-why_missing needs.Ip = words.NeedsIp
-why_missing needs.Ipv4 = words.NeedsIpv4
-why_missing needs.Ipv6 = words.NeedsIpv6
-why_missing needs.Arp = words.NeedsArp
-why_missing needs.Tcp = words.NeedsTcp
-why_missing needs.Udp = words.NeedsUdp
-why_missing needs.Icmpv4 = words.NeedsIcmp
-why_missing needs.Icmpv6 = words.NeedsIcmp6
+abbrev pub word_why_missing : Prerequisite → WordWhy
+word_why_missing needs.Nothing = words.Unknown
+word_why_missing needs.Tag = words.NeedsTag
+word_why_missing needs.Ip = words.NeedsIp
+word_why_missing needs.Ipv4 = words.NeedsIpv4
+word_why_missing needs.Ipv6 = words.NeedsIpv6
+word_why_missing needs.Arp = words.NeedsArp
+word_why_missing needs.Tcp = words.NeedsTcp
+word_why_missing needs.Udp = words.NeedsUdp
+word_why_missing needs.Icmpv4 = words.NeedsIcmp
+word_why_missing needs.Icmpv6 = words.NeedsIcmp6
 
 abbrev pub why_missed : List MatchField → MatchField → Why
-why_missed settings e = if is_met settings (prerequisite_of e.field) then Impossible else Word (why_missing (prerequisite_of e.field))
+why_missed settings e = if is_met settings (prerequisite_of e.field) then Impossible else Word (word_why_missing (prerequisite_of e.field))
 
 abbrev pub unless_missed : List MatchField → ReceivedFrame → Option MatchField → Result ReceivedFrame WordRefusal
 unless_missed settings r None = Ok r
@@ -105,8 +105,8 @@ abbrev pub checked : List MatchField → ReceivedFrame → Result ReceivedFrame 
 checked settings r = unless_missed settings r (missed settings (map_of r))
 
 -- THE FRAME THAT WORDS SAY, received at the port that they say, or else at this one. Refused is the first word that has no meaning, and then the first setting that the frame does not have.
-unfoldable pub frame_in : ℕ → List ℕ → Result ReceivedFrame WordRefusal
-frame_in port text = with_words [] (words_from 0 text) >>= λ settings. checked settings (received port settings)
+unfoldable pub frame_in_words : ℕ → List ℕ → Result ReceivedFrame WordRefusal
+frame_in_words port text = with_setting_words [] (words_from 0 text) >>= λ settings. checked settings (received_frame port settings)
 
 -- ---- what such a frame is
 

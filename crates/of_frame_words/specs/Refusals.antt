@@ -6,12 +6,12 @@ use Rattle.of_frame_words.specs.declared.why.NoFrame.{NoFrame}
 use Rattle.of_frame_words.specs.declared.why.NoFrame.TheVariants.{NoMemory, Refused}
 use Rattle.of_frame_words.specs.Said.{WordRefusal}
 
-abbrev pub view_refusal : Refusal → WordRefusal
-view_refusal r = record { word = r.word.items; why = r.why }
+abbrev pub view_word_refusal : Refusal → WordRefusal
+view_word_refusal r = record { word = r.word.items; why = r.why }
 
-abbrev pub Stops : {A : Type 0} → Result A WordRefusal → NoFrame → Type 0
-Stops outcome NoMemory = Unit {0}
-Stops outcome (Refused r) = outcome ≡ Err (view_refusal r)
+abbrev pub FrameStops : {A : Type 0} → Result A WordRefusal → NoFrame → Type 0
+FrameStops outcome NoMemory = Unit {0}
+FrameStops outcome (Refused r) = outcome ≡ Err (view_word_refusal r)
 
 abbrev pub IsRefusal : List ℕ → Why → NoFrame → Type 0
 IsRefusal word why NoMemory = Unit {0}

@@ -7,10 +7,10 @@ use Rattle.of_ovs_words.specs.declared.why.Why.TheVariants.{Unknown}
 use Rattle.of_ovs_words.specs.declared.field_word.FieldWord.{FieldWord}
 use Rattle.of_ovs_words.specs.declared.protocol_word.ProtocolWord.{ProtocolWord}
 use Rattle.of_ovs_words.specs.FieldWords.{field_word_named}
-use Rattle.of_ovs_words.specs.Matches.{with_field, with_protocol}
+use Rattle.of_ovs_words.specs.Matches.{with_match_field, with_protocol}
 use Rattle.of_ovs_words.specs.Outcomes.{◌>>=◌}
 use Rattle.of_ovs_words.specs.ProtocolWords.{protocol_named}
-use Rattle.of_ovs_words.specs.Words.{name_of, value_of, word_in}
+use Rattle.of_ovs_words.specs.Words.{word_name, word_value, word_in}
 use Rattle.of_frame_words.specs.declared.why.Why.{Why}
 use Rattle.of_frame_words.specs.declared.why.Why.TheVariants.{Word, Mask}
 
@@ -26,12 +26,12 @@ refuse word why = Err (record { word = word; why = why })
 
 -- the word of a field, or else that of a protocol
 abbrev pub by_name : Option FieldWord → Option ProtocolWord → List MatchField → List ℕ → Result (List MatchField) WordWhy
-by_name (Some w) p settings value = with_field settings w value
+by_name (Some w) p settings value = with_match_field settings w value
 by_name None (Some p) settings value = with_protocol settings p value
 by_name None None settings value = Err Unknown
 
-abbrev pub said : List MatchField → List ℕ → Result (List MatchField) WordWhy
-said settings word = by_name (field_word_named (name_of word)) (protocol_named (name_of word)) settings (value_of word)
+abbrev pub word_said : List MatchField → List ℕ → Result (List MatchField) WordWhy
+word_said settings word = by_name (field_word_named (word_name word)) (protocol_named (word_name word)) settings (word_value word)
 
 abbrev pub of_word : List ℕ → Result (List MatchField) WordWhy → Result (List MatchField) WordRefusal
 of_word word (Ok settings) = Ok settings
@@ -42,15 +42,15 @@ abbrev pub has_mask : List ℕ → Bool
 has_mask value = list_any (λ b. b == 47) value
 
 -- the settings with those of one more word
-unfoldable pub with_word : List MatchField → List ℕ → Result (List MatchField) WordRefusal
-with_word settings word = if has_mask (value_of word) then refuse word Mask else of_word word (said settings word)
+unfoldable pub with_setting_word : List MatchField → List ℕ → Result (List MatchField) WordRefusal
+with_setting_word settings word = if has_mask (word_value word) then refuse word Mask else of_word word (word_said settings word)
 
 -- ---- words
 
 -- with those of all words, of which empty ones are passed over, until one is refused
-abbrev pub with_words : List MatchField → List (List ℕ) → Result (List MatchField) WordRefusal
-with_words settings [] = Ok settings
-with_words settings (w ∷ ws) = if length w == 0 then with_words settings ws else with_word settings w >>= λ next. with_words next ws
+abbrev pub with_setting_words : List MatchField → List (List ℕ) → Result (List MatchField) WordRefusal
+with_setting_words settings [] = Ok settings
+with_setting_words settings (w ∷ ws) = if length w == 0 then with_setting_words settings ws else with_setting_word settings w >>= λ next. with_setting_words next ws
 
 abbrev pub has_value : List ℕ → Bool
 has_value text = list_any (λ b. b == 61) text

@@ -1,7 +1,7 @@
 //! The frame that words say.
 ghost use Rattle.std.specs.Prelude.{◌≡◌, ◌≤◌, length, IfOk, IfErr, Ok};
-ghost use Rattle.of_frame_words.specs.Frames.{checked as checked_so, frame_in, received as received_so};
-ghost use Rattle.of_frame_words.specs.Refusals.{Stops};
+ghost use Rattle.of_frame_words.specs.Frames.{checked as checked_so, frame_in_words, received_frame as received_so};
+ghost use Rattle.of_frame_words.specs.Refusals.{FrameStops};
 ghost use Rattle.of_frame_words.specs.Views.{view_received};
 
 use crate::said::{key_said, missed, shape_of, tagging_of, why_missed};
@@ -39,7 +39,7 @@ fn frame_said(alloc: Global, port: u32, settings: &[MatchField]) -> Result<Recei
 fn checked(alloc: Global, settings: &[MatchField], received: Received) -> Result<Received, NoFrame>
     requires { 14 ≤ length received.frame.items }
     ensures read { IfOk result (λ r. checked_so settings.now (view_received received) ≡ Ok (view_received r)) }
-    ensures stopped { IfErr result (Stops (checked_so settings.now (view_received received))) }
+    ensures stopped { IfErr result (FrameStops (checked_so settings.now (view_received received))) }
 {
     let key = Known::Nothing.key(&received.frame, received.port, 0);
     match missed(settings, &key) {
@@ -53,8 +53,8 @@ fn checked(alloc: Global, settings: &[MatchField], received: Received) -> Result
 /// The words are those of a match (ovs-fields(7)), with values alone. Fields that no word says are 0, TTL and hop limit are 64, lengths and checksums are
 /// right. Refused is the first word without a meaning, and then the first field that no frame with the other fields has.
 pub fn read_frame(alloc: Global, port: u32, text: &[u8]) -> Result<Received, NoFrame>
-    ensures read { IfOk result (λ r. frame_in port text.now ≡ Ok (view_received r)) }
-    ensures stopped { IfErr result (Stops (frame_in port text.now)) }
+    ensures read { IfOk result (λ r. frame_in_words port text.now ≡ Ok (view_received r)) }
+    ensures stopped { IfErr result (FrameStops (frame_in_words port text.now)) }
 {
     let mut settings = Vec::new(alloc);
     add_words(alloc, &mut settings, text)?;

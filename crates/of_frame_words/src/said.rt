@@ -4,7 +4,7 @@ ghost use Rattle.std.specs.Option.{option_copied};
 ghost use Rattle.of_headers.specs.FieldMap.{value as value_in};
 ghost use Rattle.of_layers.specs.Fields.{prerequisite_of};
 ghost use Rattle.of_oxm.specs.Relations.{agrees as agrees_with};
-ghost use Rattle.of_frame_words.specs.Frames.{at_port, missed as first_missed, over_ipv4 as shape_over_ipv4, over_ipv6 as shape_over_ipv6, set_by, shape_by, tagging_by, why_missed as why_missed_so, why_missing as why_missing_so};
+ghost use Rattle.of_frame_words.specs.Frames.{at_port, missed as first_missed, shape_of_ipv4_protocol as shape_over_ipv4, shape_of_ipv6_protocol as shape_over_ipv6, set_by, shape_by, tagging_by, why_missed as why_missed_so, word_why_missing as why_missing_so};
 
 use crate::why::Why;
 use of_headers::{Field, FieldKey, Prerequisite};

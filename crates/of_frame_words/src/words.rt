@@ -2,8 +2,8 @@
 ghost use Rattle.std.specs.Prelude.{◌≡◌, IfOk, IfErr, Ok};
 ghost use Rattle.of_ovs_words.specs.Stops.{Stops as WordStops};
 ghost use Rattle.of_ovs_words.specs.Words.{words_from};
-ghost use Rattle.of_frame_words.specs.Refusals.{Stops};
-ghost use Rattle.of_frame_words.specs.Said.{are_frame_words, by_name, has_mask as is_masked, has_value as has_a_value, said, with_word, with_words};
+ghost use Rattle.of_frame_words.specs.Refusals.{FrameStops};
+ghost use Rattle.of_frame_words.specs.Said.{are_frame_words, by_name, has_mask as is_masked, has_value as has_a_value, word_said, with_setting_word, with_setting_words};
 
 use crate::why::{NoFrame, Why, refuse};
 use of_ovs_words::{
@@ -53,8 +53,8 @@ fn add_named(
 
 // Appends what a word says.
 fn add_said(settings: &mut Vec<MatchField>, word: &[u8]) -> Result<(), Stop>
-    ensures added { IfOk result (λ _. said settings.old.items word.now ≡ Ok settings.new.items) }
-    ensures stopped { IfErr result (WordStops (said settings.old.items word.now)) }
+    ensures added { IfOk result (λ _. word_said settings.old.items word.now ≡ Ok settings.new.items) }
+    ensures stopped { IfErr result (WordStops (word_said settings.old.items word.now)) }
 {
     let name = name_of(word);
     add_named(
@@ -67,8 +67,8 @@ fn add_said(settings: &mut Vec<MatchField>, word: &[u8]) -> Result<(), Stop>
 
 // The same for a word that may be refused.
 fn add_word(alloc: Global, settings: &mut Vec<MatchField>, word: &[u8]) -> Result<(), NoFrame>
-    ensures added { IfOk result (λ _. with_word settings.old.items word.now ≡ Ok settings.new.items) }
-    ensures stopped { IfErr result (Stops (with_word settings.old.items word.now)) }
+    ensures added { IfOk result (λ _. with_setting_word settings.old.items word.now ≡ Ok settings.new.items) }
+    ensures stopped { IfErr result (FrameStops (with_setting_word settings.old.items word.now)) }
 {
     if has_mask(value_of(word)) {
         return Err(refuse(alloc, word, Why::Mask));
@@ -82,8 +82,8 @@ fn add_word(alloc: Global, settings: &mut Vec<MatchField>, word: &[u8]) -> Resul
 
 /// Appends what words say, until one is refused.
 pub fn add_words(alloc: Global, settings: &mut Vec<MatchField>, text: &[u8]) -> Result<(), NoFrame>
-    ensures added { IfOk result (λ _. with_words settings.old.items (words_from 0 text.now) ≡ Ok settings.new.items) }
-    ensures stopped { IfErr result (Stops (with_words settings.old.items (words_from 0 text.now))) }
+    ensures added { IfOk result (λ _. with_setting_words settings.old.items (words_from 0 text.now) ≡ Ok settings.new.items) }
+    ensures stopped { IfErr result (FrameStops (with_setting_words settings.old.items (words_from 0 text.now))) }
 {
     let mut rest = text;
     while !rest.is_empty() {

@@ -6,22 +6,22 @@ use Rattle.of_layers.specs.declared.field.Field.{Field}
 use Rattle.of_layers.specs.declared.field.Field.TheVariants.{EthDst, EthSrc, EthType, VlanPcp, IpDscp, IpEcn, IpProto, Ipv4Src, Ipv4Dst, TcpSrc, TcpDst, UdpSrc, UdpDst, Icmpv4Type, Icmpv4Code, ArpOp, ArpSpa, ArpTpa, ArpSha, ArpTha, Ipv6Src, Ipv6Dst, Ipv6Flabel, Icmpv6Type, Icmpv6Code}
 use Rattle.of_layers.specs.declared.transport.Transport.{Transport}
 use Rattle.of_layers.specs.declared.transport.Transport.TheVariants.{Nothing, Tcp, Udp, Icmpv4, Icmpv6}
-use Rattle.of_layers.specs.Fields.{row_of, bits_of}
+use Rattle.of_layers.specs.Fields.{row_of, bit_count}
 use Rattle.of_layers.specs.Layers.{items_of, addresses, body_cells, encoded}
 use Rattle.of_layers.specs.Reading.{is_tag_type, over_ipv4, over_ipv6, whole_in, has_extension, is_fragment, has_options, extension_size}
-use Rattle.of_layers.specs.WellFormed.{AreBytes, Fits, AreTags, bytes_in, IsArp, IsIpv4, IsIpv6, IsBody, IsLayers, has_packet}
+use Rattle.of_layers.specs.WellFormed.{AreBytes, FitsItems, AreTags, carried_size, IsArp, IsIpv4, IsIpv6, IsBody, IsLayers, has_packet}
 use Rattle.of_shapes.specs.declared.shape.Shape.{Shape}
 use Rattle.of_shapes.specs.declared.shape.Shape.TheVariants as shapes
 use Rattle.of_shapes.specs.declared.shape.Tagging.{Tagging}
 use Rattle.of_shapes.specs.declared.shape.Tagging.TheVariants.{Untagged, Tagged}
-use Rattle.of_frames.specs.Given.{given, type_given}
+use Rattle.of_frames.specs.Given.{given_number, type_given}
 use Rattle.of_frames.specs.Checksums.{protocol_with, size_with, ipv4_sum, ipv6_sum, carried_checksum}
 use Rattle.of_frames.specs.Packets.{ends_given, tags_given, arp_given, ipv4_given, ipv6_given, numbers_given, bytes_behind, carried_given, body_given, layers_given}
 
 -- ---- numbers within their bits
 
-pub given_small : (v : Field → ℕ) (f : Field) → given v f < 2 ^ bits_of f
-given_small v f = mod_below (v f) (2 ^ bits_of f) (pow_pos (bits_of f))
+pub given_small : (v : Field → ℕ) (f : Field) → given_number v f < 2 ^ bit_count f
+given_small v f = mod_below (v f) (2 ^ bit_count f) (pow_pos (bit_count f))
 
 pub protocol_small : (k : Transport) (v : Field → ℕ) → protocol_with k v < 2 ^ 8
 unfolding row_of
@@ -82,7 +82,7 @@ bytes_behind_fit Icmpv6 = four_zeros
 
 -- ---- what an IP packet carries
 
-numbers_fit : (k : Transport) (v : Field → ℕ) (sum : ℕ) → sum < 2 ^ 16 → Fits (items_of k) (numbers_given k v sum)
+numbers_fit : (k : Transport) (v : Field → ℕ) (sum : ℕ) → sum < 2 ^ 16 → FitsItems (items_of k) (numbers_given k v sum)
 unfolding row_of
 numbers_fit Nothing v sum h = tt
 numbers_fit Tcp v sum h = (given_small v TcpSrc, (given_small v TcpDst, (omega arith, (omega arith, (omega arith, (omega arith, (h, (omega arith, tt))))))))
@@ -118,15 +118,15 @@ Over6 Udp = Unit {0}
 Over6 Icmpv4 = ⊥
 Over6 Icmpv6 = Unit {0}
 
-kind4 : (k : Transport) (v : Field → ℕ) (sum : ℕ) → Over4 k → k ≡ whole_in (over_ipv4 (protocol_with k v)) (bytes_in (carried_given k v sum))
-kind4 Nothing v sum o = none4 (given v IpProto == 6) (given v IpProto == 17) (given v IpProto == 1)
+kind4 : (k : Transport) (v : Field → ℕ) (sum : ℕ) → Over4 k → k ≡ whole_in (over_ipv4 (protocol_with k v)) (carried_size (carried_given k v sum))
+kind4 Nothing v sum o = none4 (given_number v IpProto == 6) (given_number v IpProto == 17) (given_number v IpProto == 1)
 kind4 Tcp v sum o = refl
 kind4 Udp v sum o = refl
 kind4 Icmpv4 v sum o = refl
 kind4 Icmpv6 v sum o = absurd o
 
-kind6 : (k : Transport) (v : Field → ℕ) (sum : ℕ) → Over6 k → k ≡ whole_in (over_ipv6 (protocol_with k v)) (bytes_in (carried_given k v sum))
-kind6 Nothing v sum o = none6 (given v IpProto == 6) (given v IpProto == 17) (given v IpProto == 58)
+kind6 : (k : Transport) (v : Field → ℕ) (sum : ℕ) → Over6 k → k ≡ whole_in (over_ipv6 (protocol_with k v)) (carried_size (carried_given k v sum))
+kind6 Nothing v sum o = none6 (given_number v IpProto == 6) (given_number v IpProto == 17) (given_number v IpProto == 58)
 kind6 Tcp v sum o = refl
 kind6 Udp v sum o = refl
 kind6 Icmpv4 v sum o = absurd o
@@ -138,7 +138,7 @@ short true b = refl
 short false b = refl
 
 no_extension : (k : Transport) (v : Field → ℕ) → has_extension (protocol_with k v) (bytes_behind k) ≡ false
-no_extension Nothing v = short (is_fragment (given v IpProto) || has_options (given v IpProto)) (nat_le (extension_size (given v IpProto) []) 0)
+no_extension Nothing v = short (is_fragment (given_number v IpProto) || has_options (given_number v IpProto)) (nat_le (extension_size (given_number v IpProto) []) 0)
 no_extension Tcp v = refl
 no_extension Udp v = refl
 no_extension Icmpv4 v = refl
@@ -146,14 +146,14 @@ no_extension Icmpv6 v = refl
 
 -- ---- bodies
 
-inside4 : (k : Transport) (v : Field → ℕ) (sum : ℕ) → 20 + bytes_in (carried_given k v sum) ≡ min (20 + size_with k) (20 + bytes_in (carried_given k v sum) + 0)
+inside4 : (k : Transport) (v : Field → ℕ) (sum : ℕ) → 20 + carried_size (carried_given k v sum) ≡ min (20 + size_with k) (20 + carried_size (carried_given k v sum) + 0)
 inside4 Nothing v sum = refl
 inside4 Tcp v sum = refl
 inside4 Udp v sum = refl
 inside4 Icmpv4 v sum = refl
 inside4 Icmpv6 v sum = refl
 
-inside6 : (k : Transport) (v : Field → ℕ) (sum : ℕ) → 0 + bytes_in (carried_given k v sum) ≡ min (size_with k) (0 + bytes_in (carried_given k v sum) + 0)
+inside6 : (k : Transport) (v : Field → ℕ) (sum : ℕ) → 0 + carried_size (carried_given k v sum) ≡ min (size_with k) (0 + carried_size (carried_given k v sum) + 0)
 inside6 Nothing v sum = refl
 inside6 Tcp v sum = refl
 inside6 Udp v sum = refl
@@ -255,7 +255,7 @@ last_fits shapes.Ipv6Tcp v e = no_tag e
 last_fits shapes.Ipv6Udp v e = no_tag e
 last_fits shapes.Ipv6Icmp v e = no_tag e
 
-ends_fit : (v : Field → ℕ) → Fits addresses (ends_given v)
+ends_fit : (v : Field → ℕ) → FitsItems addresses (ends_given v)
 unfolding row_of
 ends_fit v = (given_small v EthDst, (given_small v EthSrc, tt))
 

@@ -7,37 +7,37 @@ use Rattle.std.proofs.Math.Nat.{mod-eq_of_lt}
 use Rattle.of_layers.specs.declared.field.Field.{Field}
 use Rattle.of_layers.specs.declared.field.Field.TheVariants.{InPort, Metadata, EthType, VlanVid, VlanPcp, IpProto}
 use Rattle.of_layers.specs.declared.field.Prerequisite.TheVariants as needs
-use Rattle.of_layers.specs.Fields.{row_of, bits_of, ones_of, prerequisite_of}
+use Rattle.of_layers.specs.Fields.{row_of, bit_count, ones_of, prerequisite_of}
 use Rattle.of_layers.specs.Reading.{layers_of}
 use Rattle.of_headers.specs.FieldMap.{field_map, seen}
 use Rattle.of_shapes.specs.declared.shape.Shape.{Shape}
 use Rattle.of_shapes.specs.declared.shape.Tagging.{Tagging}
 use Rattle.of_shapes.specs.declared.shape.Tagging.TheVariants.{Untagged, Tagged}
 use Rattle.of_shapes.specs.declared.shape.Rule.TheVariants.{Absent, Under}
-use Rattle.of_shapes.specs.Rules.{Obeys, HasShape, IsTagging, has_header, of_tagging, protocol_of, type_of, valued}
-use Rattle.of_frames.specs.Given.{given, or_zero, fields_given, vlan_vid_given, vlan_pcp_given}
+use Rattle.of_shapes.specs.Rules.{Obeys, HasShape, IsTagging, has_header, of_tagging, protocol_of, shape_type, valued}
+use Rattle.of_frames.specs.Given.{given_number, or_zero, fields_given, vlan_vid_given, vlan_pcp_given}
 use Rattle.of_frames.specs.Knowing.{AreWithinBits, IsAmong, IsKnown}
 use Rattle.of_frames.specs.Packets.{frame_given}
 use Rattle.of_frames.proofs.FrameLemmas.{given_fields}
 
 -- ---- values within the bits of a field
 
-ones_is : (f : Field) → ones_of f ≡ 2 ^ bits_of f - 1
+ones_is : (f : Field) → ones_of f ≡ 2 ^ bit_count f - 1
 unfolding row_of
-ones_is f = elim f as (λ f. ones_of f ≡ 2 ^ bits_of f - 1) [ InPort ↦ refl | _ ↦ refl ]
+ones_is f = elim f as (λ f. ones_of f ≡ 2 ^ bit_count f - 1) [ InPort ↦ refl | _ ↦ refl ]
 
-small : (f : Field) (v : ℕ) → v ≤ ones_of f → v < 2 ^ bits_of f
-small f v h = omega (arith, ones_is f, pow_pos (bits_of f))
+small : (f : Field) (v : ℕ) → v ≤ ones_of f → v < 2 ^ bit_count f
+small f v h = omega (arith, ones_is f, pow_pos (bit_count f))
 
 under_ones : (f : Field) (v : ℕ) → v ≤ ones_of f → bit_and v (ones_of f) ≡ v
-under_ones f v h = ap (bit_and v) (ones_is f) ∙ and_mask v (bits_of f) ∙ mod-eq_of_lt (small f v h)
+under_ones f v h = ap (bit_and v) (ones_is f) ∙ and_mask v (bit_count f) ∙ mod-eq_of_lt (small f v h)
 
 -- ---- values that are known
 
-known_given : (known : Field → Option ℕ) (f : Field) (x : ℕ) → known f ≡ Some x → x ≤ ones_of f → given (or_zero known) f ≡ x
-known_given known f x e h = ap (λ (o : Option ℕ). unwrap_or o 0 % 2 ^ bits_of f) e ∙ mod-eq_of_lt (small f x h)
+known_given : (known : Field → Option ℕ) (f : Field) (x : ℕ) → known f ≡ Some x → x ≤ ones_of f → given_number (or_zero known) f ≡ x
+known_given known f x e h = ap (λ (o : Option ℕ). unwrap_or o 0 % 2 ^ bit_count f) e ∙ mod-eq_of_lt (small f x h)
 
-is_given : (known : Field → Option ℕ) (f : Field) → IfSome (known f) (λ x. x ≤ ones_of f) → (x : ℕ) → known f ≡ Some x → given (or_zero known) f ≡ x
+is_given : (known : Field → Option ℕ) (f : Field) → IfSome (known f) (λ x. x ≤ ones_of f) → (x : ℕ) → known f ≡ Some x → given_number (or_zero known) f ≡ x
 is_given known f w x e = known_given known f x e (subst (λ (o : Option ℕ). IfSome o (λ x. x ≤ ones_of f)) e w)
 
 is_value : (known : Field → Option ℕ) (f : Field) (x : ℕ) → known f ≡ Some x → or_zero known f ≡ x
@@ -81,7 +81,7 @@ vid_by Tagged (Some v) n h w g =
     let is : 4096 + n VlanVid % 4096 ≡ v = omega arith in
     ap Some is
 
-pcp_by : (t : Tagging) (o : Option ℕ) (n : Field → ℕ) → Obeys (of_tagging t VlanPcp) o → ((v : ℕ) → o ≡ Some v → given n VlanPcp ≡ v) → vlan_pcp_given t n ≡ o
+pcp_by : (t : Tagging) (o : Option ℕ) (n : Field → ℕ) → Obeys (of_tagging t VlanPcp) o → ((v : ℕ) → o ≡ Some v → given_number n VlanPcp ≡ v) → vlan_pcp_given t n ≡ o
 pcp_by Untagged o n h g = sym h
 pcp_by Tagged None n h g = absurd cc
 pcp_by Tagged (Some v) n h g = ap Some (g v refl)
@@ -101,9 +101,9 @@ others_known s t k port metadata h w p m f = elim f as (λ f. is_tags f ≡ fals
   | Metadata ↦ λ e. sym m
   | VlanVid ↦ λ e. absurd cc
   | VlanPcp ↦ λ e. absurd cc
-  | EthType ↦ λ e. by_value EthType (type_of s) (k EthType) (given (or_zero k) EthType) (h EthType) (w EthType) (is_given k EthType (w EthType))
-  | IpProto ↦ λ e. by_protocol (has_header s needs.Ip) (protocol_of s) (k IpProto) (given (or_zero k) IpProto) (h IpProto) (w IpProto) (is_given k IpProto (w IpProto))
-  | f ↦ λ e. by_header (has_header s (prerequisite_of f)) (k f) (given (or_zero k) f) (h f) (is_given k f (w f))
+  | EthType ↦ λ e. by_value EthType (shape_type s) (k EthType) (given_number (or_zero k) EthType) (h EthType) (w EthType) (is_given k EthType (w EthType))
+  | IpProto ↦ λ e. by_protocol (has_header s needs.Ip) (protocol_of s) (k IpProto) (given_number (or_zero k) IpProto) (h IpProto) (w IpProto) (is_given k IpProto (w IpProto))
+  | f ↦ λ e. by_header (has_header s (prerequisite_of f)) (k f) (given_number (or_zero k) f) (h f) (is_given k f (w f))
 ]
 
 vid_known : (t : Tagging) (k : Field → Option ℕ) → AreWithinBits k → IsTagging t k → Some (vlan_vid_given t (or_zero k)) ≡ k VlanVid

@@ -15,19 +15,19 @@ use Rattle.of_layers.specs.Fields.{row_of}
 use Rattle.of_layers.specs.Layers.{Cell, Layers, cells_in, byte_cells, items_of, ipv4, ipv6, plain, encoded}
 use Rattle.of_layers.specs.Reading.{layers_of}
 use Rattle.of_layers.proofs.BitLemmas.{bits_parts, bits_cut, length-bits}
-use Rattle.of_rewrite.specs.Checksum.{fold, never_zero, number, words_of, sums_to_ones, AreWords}
+use Rattle.of_rewrite.specs.Checksum.{fold, never_zero, number_of_bits, words_of, sums_to_ones, AreWords}
 use Rattle.of_rewrite.specs.Right.{header_is_right, carried_is_right, left_out}
 use Rattle.of_rewrite.specs.Rewriting.{words}
 use Rattle.of_rewrite.proofs.Folding.{fold_is}
 use Rattle.of_shapes.specs.declared.shape.Shape.{Shape}
 use Rattle.of_shapes.specs.declared.shape.Shape.TheVariants as shapes
 use Rattle.of_shapes.specs.declared.shape.Tagging.{Tagging}
-use Rattle.of_shapes.specs.Rules.{is_ipv4, protocol_of}
+use Rattle.of_shapes.specs.Rules.{is_ipv4_shape, protocol_of}
 use Rattle.of_rewrite.proofs.Renewing.{number-bits}
-use Rattle.of_frames.specs.Given.{given}
+use Rattle.of_frames.specs.Given.{given_number}
 use Rattle.of_frames.specs.Checksums.{checksum_of, word_sum, protocol_with, size_with, service_given, header_sum, ipv4_sum, ipv6_sum, carried_checksum}
-use Rattle.of_frames.specs.Packets.{ipv4_given, ipv6_given, numbers_given, over_ipv4, body_given, frame_given}
-use Rattle.of_frames.specs.Beside.{beside}
+use Rattle.of_frames.specs.Packets.{ipv4_given, ipv6_given, numbers_given, body_over_ipv4, body_given, frame_given}
+use Rattle.of_frames.specs.Beside.{numbers_beside}
 use Rattle.of_frames.proofs.AddingLemmas.{bits_low, service_bits, version_bits}
 use Rattle.of_frames.proofs.FitLemmas.{given_small, protocol_small, size_small, checksum_small}
 use Rattle.of_frames.proofs.FrameLemmas.{given_layers}
@@ -45,7 +45,7 @@ words_back (w ∷ ws) h =
     let t : take 16 (bits 16 w ++ as_words ws) ≡ bits 16 w = take_at (bits 16 w) (as_words ws) 16 (length-bits 16 w) in
     let d : drop 16 (bits 16 w ++ as_words ws) ≡ as_words ws = drop_at (bits 16 w) (as_words ws) 16 (length-bits 16 w) in
     let small : w < 65536 = h 0 in
-    let v : number (take 16 (bits 16 w ++ as_words ws)) ≡ w = ap number t ∙ number-bits 16 w ∙ mod-eq_of_lt small in
+    let v : number_of_bits (take 16 (bits 16 w ++ as_words ws)) ≡ w = ap number_of_bits t ∙ number-bits 16 w ∙ mod-eq_of_lt small in
     let r : words_of (length ws) (drop 16 (bits 16 w ++ as_words ws)) ≡ ws = ap (words_of (length ws)) d ∙ words_back ws (λ i. h (suc i)) in
     λ j. v j ∷ r j
 
@@ -178,7 +178,7 @@ abbrev front_words : Transport → (Field → ℕ) → List ℕ
 front_words k v = (0x4500 + service_given v) ∷ (20 + size_with k) ∷ 0 ∷ 0 ∷ (0x4000 + protocol_with k v) ∷ checksum_of (header_sum k v) ∷ []
 
 abbrev header_words : Transport → (Field → ℕ) → List ℕ
-header_words k v = front_words k v ++ (words_in 2 (given v Ipv4Src) ++ words_in 2 (given v Ipv4Dst))
+header_words k v = front_words k v ++ (words_in 2 (given_number v Ipv4Src) ++ words_in 2 (given_number v Ipv4Dst))
 
 regrouped : (a b c d t z f g l p s x : List ℕ) →
     a ++ (b ++ (c ++ (d ++ (t ++ (z ++ (f ++ (g ++ (l ++ (p ++ (s ++ x))))))))))
@@ -188,13 +188,13 @@ regrouped a b c d t z f g l p s x = simp append_assoc
 header_encoded : (k : Transport) (v : Field → ℕ) → encoded (cells_in ipv4 (ipv4_given k v) ++ byte_cells []) ≡ as_words (header_words k v)
 unfolding row_of
 header_encoded k v =
-    let first : bits 16 (0x4500 + service_given v) ≡ bits 4 4 ++ (bits 4 5 ++ (bits 6 (given v IpDscp) ++ bits 2 (given v IpEcn))) =
-    first_word (given v IpDscp) (given v IpEcn) (given_small v IpDscp) (given_small v IpEcn) in
+    let first : bits 16 (0x4500 + service_given v) ≡ bits 4 4 ++ (bits 4 5 ++ (bits 6 (given_number v IpDscp) ++ bits 2 (given_number v IpEcn))) =
+    first_word (given_number v IpDscp) (given_number v IpEcn) (given_small v IpDscp) (given_small v IpEcn) in
     let lives : bits 16 (0x4000 + protocol_with k v) ≡ bits 8 64 ++ bits 8 (protocol_with k v) = bits_parts 8 8 64 (protocol_with k v) (protocol_small k v) in
     let none : bits 16 0 ≡ bits 3 0 ++ bits 13 0 = bits_parts 3 13 0 0 (omega arith) in
-    regrouped (bits 4 4) (bits 4 5) (bits 6 (given v IpDscp)) (bits 2 (given v IpEcn)) (bits 16 (20 + size_with k)) (bits 16 0) (bits 3 0) (bits 13 0) (bits 8 64) (bits 8 (protocol_with k v)) (bits 16 (checksum_of (header_sum k v)))
-    (bits 32 (given v Ipv4Src) ++ (bits 32 (given v Ipv4Dst) ++ []))
-    ∙ (λ j. sym first j ++ (bits 16 (20 + size_with k) ++ (bits 16 0 ++ (sym none j ++ (sym lives j ++ (bits 16 (checksum_of (header_sum k v)) ++ pair_encoded 2 (given v Ipv4Src) (given v Ipv4Dst) j))))))
+    regrouped (bits 4 4) (bits 4 5) (bits 6 (given_number v IpDscp)) (bits 2 (given_number v IpEcn)) (bits 16 (20 + size_with k)) (bits 16 0) (bits 3 0) (bits 13 0) (bits 8 64) (bits 8 (protocol_with k v)) (bits 16 (checksum_of (header_sum k v)))
+    (bits 32 (given_number v Ipv4Src) ++ (bits 32 (given_number v Ipv4Dst) ++ []))
+    ∙ (λ j. sym first j ++ (bits 16 (20 + size_with k) ++ (bits 16 0 ++ (sym none j ++ (sym lives j ++ (bits 16 (checksum_of (header_sum k v)) ++ pair_encoded 2 (given_number v Ipv4Src) (given_number v Ipv4Dst) j))))))
 
 below : (f : ℕ) → 65535 - f < 65536
 below f = omega arith
@@ -214,36 +214,36 @@ nothing_small = omega arith
 front_small : (k : Transport) (v : Field → ℕ) → Small (front_words k v)
 unfolding row_of
 front_small k v =
-    more (first_small (service_given v) (service_small (given v IpDscp) (given v IpEcn) (given_small v IpDscp) (given_small v IpEcn)))
+    more (first_small (service_given v) (service_small (given_number v IpDscp) (given_number v IpEcn) (given_small v IpDscp) (given_small v IpEcn)))
     (more (second_small (size_with k) (size_small k)) (more nothing_small (more nothing_small (more (fifth_small (protocol_with k v) (protocol_small k v)) (more (below (fold (header_sum k v))) none_small)))))
 
 header_total : (a b e c x y : ℕ) → a + (b + (0 + (0 + (e + (c + (x + y)))))) ≡ (a + b + e + x + y) + c
 header_total a b e c x y = omega arith
 
-pub header_right : (k : Transport) (v : Field → ℕ) → header_is_right (over_ipv4 k v) ≡ true
+pub header_right : (k : Transport) (v : Field → ℕ) → header_is_right (body_over_ipv4 k v) ≡ true
 header_right k v =
-    let small : AreWords (header_words k v) = words-append (front_words k v) (words_in 2 (given v Ipv4Src) ++ words_in 2 (given v Ipv4Dst)) (front_small k v).are (pair_small 2 (given v Ipv4Src) (given v Ipv4Dst)) in
+    let small : AreWords (header_words k v) = words-append (front_words k v) (words_in 2 (given_number v Ipv4Src) ++ words_in 2 (given_number v Ipv4Dst)) (front_small k v).are (pair_small 2 (given_number v Ipv4Src) (given_number v Ipv4Dst)) in
     let are : words (cells_in ipv4 (ipv4_given k v) ++ byte_cells []) ≡ header_words k v = words_are (cells_in ipv4 (ipv4_given k v) ++ byte_cells []) (header_words k v) small (header_encoded k v) in
     let all : total (header_words k v) ≡ header_sum k v + checksum_of (header_sum k v) =
-    ap (λ (t : ℕ). (0x4500 + service_given v) + ((20 + size_with k) + (0 + (0 + ((0x4000 + protocol_with k v) + (checksum_of (header_sum k v) + t)))))) (pair_total 2 (given v Ipv4Src) (given v Ipv4Dst))
-    ∙ header_total (0x4500 + service_given v) (20 + size_with k) (0x4000 + protocol_with k v) (checksum_of (header_sum k v)) (word_sum 2 (given v Ipv4Src)) (word_sum 2 (given v Ipv4Dst)) in
+    ap (λ (t : ℕ). (0x4500 + service_given v) + ((20 + size_with k) + (0 + (0 + ((0x4000 + protocol_with k v) + (checksum_of (header_sum k v) + t)))))) (pair_total 2 (given_number v Ipv4Src) (given_number v Ipv4Dst))
+    ∙ header_total (0x4500 + service_given v) (20 + size_with k) (0x4000 + protocol_with k v) (checksum_of (header_sum k v)) (word_sum 2 (given_number v Ipv4Src)) (word_sum 2 (given_number v Ipv4Dst)) in
     ap sums_to_ones are ∙ ones_by (header_words k v) (header_sum k v + checksum_of (header_sum k v)) all (all_ones (header_sum k v))
 
 -- ---- what IP packets carry
 
 abbrev own_words : Transport → (Field → ℕ) → ℕ → List ℕ
 own_words Nothing v c = []
-own_words Tcp v c = given v TcpSrc ∷ given v TcpDst ∷ 0 ∷ 0 ∷ 0 ∷ 0 ∷ 0x5000 ∷ 0 ∷ c ∷ 0 ∷ []
-own_words Udp v c = given v UdpSrc ∷ given v UdpDst ∷ 8 ∷ c ∷ []
-own_words Icmpv4 v c = (given v Icmpv4Type * 256 + given v Icmpv4Code) ∷ c ∷ []
-own_words Icmpv6 v c = (given v Icmpv6Type * 256 + given v Icmpv6Code) ∷ c ∷ []
+own_words Tcp v c = given_number v TcpSrc ∷ given_number v TcpDst ∷ 0 ∷ 0 ∷ 0 ∷ 0 ∷ 0x5000 ∷ 0 ∷ c ∷ 0 ∷ []
+own_words Udp v c = given_number v UdpSrc ∷ given_number v UdpDst ∷ 8 ∷ c ∷ []
+own_words Icmpv4 v c = (given_number v Icmpv4Type * 256 + given_number v Icmpv4Code) ∷ c ∷ []
+own_words Icmpv6 v c = (given_number v Icmpv6Type * 256 + given_number v Icmpv6Code) ∷ c ∷ []
 
 abbrev own_sum : Transport → (Field → ℕ) → ℕ
 own_sum Nothing v = 0
-own_sum Tcp v = given v TcpSrc + given v TcpDst + 0x5000
-own_sum Udp v = given v UdpSrc + given v UdpDst + 8
-own_sum Icmpv4 v = given v Icmpv4Type * 256 + given v Icmpv4Code
-own_sum Icmpv6 v = given v Icmpv6Type * 256 + given v Icmpv6Code
+own_sum Tcp v = given_number v TcpSrc + given_number v TcpDst + 0x5000
+own_sum Udp v = given_number v UdpSrc + given_number v UdpDst + 8
+own_sum Icmpv4 v = given_number v Icmpv4Type * 256 + given_number v Icmpv4Code
+own_sum Icmpv6 v = given_number v Icmpv6Type * 256 + given_number v Icmpv6Code
 
 tcp_total : (a b c : ℕ) → a + (b + (0 + (0 + (0 + (0 + (0x5000 + (0 + (c + (0 + 0))))))))) ≡ a + b + 0x5000 + c
 tcp_total a b c = omega arith
@@ -263,10 +263,10 @@ Carries Icmpv6 = Unit {0}
 
 own_total : (k : Transport) (v : Field → ℕ) (c : ℕ) → Carries k → total (own_words k v c) ≡ own_sum k v + c
 own_total Nothing v c h = absurd h
-own_total Tcp v c h = tcp_total (given v TcpSrc) (given v TcpDst) c
-own_total Udp v c h = udp_total (given v UdpSrc) (given v UdpDst) c
-own_total Icmpv4 v c h = icmp_total (given v Icmpv4Type * 256 + given v Icmpv4Code) c
-own_total Icmpv6 v c h = icmp_total (given v Icmpv6Type * 256 + given v Icmpv6Code) c
+own_total Tcp v c h = tcp_total (given_number v TcpSrc) (given_number v TcpDst) c
+own_total Udp v c h = udp_total (given_number v UdpSrc) (given_number v UdpDst) c
+own_total Icmpv4 v c h = icmp_total (given_number v Icmpv4Type * 256 + given_number v Icmpv4Code) c
+own_total Icmpv6 v c h = icmp_total (given_number v Icmpv6Type * 256 + given_number v Icmpv6Code) c
 
 word_of_two : (t d : ℕ) → t < 256 → d < 256 → t * 256 + d < 65536
 word_of_two t d h i = omega arith
@@ -283,8 +283,8 @@ own_small Nothing v c h = none_small
 own_small Tcp v c h =
     more (given_small v TcpSrc) (more (given_small v TcpDst) (more nothing_small (more nothing_small (more nothing_small (more nothing_small (more offset_small (more nothing_small (more h (more nothing_small none_small)))))))))
 own_small Udp v c h = more (given_small v UdpSrc) (more (given_small v UdpDst) (more length_small (more h none_small)))
-own_small Icmpv4 v c h = more (word_of_two (given v Icmpv4Type) (given v Icmpv4Code) (given_small v Icmpv4Type) (given_small v Icmpv4Code)) (more h none_small)
-own_small Icmpv6 v c h = more (word_of_two (given v Icmpv6Type) (given v Icmpv6Code) (given_small v Icmpv6Type) (given_small v Icmpv6Code)) (more h none_small)
+own_small Icmpv4 v c h = more (word_of_two (given_number v Icmpv4Type) (given_number v Icmpv4Code) (given_small v Icmpv4Type) (given_small v Icmpv4Code)) (more h none_small)
+own_small Icmpv6 v c h = more (word_of_two (given_number v Icmpv6Type) (given_number v Icmpv6Code) (given_small v Icmpv6Type) (given_small v Icmpv6Code)) (more h none_small)
 
 zeros : bits 32 0 ≡ bits 16 0 ++ bits 16 0
 zeros = bits_parts 16 16 0 0 (omega arith)
@@ -299,11 +299,11 @@ own_encoded : (k : Transport) (v : Field → ℕ) (c : ℕ) → encoded (cells_i
 unfolding row_of
 own_encoded Nothing v c = refl
 own_encoded Tcp v c =
-    (λ j. bits 16 (given v TcpSrc) ++ (bits 16 (given v TcpDst) ++ (zeros j ++ (zeros j ++ (bits 16 0x5000 ++ (bits 16 0 ++ (bits 16 c ++ (bits 16 0 ++ []))))))))
-    ∙ tcp_regrouped (bits 16 (given v TcpSrc)) (bits 16 (given v TcpDst)) (bits 16 0) (bits 16 0x5000) (bits 16 c)
+    (λ j. bits 16 (given_number v TcpSrc) ++ (bits 16 (given_number v TcpDst) ++ (zeros j ++ (zeros j ++ (bits 16 0x5000 ++ (bits 16 0 ++ (bits 16 c ++ (bits 16 0 ++ []))))))))
+    ∙ tcp_regrouped (bits 16 (given_number v TcpSrc)) (bits 16 (given_number v TcpDst)) (bits 16 0) (bits 16 0x5000) (bits 16 c)
 own_encoded Udp v c = refl
-own_encoded Icmpv4 v c = icmp_encoded (given v Icmpv4Type) (given v Icmpv4Code) c (given_small v Icmpv4Code)
-own_encoded Icmpv6 v c = icmp_encoded (given v Icmpv6Type) (given v Icmpv6Code) c (given_small v Icmpv6Code)
+own_encoded Icmpv4 v c = icmp_encoded (given_number v Icmpv4Type) (given_number v Icmpv4Code) c (given_small v Icmpv4Code)
+own_encoded Icmpv6 v c = icmp_encoded (given_number v Icmpv6Type) (given_number v Icmpv6Code) c (given_small v Icmpv6Code)
 
 own_are : (k : Transport) (v : Field → ℕ) (c : ℕ) → c < 65536 → words (cells_in (items_of k) (numbers_given k v c)) ≡ own_words k v c
 own_are k v c h = words_are (cells_in (items_of k) (numbers_given k v c)) (own_words k v c) (own_small k v c h).are (own_encoded k v c)
@@ -328,10 +328,10 @@ zero_first x y = omega arith
 
 own_ones : (around : ℕ) (k : Transport) (v : Field → ℕ) → Carries k → fold (counted around k + own_sum k v + carried_checksum around k v) ≡ 65535
 own_ones around Nothing v h = absurd h
-own_ones around Tcp v h = ap (λ (s : ℕ). fold (around + own_sum Tcp v + checksum_of s)) (summed3 around (given v TcpSrc) (given v TcpDst) 0x5000) ∙ all_ones (around + own_sum Tcp v)
-own_ones around Udp v h = ap (λ (s : ℕ). fold (around + own_sum Udp v + never_zero (checksum_of s))) (summed3 around (given v UdpSrc) (given v UdpDst) 8) ∙ never_wrong (around + own_sum Udp v)
+own_ones around Tcp v h = ap (λ (s : ℕ). fold (around + own_sum Tcp v + checksum_of s)) (summed3 around (given_number v TcpSrc) (given_number v TcpDst) 0x5000) ∙ all_ones (around + own_sum Tcp v)
+own_ones around Udp v h = ap (λ (s : ℕ). fold (around + own_sum Udp v + never_zero (checksum_of s))) (summed3 around (given_number v UdpSrc) (given_number v UdpDst) 8) ∙ never_wrong (around + own_sum Udp v)
 own_ones around Icmpv4 v h = ap fold (zero_first (own_sum Icmpv4 v) (checksum_of (own_sum Icmpv4 v))) ∙ all_ones (own_sum Icmpv4 v)
-own_ones around Icmpv6 v h = ap (λ (s : ℕ). fold (around + own_sum Icmpv6 v + checksum_of s)) (summed2 around (given v Icmpv6Type * 256) (given v Icmpv6Code)) ∙ all_ones (around + own_sum Icmpv6 v)
+own_ones around Icmpv6 v h = ap (λ (s : ℕ). fold (around + own_sum Icmpv6 v + checksum_of s)) (summed2 around (given_number v Icmpv6Type * 256) (given_number v Icmpv6Code)) ∙ all_ones (around + own_sum Icmpv6 v)
 
 or_true : (b c : Bool) → c ≡ true → (b || c) ≡ true
 or_true true c e = refl
@@ -343,24 +343,24 @@ with_addresses left p z wa wc a c x s sum ea ec ta tc f =
     let all : p + (z + total (a ++ c)) ≡ x + p + z + s + sum = omega arith in
     or_true left (sums_to_ones ((p ∷ z ∷ []) ++ (wa ++ wc))) ((λ j. sums_to_ones ((p ∷ z ∷ []) ++ (ea j ++ ec j))) ∙ ones_by ((p ∷ z ∷ []) ++ (a ++ c)) (x + p + z + s + sum) all f)
 
-addresses4_are : (k : Transport) (v : Field → ℕ) → words (drop 11 (cells_in ipv4 (ipv4_given k v))) ≡ words_in 2 (given v Ipv4Src) ++ words_in 2 (given v Ipv4Dst)
-addresses4_are k v = words_are (drop 11 (cells_in ipv4 (ipv4_given k v))) (words_in 2 (given v Ipv4Src) ++ words_in 2 (given v Ipv4Dst)) (pair_small 2 (given v Ipv4Src) (given v Ipv4Dst)) (pair_encoded 2 (given v Ipv4Src) (given v Ipv4Dst))
+addresses4_are : (k : Transport) (v : Field → ℕ) → words (drop 11 (cells_in ipv4 (ipv4_given k v))) ≡ words_in 2 (given_number v Ipv4Src) ++ words_in 2 (given_number v Ipv4Dst)
+addresses4_are k v = words_are (drop 11 (cells_in ipv4 (ipv4_given k v))) (words_in 2 (given_number v Ipv4Src) ++ words_in 2 (given_number v Ipv4Dst)) (pair_small 2 (given_number v Ipv4Src) (given_number v Ipv4Dst)) (pair_encoded 2 (given_number v Ipv4Src) (given_number v Ipv4Dst))
 
-addresses6_are : (k : Transport) (v : Field → ℕ) → words (drop 7 (cells_in (ipv6 (plain 8)) (ipv6_given k v))) ≡ words_in 8 (given v Ipv6Src) ++ words_in 8 (given v Ipv6Dst)
-addresses6_are k v = words_are (drop 7 (cells_in (ipv6 (plain 8)) (ipv6_given k v))) (words_in 8 (given v Ipv6Src) ++ words_in 8 (given v Ipv6Dst)) (pair_small 8 (given v Ipv6Src) (given v Ipv6Dst)) (pair_encoded 8 (given v Ipv6Src) (given v Ipv6Dst))
+addresses6_are : (k : Transport) (v : Field → ℕ) → words (drop 7 (cells_in (ipv6 (plain 8)) (ipv6_given k v))) ≡ words_in 8 (given_number v Ipv6Src) ++ words_in 8 (given_number v Ipv6Dst)
+addresses6_are k v = words_are (drop 7 (cells_in (ipv6 (plain 8)) (ipv6_given k v))) (words_in 8 (given_number v Ipv6Src) ++ words_in 8 (given_number v Ipv6Dst)) (pair_small 8 (given_number v Ipv6Src) (given_number v Ipv6Dst)) (pair_encoded 8 (given_number v Ipv6Src) (given_number v Ipv6Dst))
 
 over4 : (k : Transport) (v : Field → ℕ) (left : Bool) → Carries k → (counted (ipv4_sum k v) k ≡ ipv4_sum k v) →
     (left || sums_to_ones ((protocol_with k v ∷ size_with k ∷ []) ++ (words (drop 11 (cells_in ipv4 (ipv4_given k v))) ++ words (cells_in (items_of k) (numbers_given k v (carried_checksum (ipv4_sum k v) k v)))))) ≡ true
 over4 k v left h e =
-    with_addresses left (protocol_with k v) (size_with k) _ _ (words_in 2 (given v Ipv4Src) ++ words_in 2 (given v Ipv4Dst)) (own_words k v (carried_checksum (ipv4_sum k v) k v)) (word_sum 2 (given v Ipv4Src) + word_sum 2 (given v Ipv4Dst)) (own_sum k v) (carried_checksum (ipv4_sum k v) k v)
-    (addresses4_are k v) (own_are k v (carried_checksum (ipv4_sum k v) k v) (checksum_small (ipv4_sum k v) k v)) (pair_total 2 (given v Ipv4Src) (given v Ipv4Dst)) (own_total k v (carried_checksum (ipv4_sum k v) k v) h)
+    with_addresses left (protocol_with k v) (size_with k) _ _ (words_in 2 (given_number v Ipv4Src) ++ words_in 2 (given_number v Ipv4Dst)) (own_words k v (carried_checksum (ipv4_sum k v) k v)) (word_sum 2 (given_number v Ipv4Src) + word_sum 2 (given_number v Ipv4Dst)) (own_sum k v) (carried_checksum (ipv4_sum k v) k v)
+    (addresses4_are k v) (own_are k v (carried_checksum (ipv4_sum k v) k v) (checksum_small (ipv4_sum k v) k v)) (pair_total 2 (given_number v Ipv4Src) (given_number v Ipv4Dst)) (own_total k v (carried_checksum (ipv4_sum k v) k v) h)
     (ap (λ (n : ℕ). fold (n + own_sum k v + carried_checksum (ipv4_sum k v) k v)) (sym e) ∙ own_ones (ipv4_sum k v) k v h)
 
 over6 : (k : Transport) (v : Field → ℕ) (left : Bool) → Carries k → (counted (ipv6_sum k v) k ≡ ipv6_sum k v) →
     (left || sums_to_ones ((protocol_with k v ∷ size_with k ∷ []) ++ (words (drop 7 (cells_in (ipv6 (plain 8)) (ipv6_given k v))) ++ words (cells_in (items_of k) (numbers_given k v (carried_checksum (ipv6_sum k v) k v)))))) ≡ true
 over6 k v left h e =
-    with_addresses left (protocol_with k v) (size_with k) _ _ (words_in 8 (given v Ipv6Src) ++ words_in 8 (given v Ipv6Dst)) (own_words k v (carried_checksum (ipv6_sum k v) k v)) (word_sum 8 (given v Ipv6Src) + word_sum 8 (given v Ipv6Dst)) (own_sum k v) (carried_checksum (ipv6_sum k v) k v)
-    (addresses6_are k v) (own_are k v (carried_checksum (ipv6_sum k v) k v) (checksum_small (ipv6_sum k v) k v)) (pair_total 8 (given v Ipv6Src) (given v Ipv6Dst)) (own_total k v (carried_checksum (ipv6_sum k v) k v) h)
+    with_addresses left (protocol_with k v) (size_with k) _ _ (words_in 8 (given_number v Ipv6Src) ++ words_in 8 (given_number v Ipv6Dst)) (own_words k v (carried_checksum (ipv6_sum k v) k v)) (word_sum 8 (given_number v Ipv6Src) + word_sum 8 (given_number v Ipv6Dst)) (own_sum k v) (carried_checksum (ipv6_sum k v) k v)
+    (addresses6_are k v) (own_are k v (carried_checksum (ipv6_sum k v) k v) (checksum_small (ipv6_sum k v) k v)) (pair_total 8 (given_number v Ipv6Src) (given_number v Ipv6Dst)) (own_total k v (carried_checksum (ipv6_sum k v) k v) h)
     (ap (λ (n : ℕ). fold (n + own_sum k v + carried_checksum (ipv6_sum k v) k v)) (sym e) ∙ own_ones (ipv6_sum k v) k v h)
 
 icmp4 : (v : Field → ℕ) (left : Bool) (c : ℕ) → c ≡ carried_checksum (ipv4_sum Icmpv4 v) Icmpv4 v → (left || sums_to_ones ([] ++ (words [] ++ words (cells_in (items_of Icmpv4) (numbers_given Icmpv4 v c))))) ≡ true
@@ -372,7 +372,7 @@ icmp4 v left c e =
 
 -- ---- frames
 
-header_by : (s : Shape) (v : Field → ℕ) → is_ipv4 s ≡ true → header_is_right (body_given s v) ≡ true
+header_by : (s : Shape) (v : Field → ℕ) → is_ipv4_shape s ≡ true → header_is_right (body_given s v) ≡ true
 header_by shapes.Bare v e = absurd cc
 header_by shapes.Arp v e = absurd cc
 header_by shapes.Ipv4 v e = header_right Nothing v
@@ -384,7 +384,7 @@ header_by shapes.Ipv6Tcp v e = absurd cc
 header_by shapes.Ipv6Udp v e = absurd cc
 header_by shapes.Ipv6Icmp v e = absurd cc
 
-carried_by : (s : Shape) (v : Field → ℕ) → is_some (protocol_of s) ≡ true → carried_is_right (beside s) (body_given s v) ≡ true
+carried_by : (s : Shape) (v : Field → ℕ) → is_some (protocol_of s) ≡ true → carried_is_right (numbers_beside s) (body_given s v) ≡ true
 carried_by shapes.Bare v e = absurd cc
 carried_by shapes.Arp v e = absurd cc
 carried_by shapes.Ipv4 v e = absurd cc
@@ -396,8 +396,8 @@ carried_by shapes.Ipv6Tcp v e = over6 Tcp v (left_out (body_given shapes.Ipv6Tcp
 carried_by shapes.Ipv6Udp v e = over6 Udp v (left_out (body_given shapes.Ipv6Udp v)) tt refl
 carried_by shapes.Ipv6Icmp v e = over6 Icmpv6 v (left_out (body_given shapes.Ipv6Icmp v)) tt refl
 
-pub frames_header_right : (s : Shape) (t : Tagging) (v : Field → ℕ) → is_ipv4 s ≡ true → IsTrue (header_is_right (layers_of (frame_given s t v)).body)
+pub frames_header_right : (s : Shape) (t : Tagging) (v : Field → ℕ) → is_ipv4_shape s ≡ true → IsTrue (header_is_right (layers_of (frame_given s t v)).body)
 frames_header_right s t v e = ap (λ (l : Layers). header_is_right l.body) (given_layers s t v) ∙ header_by s v e
 
-pub frames_carried_right : (s : Shape) (t : Tagging) (v : Field → ℕ) → is_some (protocol_of s) ≡ true → IsTrue (carried_is_right (beside s) (layers_of (frame_given s t v)).body)
-frames_carried_right s t v e = ap (λ (l : Layers). carried_is_right (beside s) l.body) (given_layers s t v) ∙ carried_by s v e
+pub frames_carried_right : (s : Shape) (t : Tagging) (v : Field → ℕ) → is_some (protocol_of s) ≡ true → IsTrue (carried_is_right (numbers_beside s) (layers_of (frame_given s t v)).body)
+frames_carried_right s t v e = ap (λ (l : Layers). carried_is_right (numbers_beside s) l.body) (given_layers s t v) ∙ carried_by s v e

@@ -4,10 +4,10 @@ use Rattle.of_shapes.specs.declared.shape.Shape.{Shape}
 use Rattle.of_shapes.specs.declared.shape.Shape.TheVariants.{Ipv4Tcp, Ipv4Udp, Ipv6Tcp, Ipv6Udp, Ipv6Icmp}
 
 -- the bytes after the header are zeros
-abbrev pub beside : Shape → List ℕ
-beside Ipv4Tcp = 6 ∷ 20 ∷ []
-beside Ipv4Udp = 17 ∷ 8 ∷ []
-beside Ipv6Tcp = 6 ∷ 20 ∷ []
-beside Ipv6Udp = 17 ∷ 8 ∷ []
-beside Ipv6Icmp = 58 ∷ 8 ∷ []
-beside other = []
+abbrev pub numbers_beside : Shape → List ℕ
+numbers_beside Ipv4Tcp = 6 ∷ 20 ∷ []
+numbers_beside Ipv4Udp = 17 ∷ 8 ∷ []
+numbers_beside Ipv6Tcp = 6 ∷ 20 ∷ []
+numbers_beside Ipv6Udp = 17 ∷ 8 ∷ []
+numbers_beside Ipv6Icmp = 58 ∷ 8 ∷ []
+numbers_beside other = []

@@ -3,13 +3,13 @@ use Rattle.std.specs.Prelude.{ℕ, ◌+◌, ◌%◌, ◌^◌, if◌then◌else�
 use Rattle.of_layers.specs.declared.field.Field.{Field}
 use Rattle.of_layers.specs.declared.field.Field.TheVariants.{InPort, Metadata, EthType, VlanVid, VlanPcp, IpProto}
 use Rattle.of_layers.specs.declared.field.Prerequisite.TheVariants as needs
-use Rattle.of_layers.specs.Fields.{number_of, bits_of, prerequisite_of}
+use Rattle.of_layers.specs.Fields.{number_of, bit_count, prerequisite_of}
 use Rattle.of_headers.specs.declared.numbers.Numbers.{Numbers}
 use Rattle.of_headers.specs.Numbers.{numbers_in}
 use Rattle.of_shapes.specs.declared.shape.Shape.{Shape}
 use Rattle.of_shapes.specs.declared.shape.Tagging.{Tagging}
 use Rattle.of_shapes.specs.declared.shape.Tagging.TheVariants.{Untagged, Tagged}
-use Rattle.of_shapes.specs.Rules.{has_header, type_of, protocol_of}
+use Rattle.of_shapes.specs.Rules.{has_header, shape_type, protocol_of}
 
 -- the numbers of a key, each by its field
 abbrev pub number : Numbers → Field → ℕ
@@ -20,15 +20,15 @@ abbrev pub or_zero : (Field → Option ℕ) → Field → ℕ
 or_zero map f = unwrap_or (map f) 0
 
 -- the number that is given for a field, in the bits of the field
-abbrev pub given : (Field → ℕ) → Field → ℕ
-given v f = v f % 2 ^ bits_of f
+abbrev pub given_number : (Field → ℕ) → Field → ℕ
+given_number v f = v f % 2 ^ bit_count f
 
 -- the type and the protocol: those that name the headers, if there are such, or else those that are given
 abbrev pub type_given : Shape → (Field → ℕ) → ℕ
-type_given s v = unwrap_or (type_of s) (given v EthType)
+type_given s v = unwrap_or (shape_type s) (given_number v EthType)
 
 abbrev pub protocol_given : Shape → (Field → ℕ) → ℕ
-protocol_given s v = unwrap_or (protocol_of s) (given v IpProto)
+protocol_given s v = unwrap_or (protocol_of s) (given_number v IpProto)
 
 -- the VID of the tag: the low 12 bits of VLAN_VID
 abbrev pub vid_given : (Field → ℕ) → ℕ
@@ -41,7 +41,7 @@ vlan_vid_given Tagged v = 4096 + vid_given v
 
 abbrev pub vlan_pcp_given : Tagging → (Field → ℕ) → Option ℕ
 vlan_pcp_given Untagged v = None
-vlan_pcp_given Tagged v = Some (given v VlanPcp)
+vlan_pcp_given Tagged v = Some (given_number v VlanPcp)
 
 -- the fields of the frame, received at a port, with metadata
 abbrev pub fields_given : Shape → Tagging → (Field → ℕ) → ℕ → ℕ → Field → Option ℕ
@@ -51,4 +51,4 @@ fields_given s t v port metadata VlanVid = Some (vlan_vid_given t v)
 fields_given s t v port metadata VlanPcp = vlan_pcp_given t v
 fields_given s t v port metadata EthType = Some (type_given s v)
 fields_given s t v port metadata IpProto = if has_header s needs.Ip then Some (protocol_given s v) else None
-fields_given s t v port metadata f = if has_header s (prerequisite_of f) then Some (given v f) else None
+fields_given s t v port metadata f = if has_header s (prerequisite_of f) then Some (given_number v f) else None

@@ -6,10 +6,10 @@ ghost use Rattle.of_layers.specs.Reading.{layers_of};
 ghost use Rattle.of_headers.specs.FieldMap.{field_map};
 ghost use Rattle.of_rewrite.specs.Frames.{IsFrame};
 ghost use Rattle.of_rewrite.specs.Right.{carried_is_right, header_is_right};
-ghost use Rattle.of_shapes.specs.Rules.{is_ipv4, protocol_of};
+ghost use Rattle.of_shapes.specs.Rules.{is_ipv4_shape, protocol_of};
 ghost use Rattle.of_shapes.specs.declared.shape.Shape.{Shape};
 ghost use Rattle.of_shapes.specs.declared.shape.Tagging.{Tagging};
-ghost use Rattle.of_frames.specs.Beside.{beside};
+ghost use Rattle.of_frames.specs.Beside.{numbers_beside};
 ghost use Rattle.of_frames.specs.Given.{fields_given, or_zero};
 ghost use Rattle.of_frames.specs.Knowing.{IsAmong, IsKnown};
 ghost use Rattle.of_frames.specs.Packets.{frame_given, frame_size, layers_given};
@@ -27,9 +27,9 @@ pub fn frames_have_their_fields()
 /// The checksums of the frame are right: that of the IPv4 header (RFC 791, 3.1), and that of TCP, UDP or ICMP (RFC 9293, 3.1; RFC 768; RFC 792; RFC 4443,
 /// 2.3).
 pub fn checksums_are_right()
-    ensures header { (s : Shape) (t : Tagging) (v : Field → ℕ) → is_ipv4 s ≡ true → IsTrue (header_is_right (layers_of (frame_given s t v)).body) }
+    ensures header { (s : Shape) (t : Tagging) (v : Field → ℕ) → is_ipv4_shape s ≡ true → IsTrue (header_is_right (layers_of (frame_given s t v)).body) }
     ensures carried { (s : Shape) (t : Tagging) (v : Field → ℕ) → is_some (protocol_of s) ≡ true →
-        IsTrue (carried_is_right (beside s) (layers_of (frame_given s t v)).body) }
+        IsTrue (carried_is_right (numbers_beside s) (layers_of (frame_given s t v)).body) }
 {}
 
 /// If what is known of packets has a shape and a tagging, then there is such a packet: the frame with the bits that are known, and zeros for those that

@@ -7,7 +7,7 @@ ghost use Rattle.of_layers.specs.declared.transport.Transport.TheVariants.{Tcp, 
 ghost use Rattle.of_shapes.specs.declared.shape.Tagging.TheVariants.{Tagged};
 ghost use Rattle.of_frames.specs.Adding.{Adds};
 ghost use Rattle.of_frames.specs.Given.{number};
-ghost use Rattle.of_frames.specs.Packets.{arp_given, body_given, carried_given, ends_given, ipv4_given, ipv6_given, over_ipv4, over_ipv6, tags_given};
+ghost use Rattle.of_frames.specs.Packets.{arp_given, body_given, carried_given, ends_given, ipv4_given, ipv6_given, body_over_ipv4, body_over_ipv6, tags_given};
 
 use crate::bits::{push_address, push_byte, push_double, push_sixteen, push_word};
 use crate::sums::{
@@ -140,7 +140,7 @@ fn push_ipv4_header(out: &mut Vec<u8>, kind: Transport, numbers: &Numbers) -> Re
 
 // Appends an IPv4 packet.
 fn push_ipv4(out: &mut Vec<u8>, kind: Transport, numbers: &Numbers) -> Result<(), AllocError>
-    ensures { OnOk result (Adds out.old.items out.new.items (encoded (body_cells (over_ipv4 kind (number numbers.now))))) }
+    ensures { OnOk result (Adds out.old.items out.new.items (encoded (body_cells (body_over_ipv4 kind (number numbers.now))))) }
 {
     let checksum = carried_checksum(ipv4_sum(kind, numbers), kind, numbers);
     push_ipv4_header(out, kind, numbers)?;
@@ -164,7 +164,7 @@ fn push_ipv6_header(out: &mut Vec<u8>, kind: Transport, numbers: &Numbers) -> Re
 
 // Appends an IPv6 packet.
 fn push_ipv6(out: &mut Vec<u8>, kind: Transport, numbers: &Numbers) -> Result<(), AllocError>
-    ensures { OnOk result (Adds out.old.items out.new.items (encoded (body_cells (over_ipv6 kind (number numbers.now))))) }
+    ensures { OnOk result (Adds out.old.items out.new.items (encoded (body_cells (body_over_ipv6 kind (number numbers.now))))) }
 {
     let checksum = carried_checksum(ipv6_sum(kind, numbers), kind, numbers);
     push_ipv6_header(out, kind, numbers)?;

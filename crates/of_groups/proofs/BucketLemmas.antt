@@ -4,7 +4,7 @@ use Rattle.std.proofs.lemmas.List.{take_all, drop_all, append-nil}
 use Rattle.std.specs.Prelude.{◌&&◌, map}
 use Rattle.std.specs.List.{list_all}
 use Rattle.of_groups.specs.declared.bucket.Bucket.{Bucket}
-use Rattle.of_groups.specs.Buckets.{is_fit, are_fit, fresh, used, used_at}
+use Rattle.of_groups.specs.Buckets.{is_fit, are_fit, fresh, used_bucket, used_at}
 
 fresh_length : (buckets : List Bucket) → length (map fresh buckets) ≡ length buckets
 fresh_length [] = refl
@@ -30,7 +30,7 @@ used_all (suc place) bytes (b ∷ buckets) = ap (λ (x : Bool). is_fit b && x) (
 pub used_fit : (place bytes : ℕ) (buckets : List Bucket) → are_fit (used_at place bytes buckets) ≡ are_fit buckets
 used_fit place bytes buckets = rw (used_length place bytes buckets, used_all place bytes buckets) refl
 
-pub used_set : (place bytes : ℕ) (buckets : List Bucket) (d : Bucket) → place < length buckets → set buckets place (used bytes (get_or buckets place d)) ≡ used_at place bytes buckets
+pub used_set : (place bytes : ℕ) (buckets : List Bucket) (d : Bucket) → place < length buckets → set buckets place (used_bucket bytes (get_or buckets place d)) ≡ used_at place bytes buckets
 used_set place bytes [] d lt = absurd (omega (arith, lt))
 used_set zero bytes (b ∷ buckets) d lt = refl
 used_set (suc place) bytes (b ∷ buckets) d lt = ap (λ (bs : List Bucket). b ∷ bs) (used_set place bytes buckets d (omega (arith, lt)))
@@ -46,7 +46,7 @@ fit_reset old new e h = rw (e, fresh_fit old) h
 pub fit_used : (place bytes : ℕ) (old new : List Bucket) → new ≡ used_at place bytes old → are_fit old ≡ true → are_fit new ≡ true
 fit_used place bytes old new e h = rw (e, used_fit place bytes old) h
 
-pub use_set : (place bytes : ℕ) (buckets : List Bucket) (b d : Bucket) → place < length buckets → b ≡ used bytes (get_or buckets place d) → set buckets place b ≡ used_at place bytes buckets
+pub use_set : (place bytes : ℕ) (buckets : List Bucket) (b d : Bucket) → place < length buckets → b ≡ used_bucket bytes (get_or buckets place d) → set buckets place b ≡ used_at place bytes buckets
 use_set place bytes buckets b d lt e = rw e (used_set place bytes buckets d lt)
 
 -- what a loan of all elements leaves

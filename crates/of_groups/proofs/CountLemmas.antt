@@ -10,8 +10,8 @@ use Rattle.of_groups.specs.declared.bucket.Bucket.{Bucket}
 use Rattle.of_groups.specs.declared.group.Group.{Group}
 use Rattle.of_groups.specs.declared.group.GroupKind.{GroupKind}
 use Rattle.of_groups.specs.declared.group.GroupKind.TheVariants.{All, Indirect, FastFailover}
-use Rattle.of_groups.specs.Buckets.{used, used_at, any_sends, watches, sends, is_badly_watched}
-use Rattle.of_groups.specs.Groups.{number_of, find_group, is_there, any_watches, any_named, names, at_group}
+use Rattle.of_groups.specs.Buckets.{used_bucket, used_at, any_sends, watches, sends, is_badly_watched}
+use Rattle.of_groups.specs.Groups.{group_number, find_group, is_there, any_watches, any_named, names, at_group}
 use Rattle.of_groups.specs.Chains.{names_next, is_chain}
 use Rattle.of_groups.specs.Faults.{is_absent, is_bad_watch, is_not_one}
 use Rattle.of_groups.specs.Sound.{is_fit_group, AreSound}
@@ -29,7 +29,7 @@ unchanged n change (g ∷ groups) h = by_test (eqb g.id n) h (unchanged n change
     by_test true t again = absurd (cc)
     by_test false t again = ap (λ (gs : List Group). g ∷ gs) (again t)
 
-changed_at : (n : ℕ) (change : Group → Group) (groups : List Group) (d : Group) → is_ascending number_of groups ≡ true → is_there n groups ≡ true
+changed_at : (n : ℕ) (change : Group → Group) (groups : List Group) (d : Group) → is_ascending group_number groups ≡ true → is_there n groups ≡ true
     → set groups (position_or_len (λ (g : Group). eqb g.id n) groups) (change (get_or groups (position_or_len (λ (g : Group). eqb g.id n) groups) d)) ≡ at_group n change groups
 changed_at n change [] d r there = absurd (cc)
 changed_at n change (g ∷ groups) d r there = by_test (eqb g.id n) refl there (grind (arith, nat_tests)) (changed_at n change groups d (grind (arith, nat_tests)))
@@ -49,7 +49,7 @@ pub place_is : (b : Bool) (i j : ℕ) → cond b (Some i) None ≡ Some j → (b
 place_is true i j e = (refl, cc)
 place_is false i j e = absurd (cc)
 
-pub changed_place : (n i : ℕ) (change : Group → Group) (groups : List Group) (g d : Group) → is_ascending number_of groups ≡ true → position (λ (h : Group). eqb h.id n) groups ≡ Some i → g ≡ change (get_or groups i d) → set groups i g ≡ at_group n change groups
+pub changed_place : (n i : ℕ) (change : Group → Group) (groups : List Group) (g d : Group) → is_ascending group_number groups ≡ true → position (λ (h : Group). eqb h.id n) groups ≡ Some i → g ≡ change (get_or groups i d) → set groups i g ≡ at_group n change groups
 changed_place n i change groups g d r at is =
     let p = place_is (ltb (position_or_len (λ (h : Group). eqb h.id n) groups) (length groups)) (position_or_len (λ (h : Group). eqb h.id n) groups) i at in
     let there : is_there n groups ≡ true = any_position (λ (h : Group). eqb h.id n) groups ∙ ap is_some at in
@@ -80,7 +80,7 @@ module _ (f : Group → Group) (keeps : (g : Group) → Keeps g (f g)) where
   all_above m [] = refl
   all_above m (g ∷ groups) = let k = keeps g in rw (k.id, all_above m groups) refl
 
-  still_rising : (groups : List Group) → is_ascending number_of (map f groups) ≡ is_ascending number_of groups
+  still_rising : (groups : List Group) → is_ascending group_number (map f groups) ≡ is_ascending group_number groups
   still_rising [] = refl
   still_rising (g ∷ groups) = let k = keeps g in rw (k.id, all_above g.id groups, still_rising groups) refl
 
@@ -154,7 +154,7 @@ used_sent p place bytes [] = refl
 used_sent p zero bytes (b ∷ buckets) = refl
 used_sent p (suc place) bytes (b ∷ buckets) = ap (λ (x : Bool). list_any (sends p) b.actions || x) (used_sent p place bytes buckets)
 
-used_watch : (p : Bucket → Bool) → ((b : Bucket) (bytes : ℕ) → p (used bytes b) ≡ p b) → (place bytes : ℕ) (buckets : List Bucket) → list_any p (used_at place bytes buckets) ≡ list_any p buckets
+used_watch : (p : Bucket → Bool) → ((b : Bucket) (bytes : ℕ) → p (used_bucket bytes b) ≡ p b) → (place bytes : ℕ) (buckets : List Bucket) → list_any p (used_at place bytes buckets) ≡ list_any p buckets
 used_watch p same place bytes [] = refl
 used_watch p same zero bytes (b ∷ buckets) = ap (λ (x : Bool). x || list_any p buckets) (same b bytes)
 used_watch p same (suc place) bytes (b ∷ buckets) = ap (λ (x : Bool). p b || x) (used_watch p same place bytes buckets)

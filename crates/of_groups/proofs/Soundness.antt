@@ -13,7 +13,7 @@ use Rattle.of_groups.specs.declared.group.Group.{Group}
 use Rattle.of_groups.specs.declared.group_fault.GroupFault.{GroupFault}
 use Rattle.of_groups.specs.declared.group_fault.GroupFault.TheVariants.{BadWatch, NotOneBucket, Exists, Full, Unknown, AbsentGroup, AbsentWatch, LongChain}
 use Rattle.of_groups.specs.Buckets.{are_fit, any_sends}
-use Rattle.of_groups.specs.Groups.{number_of, find_group, is_there, any_watches, any_named, names, with_group}
+use Rattle.of_groups.specs.Groups.{group_number, find_group, is_there, any_watches, any_named, names, with_group}
 use Rattle.of_groups.specs.Chains.{names_next, is_chain, is_long}
 use Rattle.of_groups.specs.Faults.{is_absent, is_bad_watch, is_not_one, naming_fault, add_fault, modify_fault}
 use Rattle.of_groups.specs.Rounds.{absent_with}
@@ -108,10 +108,10 @@ sound_with g groups s fit a few =
     let after : List Group = with_group g groups in
     let n = named_well g after a.names in
     record {
-      rising = rising_put number_of g groups s.rising;
+      rising = rising_put group_number g groups s.rising;
       few = few;
-      fit = all_put number_of is_fit_group g groups (fits g fit a.watch a.one) s.fit;
-      whole = all_put number_of (is_whole after) g groups
+      fit = all_put group_number is_fit_group g groups (fits g fit a.watch a.one) s.fit;
+      whole = all_put group_number (is_whole after) g groups
           (none_true (any_named (is_absent after) g) (neither (any_sends (is_absent after) g.buckets) (any_watches (is_absent after) g.kind g.buckets) n.sent n.watched))
           (all_more (is_whole after) (is_whole groups) groups (still_whole g groups) s.whole);
       short = not_long after n.long;
@@ -123,12 +123,12 @@ none_either : (m : ℕ) (b : Bool) → find_group m [] ≡ cond b None (find_gro
 none_either m true = refl
 none_either m false = refl
 
-find_without : (n m : ℕ) (groups : List Group) → find_group m (without number_of n groups) ≡ cond (eqb m n) None (find_group m groups)
+find_without : (n m : ℕ) (groups : List Group) → find_group m (without group_number n groups) ≡ cond (eqb m n) None (find_group m groups)
 find_without n m [] = none_either m (eqb m n)
 find_without n m (g ∷ groups) = by_tests (eqb g.id n) (eqb g.id m) (eqb m n) refl refl refl (find_without n m groups)
   where
-    by_tests : (a b c : Bool) → eqb g.id n ≡ a → eqb g.id m ≡ b → eqb m n ≡ c → find_group m (without number_of n groups) ≡ cond (eqb m n) None (find_group m groups)
-        → find_group m (without number_of n (g ∷ groups)) ≡ cond (eqb m n) None (find_group m (g ∷ groups))
+    by_tests : (a b c : Bool) → eqb g.id n ≡ a → eqb g.id m ≡ b → eqb m n ≡ c → find_group m (without group_number n groups) ≡ cond (eqb m n) None (find_group m groups)
+        → find_group m (without group_number n (g ∷ groups)) ≡ cond (eqb m n) None (find_group m (g ∷ groups))
     by_tests true true true ea eb ec h = rw (ea, eb, ec) (rw ec at h)
     by_tests true true false ea eb ec h = absurd (grind (arith, nat_tests, eqb_tells g.id n, eqb_tells g.id m, eqb_tells m n))
     by_tests true false true ea eb ec h = absurd (grind (arith, nat_tests, eqb_tells g.id n, eqb_tells g.id m, eqb_tells m n))
@@ -138,12 +138,12 @@ find_without n m (g ∷ groups) = by_tests (eqb g.id n) (eqb g.id m) (eqb m n) r
     by_tests false false true ea eb ec h = rw (ea, eb, ec) (rw ec at h)
     by_tests false false false ea eb ec h = rw (ea, eb, ec) (rw ec at h)
 
-there_without : (n m : ℕ) (groups : List Group) → eqb m n ≡ false → is_there m (without number_of n groups) ≡ is_there m groups
+there_without : (n m : ℕ) (groups : List Group) → eqb m n ≡ false → is_there m (without group_number n groups) ≡ is_there m groups
 there_without n m groups e =
-    there_found m (without number_of n groups)
+    there_found m (without group_number n groups)
     ∙ rw (find_without n m groups, e) (sym (there_found m groups))
 
-next_before : (n a b : ℕ) (groups : List Group) → names_next (without number_of n groups) a b ≡ true → names_next groups a b ≡ true
+next_before : (n a b : ℕ) (groups : List Group) → names_next (without group_number n groups) a b ≡ true → names_next groups a b ≡ true
 next_before n a b groups h =
     let split : option_map_or (names b) (cond (eqb a n) None (find_group a groups)) false ≡ true = rw (find_without n a groups) at h in
     by_test (eqb a n) split
@@ -152,29 +152,29 @@ next_before n a b groups h =
     by_test true t = absurd (cc)
     by_test false t = t
 
-there_before : (n m : ℕ) (groups : List Group) → is_there m (without number_of n groups) ≡ true → is_there m groups ≡ true
+there_before : (n m : ℕ) (groups : List Group) → is_there m (without group_number n groups) ≡ true → is_there m groups ≡ true
 there_before n m groups h = by_test (eqb m n) refl
   where
     by_test : (c : Bool) → eqb m n ≡ c → is_there m groups ≡ true
     by_test false e = sym (there_without n m groups e) ∙ h
     by_test true e =
-        let gone : is_there m (without number_of n groups) ≡ false = there_found m (without number_of n groups) ∙ rw (find_without n m groups, e) refl in
+        let gone : is_there m (without group_number n groups) ≡ false = there_found m (without group_number n groups) ∙ rw (find_without n m groups, e) refl in
         absurd (cc)
 
-chain_before : (n a : ℕ) (behind : List ℕ) (groups : List Group) → is_chain (without number_of n groups) a behind ≡ true → is_chain groups a behind ≡ true
+chain_before : (n a : ℕ) (behind : List ℕ) (groups : List Group) → is_chain (without group_number n groups) a behind ≡ true → is_chain groups a behind ≡ true
 chain_before n a [] groups h = there_before n a groups h
 chain_before n a (b ∷ behind) groups h =
-    let both = both_true (names_next (without number_of n groups) a b) (is_chain (without number_of n groups) b behind) h in
+    let both = both_true (names_next (without group_number n groups) a b) (is_chain (without group_number n groups) b behind) h in
     rw (next_before n a b groups both.0, chain_before n b behind groups both.1) refl
 
-whole_without : (n : ℕ) (groups : List Group) (h : Group) → (is_whole groups h && not (names n h)) ≡ true → is_whole (without number_of n groups) h ≡ true
+whole_without : (n : ℕ) (groups : List Group) (h : Group) → (is_whole groups h && not (names n h)) ≡ true → is_whole (without group_number n groups) h ≡ true
 whole_without n groups h was =
     let both = both_true (is_whole groups h) (not (names n h)) was in
     let whole : any_named (is_absent groups) h ≡ false = none_false (any_named (is_absent groups) h) both.0 in
     let unnamed : names n h ≡ false = none_false (names n h) both.1 in
-    by_test (any_named (is_absent (without number_of n groups)) h) refl whole unnamed
+    by_test (any_named (is_absent (without group_number n groups)) h) refl whole unnamed
   where
-    by_number : (m : ℕ) → names m h ≡ true → is_absent (without number_of n groups) m ≡ true → any_named (is_absent groups) h ≡ false → names n h ≡ false → (c : Bool) → eqb m n ≡ c → ⊥
+    by_number : (m : ℕ) → names m h ≡ true → is_absent (without group_number n groups) m ≡ true → any_named (is_absent groups) h ≡ false → names n h ≡ false → (c : Bool) → eqb m n ≡ c → ⊥
     by_number m named absent whole unnamed true e =
         let same : m ≡ n = grind (arith, nat_tests, eqb_tells m n) in
         let is_named : names n h ≡ true = rw same at named in
@@ -184,25 +184,25 @@ whole_without n groups h was =
         let lacks : any_named (is_absent groups) h ≡ true = named_at (is_absent groups) m h named gone in
         cc
 
-    by_test : (b : Bool) → any_named (is_absent (without number_of n groups)) h ≡ b → any_named (is_absent groups) h ≡ false → names n h ≡ false → not b ≡ true
+    by_test : (b : Bool) → any_named (is_absent (without group_number n groups)) h ≡ b → any_named (is_absent groups) h ≡ false → names n h ≡ false → not b ≡ true
     by_test false e whole unnamed = refl
     by_test true e whole unnamed =
-        let m = named_number (is_absent (without number_of n groups)) h e in
+        let m = named_number (is_absent (without group_number n groups)) h e in
         absurd (by_number m.0 m.1 m.2 whole unnamed (eqb m.0 n) refl)
 
 all_and : {X : Type 0} (p q : X → Bool) (xs : List X) → list_all p xs ≡ true → list_any q xs ≡ false → list_all (λ x. p x && not (q x)) xs ≡ true
 all_and p q [] h i = refl
 all_and p q (x ∷ xs) h i = grind (arith, all_and p q xs)
 
-pub sound_without : (n : ℕ) (groups : List Group) → AreSound groups → list_any (names n) groups ≡ false → AreSound (without number_of n groups)
+pub sound_without : (n : ℕ) (groups : List Group) → AreSound groups → list_any (names n) groups ≡ false → AreSound (without group_number n groups)
 sound_without n groups s unnamed =
     let stays : Group → Bool = λ (h : Group). not (eqb h.id n) in
     record {
-      rising = rising-filter number_of stays groups s.rising;
+      rising = rising-filter group_number stays groups s.rising;
       few = let l = length-filter_le stays groups in let f = s.few in omega (arith, l, f);
       fit = all-filter is_fit_group stays groups s.fit;
-      whole = all-filter (is_whole (without number_of n groups)) stays groups
-          (all_more (is_whole (without number_of n groups)) (λ (h : Group). is_whole groups h && not (names n h)) groups (whole_without n groups)
+      whole = all-filter (is_whole (without group_number n groups)) stays groups
+          (all_more (is_whole (without group_number n groups)) (λ (h : Group). is_whole groups h && not (names n h)) groups (whole_without n groups)
           (all_and (is_whole groups) (names n) groups s.whole unnamed));
       short = λ a behind chained. s.short a behind (chain_before n a behind groups chained);
     }
@@ -257,13 +257,13 @@ same_modify g h groups others told e f is = is ∙ (ap (λ (x : Group). modify_f
 pub same_with : (g h : Group) (groups others : List Group) (new : List Group) → g ≡ h → groups ≡ others → new ≡ with_group g groups → new ≡ with_group h others
 same_with g h groups others new e f is = is ∙ (ap (λ (x : Group). with_group x groups) e ∙ ap (with_group h) f)
 
-one_longer : (g : Group) (groups : List Group) → is_ascending number_of groups ≡ true → is_there g.id groups ≡ false → length (with_group g groups) ≡ length groups + 1
+one_longer : (g : Group) (groups : List Group) → is_ascending group_number groups ≡ true → is_there g.id groups ≡ false → length (with_group g groups) ≡ length groups + 1
 one_longer g groups r new =
-    let le : length (below number_of g.id groups) ≤ length groups = length-filter_le (λ (h : Group). ltb h.id g.id) groups in
-    sym (ap length (inserted g groups r new)) ∙ length-insert groups (length (below number_of g.id groups)) g le
+    let le : length (below group_number g.id groups) ≤ length groups = length-filter_le (λ (h : Group). ltb h.id g.id) groups in
+    sym (ap length (inserted g groups r new)) ∙ length-insert groups (length (below group_number g.id groups)) g le
 
-as_long : (g : Group) (groups : List Group) → is_ascending number_of groups ≡ true → is_there g.id groups ≡ true → length (with_group g groups) ≡ length groups
-as_long g groups r there = sym (ap length (replaced g groups r there)) ∙ length-set groups (length (below number_of g.id groups)) g
+as_long : (g : Group) (groups : List Group) → is_ascending group_number groups ≡ true → is_there g.id groups ≡ true → length (with_group g groups) ≡ length groups
+as_long g groups r there = sym (ap length (replaced g groups r there)) ∙ length-set groups (length (below group_number g.id groups)) g
 
 pub sound_added : {A E : Type 0} (r : Result A E) (g : Group) (old new : List Group) → AreSound old → are_fit g.buckets ≡ true → add_fault g old ≡ None → OnOk r (new ≡ with_group g old) → OnErr r (new ≡ old) → AreSound new
 sound_added (Ok x) g old new s fit none ok err =

@@ -21,13 +21,13 @@ abbrev pub fresh : Bucket → Bucket
 fresh b = record b { packets = 0; bytes = 0 }
 
 -- one more packet of this many bytes
-abbrev pub used : ℕ → Bucket → Bucket
-used bytes b = record b { packets = (b.packets + 1) % 2 ^ 64; bytes = (b.bytes + bytes) % 2 ^ 64 }
+abbrev pub used_bucket : ℕ → Bucket → Bucket
+used_bucket bytes b = record b { packets = (b.packets + 1) % 2 ^ 64; bytes = (b.bytes + bytes) % 2 ^ 64 }
 
 -- at the bucket at a place
 abbrev pub used_at : ℕ → ℕ → List Bucket → List Bucket
 used_at place bytes [] = []
-used_at zero bytes (b ∷ buckets) = used bytes b ∷ buckets
+used_at zero bytes (b ∷ buckets) = used_bucket bytes b ∷ buckets
 used_at (suc place) bytes (b ∷ buckets) = b ∷ used_at place bytes buckets
 
 -- ---- the groups that buckets name

@@ -16,14 +16,14 @@ kind_number All = 0
 kind_number Indirect = 2
 kind_number FastFailover = 3
 
-abbrev pub number_of : Group → ℕ
-number_of g = g.id
+abbrev pub group_number : Group → ℕ
+group_number g = g.id
 
 abbrev pub find_group : ℕ → List Group → Option Group
 find_group n groups = find (λ g. g.id == n) groups
 
 abbrev pub is_there : ℕ → List Group → Bool
-is_there n groups = is_used number_of n groups
+is_there n groups = is_used group_number n groups
 
 -- the actions of the bucket of a group at a place
 abbrev pub bucket_at : List Group → ℕ → ℕ → Option (List Action)
@@ -66,9 +66,9 @@ abbrev pub modified_group : ℕ → GroupKind → List Bucket → List Group →
 modified_group id kind buckets groups = new_group id kind buckets (created_at id groups)
 
 -- what a DELETE leaves: of one group, or of all
-abbrev pub left : Option ℕ → List Group → List Group
-left None groups = []
-left (Some n) groups = without number_of n groups
+abbrev pub groups_left : Option ℕ → List Group → List Group
+groups_left None groups = []
+groups_left (Some n) groups = without group_number n groups
 
 -- ---- counting (5.8)
 

@@ -4,7 +4,7 @@ use Rattle.std.specs.List.{list_all}
 use Rattle.of_actions.specs.Rising.{is_ascending}
 use Rattle.of_groups.specs.declared.group.Group.{Group}
 use Rattle.of_groups.specs.Buckets.{are_fit}
-use Rattle.of_groups.specs.Groups.{number_of, any_named}
+use Rattle.of_groups.specs.Groups.{group_number, any_named}
 use Rattle.of_groups.specs.Chains.{AreShort}
 use Rattle.of_groups.specs.Faults.{is_absent, is_bad_watch, is_not_one}
 
@@ -18,7 +18,7 @@ is_whole groups g = not (any_named (is_absent groups) g)
 
 pub record AreSound (groups : List Group) : Type 0 where
   -- in ascending order of number, so no two have the same number
-  pub rising : IsTrue (is_ascending number_of groups)
+  pub rising : IsTrue (is_ascending group_number groups)
   pub few : length groups ≤ 256
   pub fit : IsTrue (list_all is_fit_group groups)
   pub whole : IsTrue (list_all (is_whole groups) groups)

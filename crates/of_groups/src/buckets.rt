@@ -1,7 +1,7 @@
 //! Lists of buckets.
 ghost use Rattle.std.specs.Prelude.{◌≡◌, ◌<◌, ◌++◌, ◌∷◌, [], false, IsTrue, OnOk, OnErr, length, map};
 ghost use Rattle.of_actions.specs.Supported.{are_supported};
-ghost use Rattle.of_groups.specs.Buckets.{are_fit as may_stand, fresh, used, used_at};
+ghost use Rattle.of_groups.specs.Buckets.{are_fit as may_stand, fresh, used_bucket, used_at};
 
 use crate::bucket::Bucket;
 use std::alloc::{AllocError, Global};
@@ -99,7 +99,7 @@ fn count_at(buckets: &mut [Bucket], place: usize, bytes: usize)
 }
 
 fn count_use(bucket: &mut Bucket, bytes: usize)
-    ensures { bucket.new ≡ used bytes bucket.old }
+    ensures { bucket.new ≡ used_bucket bytes bucket.old }
 {
     bucket.packets = bucket.packets.wrapping_add(1);
     bucket.bytes = bucket.bytes.wrapping_add(bytes as u64);

@@ -1,14 +1,14 @@
 //! Counters of groups (OpenFlow 1.3.5, 5.8).
 ghost use Rattle.std.specs.Prelude.{◌≡◌, IsTrue};
 ghost use Rattle.of_actions.specs.Rising.{is_ascending};
-ghost use Rattle.of_groups.specs.Groups.{number_of, counted, bucket_counted};
+ghost use Rattle.of_groups.specs.Groups.{group_number, counted, bucket_counted};
 
 use crate::group::Group;
 use crate::lookup::place_of;
 
 /// A packet of so many bytes for the group of that number; where there is none, nothing changes.
 pub(crate) fn count_group(groups: &mut Vec<Group>, id: u32, bytes: usize)
-    requires { IsTrue (is_ascending number_of groups.old.items) }
+    requires { IsTrue (is_ascending group_number groups.old.items) }
     ensures { groups.new.items ≡ counted id bytes groups.old.items }
 {
     match place_of(groups, id) {
@@ -23,7 +23,7 @@ pub(crate) fn count_group(groups: &mut Vec<Group>, id: u32, bytes: usize)
 
 /// The same for one of its buckets, by its place.
 pub(crate) fn count_use_of(groups: &mut Vec<Group>, id: u32, place: u8, bytes: usize)
-    requires { IsTrue (is_ascending number_of groups.old.items) }
+    requires { IsTrue (is_ascending group_number groups.old.items) }
     ensures { groups.new.items ≡ bucket_counted id place bytes groups.old.items }
 {
     match place_of(groups, id) {

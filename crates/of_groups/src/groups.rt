@@ -2,7 +2,7 @@
 ghost use Rattle.std.specs.Prelude.{◌≡◌, ◌≢◌, ◌<◌, [], Some, None, length, slice_get, count_by, OnOk, OnErr};
 ghost use Rattle.std.specs.Option.{option_copied, option_map};
 ghost use Rattle.std.specs.Result.{result_err};
-ghost use Rattle.of_groups.specs.Groups.{new_group, modified_group, with_group, left, counted, bucket_counted, bucket_at, find_group as group_of_number, sends_to as is_sending};
+ghost use Rattle.of_groups.specs.Groups.{new_group, modified_group, with_group, groups_left, counted, bucket_counted, bucket_at, find_group as group_of_number, sends_to as is_sending};
 ghost use Rattle.of_groups.specs.Faults.{fault_in, add_fault, modify_fault, delete_fault};
 ghost use Rattle.of_groups.specs.Sound.{AreSound};
 ghost use Rattle.of_groups.specs.Liveness.{chosen};
@@ -102,7 +102,7 @@ impl Groups {
     /// One that another names is not deleted alone. It needs no memory. A call that fails changes nothing.
     pub fn delete(&mut self, id: Option<u32>) -> Result<(), GroupFault>
         ensures fault { result_err result ≡ delete_fault id self.old }
-        ensures ok { OnOk result (self.new ≡ left id self.old) }
+        ensures ok { OnOk result (self.new ≡ groups_left id self.old) }
         ensures err { OnErr result (self.new ≡ self.old) }
     {
         match id {

@@ -5,7 +5,7 @@ use Rattle.std.proofs.lemmas.Bool.{leb-true}
 use Rattle.std.proofs.lemmas.List.{drop-drop, length-drop, length-take}
 use Rattle.of_layers.specs.declared.transport.Transport.TheVariants.{Nothing}
 use Rattle.of_layers.specs.Layers.{Extension, Options, Fragment, extension_bytes, all_bytes}
-use Rattle.of_layers.specs.Reading.{Chain, behind, ends_as, word, over_ipv6, whole_in, has_options, is_fragment, extension_size, has_extension, is_later, extension_of, options_numbers, fragment_numbers, chain_of}
+use Rattle.of_layers.specs.Reading.{Chain, behind_extension, ends_as, word, over_ipv6, whole_in, has_options, is_fragment, extension_size, has_extension, is_later, extension_of, options_numbers, fragment_numbers, chain_of}
 use Rattle.of_headers.specs.declared.layout.Network.TheVariants as network
 use Rattle.of_headers.specs.Places.{protocol_at, network_behind}
 
@@ -16,12 +16,12 @@ unfolding chain_of
 chain_stop zero kind s e = refl
 chain_stop (suc n) kind s e = rw e refl
 
-pub chain_later : (n kind : ℕ) (s : List ℕ) → 0 < n → has_extension kind s ≡ true → is_later kind s ≡ true → chain_of n kind s ≡ behind (extension_of kind s) (ends_as Nothing (drop 8 s))
+pub chain_later : (n kind : ℕ) (s : List ℕ) → 0 < n → has_extension kind s ≡ true → is_later kind s ≡ true → chain_of n kind s ≡ behind_extension (extension_of kind s) (ends_as Nothing (drop 8 s))
 unfolding chain_of
 chain_later zero kind s h e l = absurd (omega arith)
 chain_later (suc n) kind s h e l = rw (e, l) refl
 
-pub chain_more : (n kind : ℕ) (s : List ℕ) → has_extension kind s ≡ true → is_later kind s ≡ false → chain_of (suc n) kind s ≡ behind (extension_of kind s) (chain_of n (get_or s 0 0) (drop (extension_size kind s) s))
+pub chain_more : (n kind : ℕ) (s : List ℕ) → has_extension kind s ≡ true → is_later kind s ≡ false → chain_of (suc n) kind s ≡ behind_extension (extension_of kind s) (chain_of n (get_or s 0 0) (drop (extension_size kind s) s))
 unfolding chain_of
 chain_more n kind s e l = rw (e, l) refl
 
@@ -84,14 +84,14 @@ chain_turns (suc m) (suc n) kind s a b =
         | true ↦ λ l. chain_later (suc m) kind s (omega arith) e l ∙ sym (chain_later (suc n) kind s (omega arith) e l)
         | false ↦ λ l. (let h : extension_size kind s ≤ length s = size_fits kind s e in
             chain_more m kind s e l
-            ∙ ap (λ (c : Chain). behind (extension_of kind s) c) (chain_turns m n (get_or s 0 0) (drop (extension_size kind s) s) (omega arith) (omega arith))
+            ∙ ap (λ (c : Chain). behind_extension (extension_of kind s) c) (chain_turns m n (get_or s 0 0) (drop (extension_size kind s) s) (omega arith) (omega arith))
             ∙ sym (chain_more n kind s e l))
       ]
     ] in
     split (has_extension kind s) (is_later kind s) refl refl
 
 one_more : (kind : ℕ) (s : List ℕ) → has_extension kind s ≡ true → is_later kind s ≡ false →
-    chain_of (length s) kind s ≡ behind (extension_of kind s) (chain_of (length (drop (extension_size kind s) s)) (get_or s 0 0) (drop (extension_size kind s) s))
+    chain_of (length s) kind s ≡ behind_extension (extension_of kind s) (chain_of (length (drop (extension_size kind s) s)) (get_or s 0 0) (drop (extension_size kind s) s))
 one_more kind s e l =
     let long : 8 ≤ length s = eight_fit kind s e in
     let least : 8 ≤ extension_size kind s = size_least kind s in
@@ -99,7 +99,7 @@ one_more kind s e l =
     let turns : length s ≡ suc (length s - 1) = omega arith in
     ap (λ (n : ℕ). chain_of n kind s) turns
     ∙ chain_more (length s - 1) kind s e l
-    ∙ ap (λ (c : Chain). behind (extension_of kind s) c) (chain_turns (length s - 1) (length (drop (extension_size kind s) s)) (get_or s 0 0) (drop (extension_size kind s) s) (omega arith) (omega arith))
+    ∙ ap (λ (c : Chain). behind_extension (extension_of kind s) c) (chain_turns (length s - 1) (length (drop (extension_size kind s) s)) (get_or s 0 0) (drop (extension_size kind s) s) (omega arith) (omega arith))
 
 pub nothing_in : (n : ℕ) → whole_in Nothing n ≡ Nothing
 nothing_in n = elim (nat_le 0 n) as (λ b. cond b Nothing Nothing ≡ Nothing) [ true ↦ refl | false ↦ refl ]
@@ -113,7 +113,7 @@ later_by false c n e = absurd cc
 pub later_size : (kind : ℕ) (s : List ℕ) → is_later kind s ≡ true → extension_size kind s ≡ 8
 later_size kind s e = later_by (is_fragment kind) (not ((word s 2 / 8) == 0)) (get_or s 1 0) e
 
-behind_is : (named at : ℕ) (e : Extension) (c : Chain) → network_behind named at (behind e c) ≡ network_behind at (at + extension_bytes e) c
+behind_is : (named at : ℕ) (e : Extension) (c : Chain) → network_behind named at (behind_extension e c) ≡ network_behind at (at + extension_bytes e) c
 behind_is named at e c =
     let same : at + (extension_bytes e + all_bytes c.extensions) ≡ at + extension_bytes e + all_bytes c.extensions = omega arith in
     λ i. network.Ipv6 (protocol_at at (at + extension_bytes e) c.extensions) (record { transport = c.carried.kind; at = same i })

@@ -9,7 +9,7 @@ use Rattle.of_layers.specs.declared.transport.Transport.{Transport}
 use Rattle.of_layers.specs.declared.transport.Transport.TheVariants.{Nothing}
 use Rattle.of_layers.specs.Fields.{row_of, number_of}
 use Rattle.of_layers.specs.Layers.{Extension, Options, Fragment, extension_bytes, all_bytes, extension_cells, byte_cells, size_of, cells_in, ipv6, named, next_before}
-use Rattle.of_layers.specs.Reading.{Chain, behind, ends_as, over_ipv6, is_fragment, extension_size, has_extension, is_later, extension_of, options_numbers, fragment_numbers, ipv6_numbers, numbers_of, chain_of}
+use Rattle.of_layers.specs.Reading.{Chain, behind_extension, ends_as, over_ipv6, is_fragment, extension_size, has_extension, is_later, extension_of, options_numbers, fragment_numbers, ipv6_numbers, numbers_of, chain_of}
 use Rattle.of_layers.specs.declared.place.Place.{Place}
 use Rattle.of_layers.specs.Looking.{look_up, look, locate_at}
 use Rattle.of_headers.specs.Places.{protocol_at, width}
@@ -96,7 +96,7 @@ placed_by [] before at n x e = refl
 placed_by (y ∷ es) before at n x e = e
 
 walk_step : (q : List ℕ) (at before kind : ℕ) (c : Chain) → has_extension kind (drop at q) ≡ true → IsWalk q (at + extension_size kind (drop at q)) at c →
-    IsWalk q at before (behind (extension_of kind (drop at q)) c)
+    IsWalk q at before (behind_extension (extension_of kind (drop at q)) c)
 walk_step q at before kind c h w =
     let e : Extension = extension_of kind (drop at q) in
     let size : extension_size kind (drop at q) ≡ extension_bytes (extension_of kind (drop at q)) = sym (extension_is kind (drop at q) h) in
@@ -139,11 +139,11 @@ walk_is (suc m) kind at before q h l =
             | true ↦ λ r.
                 let eight : drop 8 (drop at q) ≡ drop (at + extension_size kind (drop at q)) q = ap (λ (k : ℕ). drop k (drop at q)) (sym (later_size kind (drop at q) r)) ∙ gone in
                 subst (IsWalk q at before)
-                (sym (chain_later (suc m) kind (drop at q) (omega arith) e r ∙ ap (λ (s : List ℕ). behind (extension_of kind (drop at q)) (ends_as Nothing s)) eight))
+                (sym (chain_later (suc m) kind (drop at q) (omega arith) e r ∙ ap (λ (s : List ℕ). behind_extension (extension_of kind (drop at q)) (ends_as Nothing s)) eight))
                 (walk_step q at before kind (ends_as Nothing (drop (at + extension_size kind (drop at q)) q)) e (walk_end q (at + extension_size kind (drop at q)) at Nothing next here))
             | false ↦ λ r.
                 subst (IsWalk q at before)
-                (sym (chain_more m kind (drop at q) e r ∙ ap (λ (s : List ℕ). behind (extension_of kind (drop at q)) (chain_of m (get_or (drop at q) 0 0) s)) gone))
+                (sym (chain_more m kind (drop at q) e r ∙ ap (λ (s : List ℕ). behind_extension (extension_of kind (drop at q)) (chain_of m (get_or (drop at q) 0 0) s)) gone))
                 (walk_step q at before kind (chain_of m (get_or (drop at q) 0 0) (drop (at + extension_size kind (drop at q)) q)) e (walk_is m (get_or (drop at q) 0 0) (at + extension_size kind (drop at q)) at q next here))
           ])
     ] in

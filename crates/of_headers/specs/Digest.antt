@@ -14,8 +14,8 @@ folded_product a b = bit_xor ((a * b) % 2 ^ 64) ((a * b) / 2 ^ 64)
 unfoldable pub mixed : Mixer → ℕ → Mixer
 mixed m number = record { next = m.last; last = folded_product (bit_xor (number % 2 ^ 64) m.next) (bit_xor (number / 2 ^ 64) m.factor); factor = m.factor }
 
-unfoldable pub number_in : Mixer → ℕ
-number_in m = (m.next + m.last) % 2 ^ 64
+unfoldable pub mixer_number : Mixer → ℕ
+mixer_number m = (m.next + m.last) % 2 ^ 64
 
 -- a number whose bits look random, as splitmix64 makes it
 unfoldable pub scrambled : ℕ → ℕ
@@ -35,31 +35,31 @@ unfoldable pub side_by_side : ℕ → List ℕ → ℕ
 side_by_side place xs = fold (λ sum x. ((sum * place) % 2 ^ 64 + x) % 2 ^ 64) 0 xs
 
 -- two words of 64 bits in one of 128
-unfoldable pub pair_of : ℕ → ℕ → ℕ
-pair_of high low = high * 2 ^ 64 + low
+unfoldable pub word_pair : ℕ → ℕ → ℕ
+word_pair high low = high * 2 ^ 64 + low
 
 unfoldable pub place_word_of : Numbers → ℕ
-place_word_of k = pair_of (side_by_side 0x1_0000_0000 (k.in_port ∷ k.present ∷ [])) k.metadata
+place_word_of k = word_pair (side_by_side 0x1_0000_0000 (k.in_port ∷ k.present ∷ [])) k.metadata
 
 unfoldable pub link_word_of : Numbers → ℕ
-link_word_of k = pair_of (side_by_side 0x1_0000 (k.eth_dst ∷ k.eth_type ∷ [])) (side_by_side 0x1_0000 (k.eth_src ∷ k.vlan_vid ∷ []))
+link_word_of k = word_pair (side_by_side 0x1_0000 (k.eth_dst ∷ k.eth_type ∷ [])) (side_by_side 0x1_0000 (k.eth_src ∷ k.vlan_vid ∷ []))
 
 unfoldable pub internet_word_of : Numbers → ℕ
-internet_word_of k = pair_of (side_by_side 0x1_0000_0000 (k.ipv4_src ∷ k.ipv4_dst ∷ [])) (side_by_side 0x1_0000 (k.tcp_src ∷ k.tcp_dst ∷ k.udp_src ∷ k.udp_dst ∷ []))
+internet_word_of k = word_pair (side_by_side 0x1_0000_0000 (k.ipv4_src ∷ k.ipv4_dst ∷ [])) (side_by_side 0x1_0000 (k.tcp_src ∷ k.tcp_dst ∷ k.udp_src ∷ k.udp_dst ∷ []))
 
 unfoldable pub octet_word_of : Numbers → ℕ
-octet_word_of k = pair_of (side_by_side 0x100 (k.icmpv4_type ∷ k.icmpv4_code ∷ k.icmpv6_type ∷ k.icmpv6_code ∷ k.vlan_pcp ∷ k.ip_proto ∷ k.ip_dscp ∷ k.ip_ecn ∷ [])) k.ipv6_flabel
+octet_word_of k = word_pair (side_by_side 0x100 (k.icmpv4_type ∷ k.icmpv4_code ∷ k.icmpv6_type ∷ k.icmpv6_code ∷ k.vlan_pcp ∷ k.ip_proto ∷ k.ip_dscp ∷ k.ip_ecn ∷ [])) k.ipv6_flabel
 
 unfoldable pub source_word_of : Numbers → ℕ
-source_word_of k = (k.ipv6_src + pair_of (side_by_side 0x1_0000 (k.arp_sha ∷ k.arp_op ∷ [])) (side_by_side 0x1_0000_0000 (k.arp_spa ∷ k.arp_tpa ∷ []))) % 2 ^ 128
+source_word_of k = (k.ipv6_src + word_pair (side_by_side 0x1_0000 (k.arp_sha ∷ k.arp_op ∷ [])) (side_by_side 0x1_0000_0000 (k.arp_spa ∷ k.arp_tpa ∷ []))) % 2 ^ 128
 
 unfoldable pub target_word_of : Numbers → ℕ
 target_word_of k = (k.ipv6_dst + k.arp_tha) % 2 ^ 128
 
-unfoldable pub words_of : Numbers → List ℕ
-words_of k = place_word_of k ∷ link_word_of k ∷ internet_word_of k ∷ octet_word_of k ∷ source_word_of k ∷ target_word_of k ∷ []
+unfoldable pub key_words : Numbers → List ℕ
+key_words k = place_word_of k ∷ link_word_of k ∷ internet_word_of k ∷ octet_word_of k ∷ source_word_of k ∷ target_word_of k ∷ []
 
 -- ---- the whole
 
 unfoldable pub digest_of : Mixer → Numbers → ℕ
-digest_of secret k = number_in (fold mixed secret (words_of k))
+digest_of secret k = mixer_number (fold mixed secret (key_words k))

@@ -1,6 +1,6 @@
 //! One number for all fields of a key.
 ghost use Rattle.std.specs.Prelude.{◌≡◌};
-ghost use Rattle.of_headers.specs.Digest.{side_by_side, pair_of, place_word_of, link_word_of, internet_word_of, octet_word_of, source_word_of, target_word_of, words_of, digest_of};
+ghost use Rattle.of_headers.specs.Digest.{side_by_side, word_pair, place_word_of, link_word_of, internet_word_of, octet_word_of, source_word_of, target_word_of, key_words, digest_of};
 
 use crate::key::FieldKey;
 use crate::mixer::Mixer;
@@ -18,9 +18,9 @@ fn beside(place: u64, numbers: &[u64]) -> u64
 }
 
 #[inline]
-#[tactic(auto, unfolding(crate::specs::Digest::pair_of))]
+#[tactic(auto, unfolding(crate::specs::Digest::word_pair))]
 fn pair(high: u64, low: u64) -> u128
-    ensures { result ≡ pair_of high low }
+    ensures { result ≡ word_pair high low }
 {
     u128::from(high) * 0x1_0000_0000_0000_0000 + u128::from(low)
 }
@@ -28,9 +28,9 @@ fn pair(high: u64, low: u64) -> u128
 impl FieldKey {
     /// Numbers that depend on all fields, for a hash: to hash the fields one after another takes several times as long.
     #[inline]
-    #[tactic(auto, unfolding(crate::specs::Digest::words_of))]
+    #[tactic(auto, unfolding(crate::specs::Digest::key_words))]
     pub fn words(&self) -> [u128; 6]
-        ensures { result ≡ words_of self.now.numbers }
+        ensures { result ≡ key_words self.now.numbers }
     {
         [
             place_word(&self.numbers),
@@ -44,7 +44,7 @@ impl FieldKey {
 
     /// One number that depends on all fields, for a hash: who does not know the secret cannot pick keys that have the same one.
     #[inline]
-    #[tactic(auto, unfolding(crate::specs::Digest::words_of, crate::specs::Digest::digest_of))]
+    #[tactic(auto, unfolding(crate::specs::Digest::key_words, crate::specs::Digest::digest_of))]
     pub fn digest(&self, secret: Mixer) -> u64
         ensures { result ≡ digest_of secret self.now.numbers }
     {

@@ -1,6 +1,6 @@
 //! Numbers mixed into one, under a secret.
 ghost use Rattle.std.specs.Prelude.{◌≡◌, ◌/◌, ◌%◌, ◌^◌};
-ghost use Rattle.of_headers.specs.Digest.{folded_product, mixed, number_in, scrambled, mixer_of};
+ghost use Rattle.of_headers.specs.Digest.{folded_product, mixed, mixer_number, scrambled, mixer_of};
 
 /// Mixes numbers into one, for hashes: who does not know the secret with which it begins cannot pick numbers that give the same one.
 ///
@@ -77,9 +77,9 @@ impl Mixer {
 
     /// The number that all were mixed into.
     #[inline]
-    #[tactic(auto, unfolding(crate::specs::Digest::number_in))]
+    #[tactic(auto, unfolding(crate::specs::Digest::mixer_number))]
     pub fn number(self) -> u64
-        ensures { result ≡ number_in self }
+        ensures { result ≡ mixer_number self }
     {
         self.next.wrapping_add(self.last)
     }

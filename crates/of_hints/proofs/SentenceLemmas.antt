@@ -12,7 +12,7 @@ use Rattle.of_groups.specs.declared.group.Group.{Group}
 use Rattle.of_text.specs.First.{first_refusal, flows_for, refusals_behind, refused_from, refused_group}
 use Rattle.of_text.specs.Flows.{Flow, Step, Apply, Clear, Write, Metadata, Goto}
 use Rattle.of_text.specs.Groups.{TextBucket, TextGroup}
-use Rattle.of_text.specs.Refusals.{action_refusals, all_there, buckets_refusals, field_refusals, flow_refusals, goto_refusals, group_refusals, list_refusals, match_refusals, naming_refusals, step_refusals, steps_refusals, table_refusals}
+use Rattle.of_text.specs.Refusals.{text_action_refusals, all_there, buckets_refusals, text_field_refusals, flow_refusals, goto_refusals, group_refusals, list_refusals, match_refusals, naming_refusals, step_refusals, steps_refusals, table_refusals}
 use Rattle.of_text.proofs.TextLemmas.{all_both}
 use Rattle.of_hints.specs.Sentences.{sentence_of}
 
@@ -39,10 +39,10 @@ each_said f p (x ∷ xs) = all_both HasSentence (f x) (flat_map f xs) (p x) (eac
 
 -- ---- a flow
 
-field_said : (e : MatchField) → AreSaid (field_refusals e)
+field_said : (e : MatchField) → AreSaid (text_field_refusals e)
 field_said e = (refl, (refl, (refl, tt)))
 
-action_said : (a : Action) → AreSaid (action_refusals a)
+action_said : (a : Action) → AreSaid (text_action_refusals a)
 action_said (actions.Output port max_len) = (refl, tt)
 action_said (actions.PushVlan type) = (refl, tt)
 action_said (actions.SetField f value) = (refl, (refl, tt))
@@ -50,7 +50,7 @@ action_said other = tt
 
 list_said : (xs : List Action) → AreSaid (list_refusals xs)
 unfolding list_refusals
-list_said xs = all_both HasSentence (flat_map action_refusals (take 64 xs)) _ (each_said action_refusals action_said (take 64 xs)) (refl, tt)
+list_said xs = all_both HasSentence (flat_map text_action_refusals (take 64 xs)) _ (each_said text_action_refusals action_said (take 64 xs)) (refl, tt)
 
 step_said : (s : Step) → AreSaid (step_refusals s)
 unfolding step_refusals
@@ -69,7 +69,7 @@ goto_said table (Goto to) = (refl, tt)
 
 match_said : (m : List MatchField) → AreSaid (match_refusals m)
 unfolding match_refusals
-match_said m = all_both HasSentence (flat_map field_refusals m) _ (each_said field_refusals field_said m) (refl, tt)
+match_said m = all_both HasSentence (flat_map text_field_refusals m) _ (each_said text_field_refusals field_said m) (refl, tt)
 
 steps_said : (table : ℕ) (m : List MatchField) (steps : List Step) → AreSaid (steps_refusals table m steps)
 unfolding steps_refusals

@@ -7,14 +7,14 @@ use Rattle.of_hints.specs.declared.layout.LayoutFault.TheVariants.{TooLong, Byte
 use Rattle.of_hints.specs.declared.hint.Hint.{Hint}
 use Rattle.of_hints.specs.declared.hint.Hint.TheVariants as hints
 
-abbrev pub IsFault : LayoutFault → List ℕ → Type 0
-IsFault TooLong line = 1048576 < length line
-IsFault ByteOrderMark line = starts_with nat_eq line (239 ∷ 187 ∷ 191 ∷ []) ≡ true
-IsFault NotText line = ¬ (IsUtf8 line)
-IsFault CarriageReturn line = list_any (λ b. b == 13) line ≡ true
-IsFault Tab line = list_any (λ b. b == 9) line ≡ true
-IsFault Space line = Unit {0}
+abbrev pub IsLayoutFault : LayoutFault → List ℕ → Type 0
+IsLayoutFault TooLong line = 1048576 < length line
+IsLayoutFault ByteOrderMark line = starts_with nat_eq line (239 ∷ 187 ∷ 191 ∷ []) ≡ true
+IsLayoutFault NotText line = ¬ (IsUtf8 line)
+IsLayoutFault CarriageReturn line = list_any (λ b. b == 13) line ≡ true
+IsLayoutFault Tab line = list_any (λ b. b == 9) line ≡ true
+IsLayoutFault Space line = Unit {0}
 
 abbrev pub IsSo : Hint → List ℕ → Type 0
-IsSo (hints.Layout fault) line = IsFault fault line
+IsSo (hints.Layout fault) line = IsLayoutFault fault line
 IsSo other line = Unit {0}

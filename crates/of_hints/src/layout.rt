@@ -1,5 +1,5 @@
 //! What is wrong with a line before its words are checked.
-ghost use Rattle.of_hints.specs.Layout.{IsFault};
+ghost use Rattle.of_hints.specs.Layout.{IsLayoutFault};
 ghost use Rattle.std.specs.Prelude.{◌≡◌, ◌∷◌, [], nat_eq, IfSome};
 ghost use Rattle.std.specs.List.{starts_with};
 
@@ -42,7 +42,7 @@ fn has_space_too_many(line: &[u8]) -> bool {
 
 /// What is wrong with the bytes of a whole text that is read in any layout.
 pub fn text_fault(text: &[u8]) -> Option<LayoutFault>
-    ensures { IfSome result (λ fault. IsFault fault text.now) }
+    ensures { IfSome result (λ fault. IsLayoutFault fault text.now) }
 {
     if has_mark(text) {
         return Some(LayoutFault::ByteOrderMark);
@@ -55,7 +55,7 @@ pub fn text_fault(text: &[u8]) -> Option<LayoutFault>
 
 /// What is wrong with the bytes of a line, and with the spaces between its words.
 pub fn layout_fault(line: &[u8]) -> Option<LayoutFault>
-    ensures { IfSome result (λ fault. IsFault fault line.now) }
+    ensures { IfSome result (λ fault. IsLayoutFault fault line.now) }
 {
     if line.len() > LONGEST {
         return Some(LayoutFault::TooLong);

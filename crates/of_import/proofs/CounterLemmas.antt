@@ -5,7 +5,7 @@ use Rattle.std.specs.List.{AllByRecursion, flat_map}
 use Rattle.std.specs.Global.{Vec}
 use Rattle.std.proofs.lemmas.List.{append-nil, reverse-append, reverse-reverse}
 use Rattle.of_lines.specs.Lines.{before, behind, ended, lines_of, prepended}
-use Rattle.of_text.specs.Texts.{counts, kept}
+use Rattle.of_text.specs.Texts.{counts, lines_kept}
 use Rattle.of_text.specs.Configs.{Configuration, EncodeConfig}
 use Rattle.of_text.proofs.TextLemmas.{first_line}
 use Rattle.of_import.specs.Counters.{begins_flow, counter_notes, later_notes, next_note, note_in, noted_line, notes_after, notes_in, tables, with_counters, with_notes}
@@ -51,21 +51,21 @@ later_pass (n ∷ ns) h = h.1
 abbrev kept_first : List ℕ → List (List ℕ) → List (List ℕ)
 kept_first line others = cond (counts line) (line ∷ others) others
 
-line_kept : (line rest : List ℕ) → NoEnd line → kept (lines_of (line ++ 10 ∷ rest)) ≡ kept_first line (kept (lines_of rest))
-line_kept line rest h = ap kept (line_first line rest h)
+line_kept : (line rest : List ℕ) → NoEnd line → lines_kept (lines_of (line ++ 10 ∷ rest)) ≡ kept_first line (lines_kept (lines_of rest))
+line_kept line rest h = ap lines_kept (line_first line rest h)
 
-ended_kept : (line rest : List ℕ) → NoEnd line → kept (lines_of (ended line ++ rest)) ≡ kept_first line (kept (lines_of rest))
-ended_kept line rest h = ap (λ (x : List ℕ). kept (lines_of x)) (append_assoc line (10 ∷ []) rest) ∙ line_kept line rest h
+ended_kept : (line rest : List ℕ) → NoEnd line → lines_kept (lines_of (ended line ++ rest)) ≡ kept_first line (lines_kept (lines_of rest))
+ended_kept line rest h = ap (λ (x : List ℕ). lines_kept (lines_of x)) (append_assoc line (10 ∷ []) rest) ∙ line_kept line rest h
 
-noted_kept : (line note rest : List ℕ) → NoEnd line → Passes note → kept (lines_of ((ended line ++ note) ++ rest)) ≡ kept_first line (kept (lines_of rest))
-noted_kept line note rest h p = ap (λ (x : List ℕ). kept (lines_of x)) (append_assoc (ended line) note rest) ∙ (ended_kept line (note ++ rest) h ∙ ap (kept_first line) (p rest))
+noted_kept : (line note rest : List ℕ) → NoEnd line → Passes note → lines_kept (lines_of ((ended line ++ note) ++ rest)) ≡ kept_first line (lines_kept (lines_of rest))
+noted_kept line note rest h p = ap (λ (x : List ℕ). lines_kept (lines_of x)) (append_assoc (ended line) note rest) ∙ (ended_kept line (note ++ rest) h ∙ ap (kept_first line) (p rest))
 
-with_notes_kept : (notes lines : List (List ℕ)) → AllByRecursion NoEnd lines → AllByRecursion Passes notes → kept (lines_of (with_notes notes lines)) ≡ kept lines
+with_notes_kept : (notes lines : List (List ℕ)) → AllByRecursion NoEnd lines → AllByRecursion Passes notes → lines_kept (lines_of (with_notes notes lines)) ≡ lines_kept lines
 unfolding with_notes lines_of
 with_notes_kept notes [] h p = refl
 with_notes_kept notes (line ∷ lines) h p = by_test (with_notes_kept (later_notes notes) lines h.1 (later_pass notes p)) (with_notes_kept notes lines h.1 p) (begins_flow line) refl
   where
-    by_test : kept (lines_of (with_notes (later_notes notes) lines)) ≡ kept lines → kept (lines_of (with_notes notes lines)) ≡ kept lines → (t : Bool) → begins_flow line ≡ t → kept (lines_of (noted_line notes line ++ with_notes (notes_after notes line) lines)) ≡ kept_first line (kept lines)
+    by_test : lines_kept (lines_of (with_notes (later_notes notes) lines)) ≡ lines_kept lines → lines_kept (lines_of (with_notes notes lines)) ≡ lines_kept lines → (t : Bool) → begins_flow line ≡ t → lines_kept (lines_of (noted_line notes line ++ with_notes (notes_after notes line) lines)) ≡ kept_first line (lines_kept lines)
     by_test later same true e = rw e (noted_kept line (next_note notes) (with_notes (later_notes notes) lines) h.0 (next_passes notes p) ∙ ap (kept_first line) later)
     by_test later same false e = rw e (ended_kept line (with_notes notes lines) h.0 ∙ ap (kept_first line) same)
 

@@ -17,36 +17,36 @@ use Rattle.of_oxm.proofs.Same.{same_fields, same_match}
 use Rattle.of_text.specs.Flows.{Flow}
 use Rattle.of_text.specs.Views.{view}
 use Rattle.of_import.specs.declared.parsed_lines.FlowLine.{FlowLine}
-use Rattle.of_import.specs.Digests.{digest_of, digests_of, HasDigests, PutsDigest}
+use Rattle.of_import.specs.Digests.{flow_digest, digests_of, HasDigests, PutsDigest}
 use Rattle.of_import.specs.Kept.{replaces}
 use Rattle.of_import.proofs.SoundLemmas.{and_parts}
 
 equal_fields : (xs ys : List MatchField) → is_same_match xs ys ≡ true → xs ≡ ys
 equal_fields xs ys h = (same_fields xs ys (pointwise the_match_field.eq-value.it xs ys) refl).0 (same_match xs ys (pointwise the_match_field.eq-value.it xs ys) refl ∙ h)
 
-digest_same : (a b : Flow) → b.head.table ≡ a.head.table → b.head.priority ≡ a.head.priority → b.fields ≡ a.fields → digest_of a ≡ digest_of b
-unfolding digest_of
+digest_same : (a b : Flow) → b.head.table ≡ a.head.table → b.head.priority ≡ a.head.priority → b.fields ≡ a.fields → flow_digest a ≡ flow_digest b
+unfolding flow_digest
 digest_same a b t p f = rw (t, p, f) refl
 
-same_digest : (a b : Flow) → replaces a b ≡ true → digest_of a ≡ digest_of b
+same_digest : (a b : Flow) → replaces a b ≡ true → flow_digest a ≡ flow_digest b
 same_digest a b h =
     let outer = and_parts (eqb b.head.table a.head.table) (eqb b.head.priority a.head.priority && is_same_match b.fields a.fields) h in
     let inner = and_parts (eqb b.head.priority a.head.priority) (is_same_match b.fields a.fields) outer.1 in
     digest_same a b (eqb-true b.head.table a.head.table outer.0) (eqb-true b.head.priority a.head.priority inner.0) (equal_fields b.fields a.fields inner.1)
 
-apart : (a b : Flow) (t : Bool) → replaces a b ≡ t → eqb (digest_of b) (digest_of a) ≡ false → replaces a b ≡ false
+apart : (a b : Flow) (t : Bool) → replaces a b ≡ t → eqb (flow_digest b) (flow_digest a) ≡ false → replaces a b ≡ false
 apart a b false r e = r
-apart a b true r e = let same : eqb (digest_of b) (digest_of a) ≡ true = eq-eqb (digest_of b) (digest_of a) (sym (same_digest a b r)) in absurd cc
+apart a b true r e = let same : eqb (flow_digest b) (flow_digest a) ≡ true = eq-eqb (flow_digest b) (flow_digest a) (sym (same_digest a b r)) in absurd cc
 
 or_parts : (a b : Bool) → (a || b) ≡ false → (a ≡ false) × (b ≡ false)
 or_parts true b h = absurd cc
 or_parts false b h = (refl, h)
 
 -- if no flow has its digest, none replaces it
-pub none_same : (fs : List FlowLine) (f : Flow) → list_any (eqb (digest_of f)) (digests_of fs) ≡ false → list_any (λ g. replaces (view g.flow) f) fs ≡ false
+pub none_same : (fs : List FlowLine) (f : Flow) → list_any (eqb (flow_digest f)) (digests_of fs) ≡ false → list_any (λ g. replaces (view g.flow) f) fs ≡ false
 none_same [] f h = refl
 none_same (g ∷ fs) f h =
-    let parts = or_parts (eqb (digest_of f) (digest_of (view g.flow))) (list_any (eqb (digest_of f)) (digests_of fs)) h in
+    let parts = or_parts (eqb (flow_digest f) (flow_digest (view g.flow))) (list_any (eqb (flow_digest f)) (digests_of fs)) h in
     rw (apart (view g.flow) f (replaces (view g.flow) f) refl parts.0, none_same fs f parts.1) refl
 
 -- ---- the set of digests
@@ -72,9 +72,9 @@ some_put : (t : Bool) (place : ℕ) (o : Option ℕ) → is_some (cond t (Some p
 some_put true place o = refl
 some_put false place o = refl
 
-pub digests_more : {S : Type 0} (later more : List FlowLine) (x : FlowLine) (old new : HashMap ℕ ℕ S) (d place : ℕ) → HasDigests (digests_of later) old → PutsDigest old new d place → d ≡ digest_of (view x.flow) → more ≡ later ++ x ∷ [] → HasDigests (digests_of more) new
+pub digests_more : {S : Type 0} (later more : List FlowLine) (x : FlowLine) (old new : HashMap ℕ ℕ S) (d place : ℕ) → HasDigests (digests_of later) old → PutsDigest old new d place → d ≡ flow_digest (view x.flow) → more ≡ later ++ x ∷ [] → HasDigests (digests_of more) new
 digests_more later more x old new d place h p e m q =
-    let all : digests_of later ++ d ∷ [] ≡ digests_of more = ap (λ (n : ℕ). digests_of later ++ n ∷ []) e ∙ sym (ap digests_of m ∙ map-append (λ (f : FlowLine). digest_of (view f.flow)) later (x ∷ [])) in
+    let all : digests_of later ++ d ∷ [] ≡ digests_of more = ap (λ (n : ℕ). digests_of later ++ n ∷ []) e ∙ sym (ap digests_of m ∙ map-append (λ (f : FlowLine). flow_digest (view f.flow)) later (x ∷ [])) in
     ap is_some (p q) ∙ (some_put (eqb d q) place (get eqb old q) ∙ (ap (λ (t : Bool). cond (eqb d q) true t) (h q) ∙ (put (digests_of later) d q ∙ ap (λ (ds : List ℕ). list_any (eqb q) ds) all)))
 
 pub no_digests : {S : Type 0} (places : HashMap ℕ ℕ S) (later : List FlowLine) → places.entries ≡ [] → later ≡ [] → HasDigests (digests_of later) places

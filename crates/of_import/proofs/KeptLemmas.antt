@@ -13,7 +13,7 @@ use Rattle.of_text.specs.Views.{view, view_group}
 use Rattle.of_import.specs.declared.parsed_lines.FlowLine.{FlowLine}
 use Rattle.of_import.specs.declared.parsed_lines.GroupLine.{GroupLine}
 use Rattle.of_import.specs.declared.kept.LineRefusal.{LineRefusal}
-use Rattle.of_import.specs.Kept.{KeptGroups, accepted, after_refusal, groups_in, id_at, kept_groups, line_at, refused, replaces, with_older, without, youngest}
+use Rattle.of_import.specs.Kept.{KeptGroups, accepted, after_refusal, groups_in, id_at, kept_groups, group_line_at, refused_flows, replaces, with_older, without_group, youngest}
 use Rattle.of_import.specs.KeptViews.{view_refusal}
 use Rattle.of_import.specs.ParsedLines.{FlowAt}
 use Rattle.of_import.specs.ParsedLinesViews.{AreSoundGroups, FlowIsSound, GroupFits, id_of, view_flow_line, view_group_line}
@@ -49,7 +49,7 @@ found_both p (x ∷ xs) ys = by_value (found_both p xs ys) (p x) refl
     by_value others None e = rw e others
     by_value others (Some y) e = rw e (ap (λ zs. y ∷ zs) others)
 
-pub refused_both : (gs : List TextGroup) (xs ys : List FlowAt) → refused gs (xs ++ ys) ≡ refused gs xs ++ refused gs ys
+pub refused_both : (gs : List TextGroup) (xs ys : List FlowAt) → refused_flows gs (xs ++ ys) ≡ refused_flows gs xs ++ refused_flows gs ys
 refused_both gs xs ys = found_both _ xs ys
 
 pub counted_mapped : {X Y : Type 0} (v : X → Y) (q : Y → Bool) (xs : List X) → length (filter q (map v xs)) ≡ length (filter (λ x. q (v x)) xs)
@@ -62,7 +62,7 @@ counted_mapped v q (x ∷ xs) = by_test (counted_mapped v q xs) (q (v x)) refl
 
 -- ---- a group that is left out
 
-pub left_out : (id : ℕ) (gs : List GroupLine) → map view_group_line (filter (λ g. not (eqb (id_of g) id)) gs) ≡ without id (map view_group_line gs)
+pub left_out : (id : ℕ) (gs : List GroupLine) → map view_group_line (filter (λ g. not (eqb (id_of g) id)) gs) ≡ without_group id (map view_group_line gs)
 left_out id gs = filter_mapped view_group_line (λ h. not (eqb h.1.head.id id)) gs
 
 pub still_sound : (id : ℕ) (gs : List GroupLine) → AreSoundGroups gs → AreSoundGroups (filter (λ g. not (eqb (id_of g) id)) gs)
@@ -84,10 +84,10 @@ ids_are (g ∷ gs) = ap (λ (xs : List ℕ). g.group.head.id ∷ xs) (ids_are gs
 
 pub after_some : (o : Option (ℕ × Code)) (place line id : ℕ) (code : Code) (gs kept : List GroupLine) (rs all : List LineRefusal) → Some (place, code) ≡ o → line ≡ slice_index_or (map (λ g. g.line) gs) place 0 → id ≡ slice_index_or (map (λ g. g.group.head.id) gs) place 0 → kept ≡ filter (λ g. not (eqb (id_of g) id)) gs → all ≡ rs ++ record { line = line; code = code } ∷ [] → kept_from (map view_group_line kept) (map view_refusal all) ≡ after_refusal o (kept_from (map view_group_line gs) (map view_refusal rs))
 after_some o place line id code gs kept rs all e l i k a =
-    let l2 : line ≡ line_at place (map view_group_line gs) = l ∙ ap (λ (xs : List ℕ). slice_index_or xs place 0) (lines_are gs) in
+    let l2 : line ≡ group_line_at place (map view_group_line gs) = l ∙ ap (λ (xs : List ℕ). slice_index_or xs place 0) (lines_are gs) in
     let i2 : id ≡ id_at place (map view_group_line gs) = i ∙ ap (λ (xs : List ℕ). slice_index_or xs place 0) (ids_are gs) in
-    let groups : map view_group_line kept ≡ without (id_at place (map view_group_line gs)) (map view_group_line gs) = ap (map view_group_line) k ∙ (left_out id gs ∙ ap (λ (n : ℕ). without n (map view_group_line gs)) i2) in
-    let refused : map view_refusal all ≡ map view_refusal rs ++ (line_at place (map view_group_line gs), code) ∷ [] = ap (map view_refusal) a ∙ (map-append view_refusal rs (record { line = line; code = code } ∷ []) ∙ ap (λ (n : ℕ). map view_refusal rs ++ (n, code) ∷ []) l2) in
+    let groups : map view_group_line kept ≡ without_group (id_at place (map view_group_line gs)) (map view_group_line gs) = ap (map view_group_line) k ∙ (left_out id gs ∙ ap (λ (n : ℕ). without_group n (map view_group_line gs)) i2) in
+    let refused : map view_refusal all ≡ map view_refusal rs ++ (group_line_at place (map view_group_line gs), code) ∷ [] = ap (map view_refusal) a ∙ (map-append view_refusal rs (record { line = line; code = code } ∷ []) ∙ ap (λ (n : ℕ). map view_refusal rs ++ (n, code) ∷ []) l2) in
     made _ _ _ _ groups refused ∙ ap (λ (r : Option (ℕ × Code)). after_refusal r (kept_from (map view_group_line gs) (map view_refusal rs))) e
 
 -- no group is refused
@@ -112,7 +112,7 @@ next_left left x = ap (map view_flow_line) (reverse-append left (x ∷ []))
 
 pub record Sifting (gs : List TextGroup) (all : List FlowAt) (was : List (ℕ × Code)) (left kept : List FlowLine) (now : List (ℕ × Code)) : Type 0 where
   pub accepted : map view_flow_line kept ++ accepted gs (map view_flow_line (reverse left)) ≡ accepted gs all
-  pub refused : now ++ refused gs (map view_flow_line (reverse left)) ≡ was ++ refused gs all
+  pub refused : now ++ refused_flows gs (map view_flow_line (reverse left)) ≡ was ++ refused_flows gs all
   pub to_come : AllByRecursion FlowIsSound left
   pub sound : AllByRecursion FlowIsSound kept
 
@@ -126,13 +126,13 @@ sifting_start gs flows left kept was l k h =
       sound = rw k tt;
     }
 
-pub sifting_more : (gs : List TextGroup) (all : List FlowAt) (was : List (ℕ × Code)) (old left kept more : List FlowLine) (now next : List (ℕ × Code)) (x : FlowLine) → Sifting gs all was old kept now → old ≡ left ++ x ∷ [] → map view_flow_line more ≡ map view_flow_line kept ++ accepted gs (view_flow_line x ∷ []) → next ≡ now ++ refused gs (view_flow_line x ∷ []) → AllByRecursion FlowIsSound more → Sifting gs all was left more next
+pub sifting_more : (gs : List TextGroup) (all : List FlowAt) (was : List (ℕ × Code)) (old left kept more : List FlowLine) (now next : List (ℕ × Code)) (x : FlowLine) → Sifting gs all was old kept now → old ≡ left ++ x ∷ [] → map view_flow_line more ≡ map view_flow_line kept ++ accepted gs (view_flow_line x ∷ []) → next ≡ now ++ refused_flows gs (view_flow_line x ∷ []) → AllByRecursion FlowIsSound more → Sifting gs all was left more next
 sifting_more gs all was old left kept more now next x s e a r m =
     let come : map view_flow_line (reverse old) ≡ (view_flow_line x ∷ []) ++ map view_flow_line (reverse left) = ap (λ (fs : List FlowLine). map view_flow_line (reverse fs)) e ∙ next_left left x in
     let there : AllByRecursion FlowIsSound (left ++ x ∷ []) = subst (AllByRecursion FlowIsSound) e s.to_come in
     record {
       accepted = rw a (append_assoc (map view_flow_line kept) (accepted gs (view_flow_line x ∷ [])) (accepted gs (map view_flow_line (reverse left))) ∙ (ap (λ (fs : List FlowAt). map view_flow_line kept ++ fs) (sym (ap (accepted gs) come ∙ accepted_both gs (view_flow_line x ∷ []) (map view_flow_line (reverse left)))) ∙ s.accepted));
-      refused = rw r (append_assoc now (refused gs (view_flow_line x ∷ [])) (refused gs (map view_flow_line (reverse left))) ∙ (ap (λ (cs : List (ℕ × Code)). now ++ cs) (sym (ap (refused gs) come ∙ refused_both gs (view_flow_line x ∷ []) (map view_flow_line (reverse left)))) ∙ s.refused));
+      refused = rw r (append_assoc now (refused_flows gs (view_flow_line x ∷ [])) (refused_flows gs (map view_flow_line (reverse left))) ∙ (ap (λ (cs : List (ℕ × Code)). now ++ cs) (sym (ap (refused_flows gs) come ∙ refused_both gs (view_flow_line x ∷ []) (map view_flow_line (reverse left)))) ∙ s.refused));
       to_come = all_front FlowIsSound left (x ∷ []) there;
       sound = m;
     }
@@ -140,10 +140,10 @@ sifting_more gs all was old left kept more now next x s e a r m =
 pub sifting_next : (old left : List FlowLine) (x : FlowLine) → AllByRecursion FlowIsSound old → old ≡ left ++ x ∷ [] → FlowIsSound x
 sifting_next old left x h e = (all_back FlowIsSound left (x ∷ []) (subst (AllByRecursion FlowIsSound) e h)).0
 
-pub sifting_done : (gs : List TextGroup) (all : List FlowAt) (was : List (ℕ × Code)) (left kept : List FlowLine) (now : List (ℕ × Code)) → Sifting gs all was left kept now → left ≡ [] → (map view_flow_line kept ≡ accepted gs all) × (now ≡ was ++ refused gs all)
+pub sifting_done : (gs : List TextGroup) (all : List FlowAt) (was : List (ℕ × Code)) (left kept : List FlowLine) (now : List (ℕ × Code)) → Sifting gs all was left kept now → left ≡ [] → (map view_flow_line kept ≡ accepted gs all) × (now ≡ was ++ refused_flows gs all)
 sifting_done gs all was left kept now s e = (
   sym (append-nil (map view_flow_line kept)) ∙ (ap (λ (fs : List FlowLine). map view_flow_line kept ++ accepted gs (map view_flow_line (reverse fs))) (sym e) ∙ s.accepted),
-  sym (append-nil now) ∙ (ap (λ (fs : List FlowLine). now ++ refused gs (map view_flow_line (reverse fs))) (sym e) ∙ s.refused),
+  sym (append-nil now) ∙ (ap (λ (fs : List FlowLine). now ++ refused_flows gs (map view_flow_line (reverse fs))) (sym e) ∙ s.refused),
 )
 
 -- ---- flows, from the last one back

@@ -6,23 +6,23 @@ use Rattle.std.proofs.lemmas.Bool.Decides.{nat_tests}
 use Rattle.std.proofs.lemmas.List.{append-nil, map_more}
 use Rattle.std.proofs.lemmas.List.Concat.{flat_map-append}
 use Rattle.of_text.specs.Lines.{lines_of}
-use Rattle.of_text.specs.Texts.{kept}
+use Rattle.of_text.specs.Texts.{lines_kept}
 use Rattle.of_text.specs.Configs.{Configuration, EncodeConfig}
 use Rattle.of_lines.specs.Lines.{prepended}
 use Rattle.of_import.specs.Kept.{Kept}
-use Rattle.of_import.specs.Notes.{action_words, comment, fault_words, mark_notes, notes_of, part_words, refusal_words, resubmit_note, resubmit_words, shown, table_words}
+use Rattle.of_import.specs.Notes.{left_out_action_words, comment, fault_words, mark_notes, notes_of, part_words, refusal_words, resubmit_note, resubmit_words, shown, renumbered_table_words}
 use Rattle.of_import.specs.ParsedLines.{FlowAt}
 use Rattle.of_import.specs.PartialFlows.{Refusal}
 
 -- whatever follows these bytes, it has the same lines that count
 abbrev pub Passes : List ℕ → Type 0
-Passes notes = (text : List ℕ) → kept (lines_of (notes ++ text)) ≡ kept (lines_of text)
+Passes notes = (text : List ℕ) → lines_kept (lines_of (notes ++ text)) ≡ lines_kept (lines_of text)
 
 pub none_pass : Passes []
 none_pass text = refl
 
 both_pass : (a b : List ℕ) → Passes a → Passes b → Passes (a ++ b)
-both_pass a b p q text = ap (λ (x : List ℕ). kept (lines_of x)) (append_assoc a b text) ∙ (p (b ++ text) ∙ q text)
+both_pass a b p q text = ap (λ (x : List ℕ). lines_kept (lines_of x)) (append_assoc a b text) ∙ (p (b ++ text) ∙ q text)
 
 each_pass : {A : Type 0} (f : A → List ℕ) → ((x : A) → Passes (f x)) → (xs : List A) → Passes (flat_map f xs)
 each_pass f p [] = none_pass
@@ -45,8 +45,8 @@ line_of_words (b ∷ bs) rest = rw (no_end b) (ap (prepended (shown b)) (line_of
 comment_passes : (words : List ℕ) → Passes (comment words)
 unfolding lines_of
 comment_passes words text =
-    ap (λ (x : List ℕ). kept (lines_of (35 ∷ 32 ∷ x))) (append_assoc (map shown words) (10 ∷ []) text)
-    ∙ ap (λ (ls : List (List ℕ)). kept (prepended 35 (prepended 32 ls))) (line_of_words words text)
+    ap (λ (x : List ℕ). lines_kept (lines_of (35 ∷ 32 ∷ x))) (append_assoc (map shown words) (10 ∷ []) text)
+    ∙ ap (λ (ls : List (List ℕ)). lines_kept (prepended 35 (prepended 32 ls))) (line_of_words words text)
 
 pub unless_passes : (t : Bool) (words : List ℕ) → Passes (if t then [] else comment words)
 unless_passes true words = none_pass
@@ -59,8 +59,8 @@ if_passes false words = none_pass
 -- ---- the comments
 
 marks_pass : (f : FlowAt) → Passes (mark_notes f)
-marks_pass f = both_pass (flat_map (λ word. comment (action_words f.line word)) f.marks.left) (resubmit_note f)
-    (each_pass (λ word. comment (action_words f.line word)) (λ word. comment_passes (action_words f.line word)) f.marks.left)
+marks_pass f = both_pass (flat_map (λ word. comment (left_out_action_words f.line word)) f.marks.left) (resubmit_note f)
+    (each_pass (λ word. comment (left_out_action_words f.line word)) (λ word. comment_passes (left_out_action_words f.line word)) f.marks.left)
     (if_passes f.marks.resubmits (resubmit_words f.line))
 
 notes_pass : (moves : List (ℕ × ℕ)) (faults : List (ℕ × List Refusal)) (k : Kept) → Passes (notes_of moves faults k)
@@ -68,7 +68,7 @@ unfolding notes_of
 notes_pass moves faults k =
     both_pass _ _ (both_pass _ _ (both_pass _ _ (both_pass _ _
     (unless_passes _ (part_words (length faults + length k.refused)))
-    (each_pass (λ m. comment (table_words m)) (λ m. comment_passes (table_words m)) moves))
+    (each_pass (λ m. comment (renumbered_table_words m)) (λ m. comment_passes (renumbered_table_words m)) moves))
     (each_pass (λ f. comment (fault_words f)) (λ f. comment_passes (fault_words f)) faults))
     (each_pass (λ r. comment (refusal_words r)) (λ r. comment_passes (refusal_words r)) k.refused))
     (each_pass mark_notes marks_pass k.flows)

@@ -11,7 +11,7 @@ use Rattle.of_lines.specs.declared.row.Row.{Row}
 use Rattle.of_lines.specs.declared.row.Row.TheVariants as rows
 use Rattle.of_text.specs.Flows.{Flow, text_rows}
 use Rattle.of_text.specs.Groups.{TextBucket, TextGroup, bucket_rows, group_rows, rows_of_groups}
-use Rattle.of_text.specs.Order.{start, following, standing}
+use Rattle.of_text.specs.Order.{start_place, following, following_all}
 use Rattle.of_text.specs.Rows.{Fits}
 use Rattle.of_text.specs.Texts.{AreRows}
 use Rattle.of_text.specs.Views.{view, view_group, view_groups, view_flows}
@@ -20,7 +20,7 @@ use Rattle.of_text.proofs.ConfigLemmas.{IsWhole, rows_from}
 use Rattle.of_import.specs.declared.parsed_lines.FlowLine.{FlowLine}
 use Rattle.of_import.specs.declared.parsed_lines.GroupLine.{GroupLine}
 use Rattle.of_import.specs.ParsedLinesViews.{id_of, view_group_line, view_flow_line, AreSoundGroups, FlowIsSound}
-use Rattle.of_import.specs.Sound.{IsSound}
+use Rattle.of_import.specs.Sound.{IsSoundFlow}
 use Rattle.of_import.proofs.SoundLemmas.{and_parts}
 
 -- a place in the group of that number
@@ -33,13 +33,13 @@ IsIn id (InFlow least) = ⊥
 -- lines that lead to a place in it
 record Leads (id : ℕ) (from : Place) (lines : List Row) : Type 0 where
   pub to : Place
-  pub is : standing from lines ≡ Some to
+  pub is : following_all from lines ≡ Some to
   pub within : IsIn id to
 
 leads_both : (id : ℕ) (from : Place) (front back : List Row) → (a : Leads id from front) → Leads id a.to back → Leads id from (front ++ back)
 leads_both id from front back a b = record { to = b.to; is = standing_both from front back ∙ rw a.is b.is; within = b.within }
 
-actions_lead : (id : ℕ) (xs : List Action) → standing (InBucket id) (map rows.Do xs) ≡ Some (InBucket id)
+actions_lead : (id : ℕ) (xs : List Action) → following_all (InBucket id) (map rows.Do xs) ≡ Some (InBucket id)
 unfolding following
 actions_lead id [] = refl
 actions_lead id (x ∷ xs) = actions_lead id xs
@@ -57,7 +57,7 @@ buckets_lead id p h (b ∷ bs) =
     let a = bucket_leads id p h b in
     leads_both id p (bucket_rows b) (flat_map bucket_rows bs) a (buckets_lead id a.to a.within bs)
 
-begins_in : (id : ℕ) (p : Place) → IsIn id p → (g : TextGroup) → nat_lt id g.head.id ≡ true → standing p (group_rows g) ≡ standing (InGroup g.head.id) (flat_map bucket_rows g.buckets)
+begins_in : (id : ℕ) (p : Place) → IsIn id p → (g : TextGroup) → nat_lt id g.head.id ≡ true → following_all p (group_rows g) ≡ following_all (InGroup g.head.id) (flat_map bucket_rows g.buckets)
 unfolding following
 begins_in id Start h g k = absurd h
 begins_in id (InGroup n) h g k = rw (h, k) refl
@@ -65,7 +65,7 @@ begins_in id (InBucket n) h g k = rw (h, k) refl
 begins_in id (InFlow least) h g k = absurd h
 
 -- groups of higher numbers, from a place in a group
-groups_lead : (id : ℕ) (p : Place) → IsIn id p → (gs : List TextGroup) → list_all (λ g. nat_lt id g.head.id) gs ≡ true → is_ascending (λ g. g.head.id) gs ≡ true → (q : Place) × (standing p (rows_of_groups gs) ≡ Some q)
+groups_lead : (id : ℕ) (p : Place) → IsIn id p → (gs : List TextGroup) → list_all (λ g. nat_lt id g.head.id) gs ≡ true → is_ascending (λ g. g.head.id) gs ≡ true → (q : Place) × (following_all p (rows_of_groups gs) ≡ Some q)
 groups_lead id p h [] k r = (p, refl)
 groups_lead id p h (g ∷ gs) k r =
     let higher = and_parts (nat_lt id g.head.id) (list_all (λ g. nat_lt id g.head.id) gs) k in
@@ -74,14 +74,14 @@ groups_lead id p h (g ∷ gs) k r =
     let others = groups_lead g.head.id inner.to inner.within gs rising.0 rising.1 in
     (others.0, standing_both p (group_rows g) (rows_of_groups gs) ∙ rw (begins_in id p h g higher.0 ∙ inner.is) others.1)
 
-groups_stand : (gs : List TextGroup) → is_ascending (λ g. g.head.id) gs ≡ true → (q : Place) × (standing start (rows_of_groups gs) ≡ Some q)
+groups_stand : (gs : List TextGroup) → is_ascending (λ g. g.head.id) gs ≡ true → (q : Place) × (following_all start_place (rows_of_groups gs) ≡ Some q)
 unfolding following
-groups_stand [] r = (start, refl)
+groups_stand [] r = (start_place, refl)
 groups_stand (g ∷ gs) r =
     let rising = and_parts (list_all (λ y. nat_lt g.head.id y.head.id) gs) (is_ascending (λ g. g.head.id) gs) r in
     let inner = buckets_lead g.head.id (InGroup g.head.id) refl g.buckets in
     let others = groups_lead g.head.id inner.to inner.within gs rising.0 rising.1 in
-    (others.0, standing_both start (group_rows g) (rows_of_groups gs) ∙ rw inner.is others.1)
+    (others.0, standing_both start_place (group_rows g) (rows_of_groups gs) ∙ rw inner.is others.1)
 
 -- ---- as they were read
 
@@ -99,7 +99,7 @@ viewed_rise (g ∷ gs) h =
     let parts = and_parts (list_all (λ y. nat_lt (id_of g) (id_of y)) gs) (is_ascending id_of gs) h in
     rw (viewed_all (id_of g) gs parts.0, viewed_rise gs parts.1) refl
 
-viewed_whole : (fs : List FlowLine) → AllByRecursion (λ f. IsSound (view f.flow)) fs → AllByRecursion IsWhole (view_flows (map (λ f. f.flow) fs))
+viewed_whole : (fs : List FlowLine) → AllByRecursion (λ f. IsSoundFlow (view f.flow)) fs → AllByRecursion IsWhole (view_flows (map (λ f. f.flow) fs))
 viewed_whole [] h = tt
 viewed_whole (f ∷ fs) h = (record { fits = h.0.fits; order = h.0.order }, viewed_whole fs h.1)
 
@@ -110,7 +110,7 @@ parsed_rows ls ms gs fs s h g f =
     rw (g, f) (rows_from (view_groups (map (λ g. g.group) ls)) (view_flows (map (λ f. f.flow) ms)) (record { fits = viewed_fit ls s.each; place = place.0; order = place.1; whole = viewed_whole ms h }))
 
 -- the lines of groups and a flow
-pub parsed_row : (ls : List GroupLine) (gs : List TextGroup) (fs : List Flow) (f : Flow) → AreSoundGroups ls → IsSound f → gs ≡ view_groups (map (λ g. g.group) ls) → fs ≡ f ∷ [] → AreRows (text_rows gs fs)
+pub parsed_row : (ls : List GroupLine) (gs : List TextGroup) (fs : List Flow) (f : Flow) → AreSoundGroups ls → IsSoundFlow f → gs ≡ view_groups (map (λ g. g.group) ls) → fs ≡ f ∷ [] → AreRows (text_rows gs fs)
 parsed_row ls gs fs f s h g k =
     let place = groups_stand (view_groups (map (λ g. g.group) ls)) (viewed_rise ls s.rising) in
     rw (g, k) (rows_from (view_groups (map (λ g. g.group) ls)) (f ∷ []) (record { fits = viewed_fit ls s.each; place = place.0; order = place.1; whole = (record { fits = h.fits; order = h.order }, tt) }))

@@ -20,14 +20,14 @@ use Rattle.of_text.specs.Flows.{Step, Apply, Clear, Write, step_rows}
 use Rattle.of_text.specs.Rows.{Fits, ActionFits, ArgumentFits, HeadFits, IsMask}
 use Rattle.of_text.specs.Order.{flow_next, flow_standing}
 use Rattle.of_ovs_words.specs.Settings.{last_of}
-use Rattle.of_ovs_words.specs.Matches.{fields_of}
+use Rattle.of_ovs_words.specs.Matches.{fields_of_settings}
 use Rattle.of_import.specs.PartialFlows.{PartialFlow, Refusal}
-use Rattle.of_import.specs.Finished.{when, metadata_step, goto_step, steps_of, field_fits, action_fits, argument_fits, numbers_fit, flow_of, refusal_of}
+use Rattle.of_import.specs.Finished.{when, metadata_step, goto_step, steps_of, field_fits, action_fits, argument_fits, numbers_fit, finished_flow, refusal_of}
 use Rattle.of_ovs_words.specs.declared.why.Why.TheVariants as whys
 use Rattle.of_import.specs.PartialGroups.{bucket_fits}
 use Rattle.of_text.specs.Groups.{TextBucket, bucket_rows}
 use Rattle.std.proofs.lemmas.List.{append-nil}
-use Rattle.of_import.specs.Sound.{IsSound}
+use Rattle.of_import.specs.Sound.{IsSoundFlow}
 
 pub mapped_tests : {X Y : Type 0} (p : Y → Bool) (g : X → Y) (xs : List X) → list_all p (map g xs) ≡ list_all (λ x. p (g x)) xs
 mapped_tests p g xs = list_all-map p g xs
@@ -251,15 +251,15 @@ steps_fit s t a w =
 is_some : (o : Option ℕ) (n : ℕ) → o ≡ Some n → IsSome o
 is_some o n e = rw e refl
 
-pub partial_flow_sound : (s : PartialFlow) → IsTyped s → numbers_fit s ≡ true → IsSound (record { head = s.head; fields = fields_of s.settings; steps = steps_of s })
+pub partial_flow_sound : (s : PartialFlow) → IsTyped s → numbers_fit s ≡ true → IsSoundFlow (record { head = s.head; fields = fields_of_settings s.settings; steps = steps_of s })
 partial_flow_sound s t n =
-    let both = and_parts (list_all field_fits (fields_of s.settings) && list_all action_fits s.apply) (list_all action_fits s.write) n in
-    let first = and_parts (list_all field_fits (fields_of s.settings)) (list_all action_fits s.apply) both.0 in
+    let both = and_parts (list_all field_fits (fields_of_settings s.settings) && list_all action_fits s.apply) (list_all action_fits s.write) n in
+    let first = and_parts (list_all field_fits (fields_of_settings s.settings)) (list_all action_fits s.apply) both.0 in
     let front = fields_stand s.settings 0 constants.ALL (flat_map step_rows (steps_of s)) (omega arith) all_rise in
     let low : front.next ≤ 31 = front.small in
     let back = steps_past s front.next [] (omega (arith, low)) in
     record {
-      fits = (t.head, all_both Fits (map rows.Match (fields_of s.settings)) (flat_map step_rows (steps_of s)) (fields_sound (fields_of s.settings) first.0) (steps_fit s t first.1 both.1));
+      fits = (t.head, all_both Fits (map rows.Match (fields_of_settings s.settings)) (flat_map step_rows (steps_of s)) (fields_sound (fields_of_settings s.settings) first.0) (steps_fit s t first.1 both.1));
       order = is_some _ back.next (front.is ∙ (ap (flow_standing front.next) (sym (append-nil (flat_map step_rows (steps_of s)))) ∙ back.is));
     }
 
@@ -274,20 +274,20 @@ abbrev value_missing : PartialFlow → Refusal
 value_missing s = record { word = codes "actions"; why = whys.Missing }
 
 -- the flow of words of which none is refused
-pub flow_sound : (s : PartialFlow) → IsTyped s → refusal_of s ≡ None → IsSound (flow_of s)
+pub flow_sound : (s : PartialFlow) → IsTyped s → refusal_of s ≡ None → IsSoundFlow (finished_flow s)
 unfolding refusal_of
 flow_sound s t e = by_actions s.in_actions refl
   where
-    by_numbers : (b : Bool) → numbers_fit s ≡ b → s.in_actions ≡ true → IsSound (flow_of s)
+    by_numbers : (b : Bool) → numbers_fit s ≡ b → s.in_actions ≡ true → IsSoundFlow (finished_flow s)
     by_numbers true n a = partial_flow_sound s t n
     by_numbers false n a = absurd (some_or_none (value_refused s) (refusal_of s) (rw (a, n) refl) e)
 
-    by_actions : (b : Bool) → s.in_actions ≡ b → IsSound (flow_of s)
+    by_actions : (b : Bool) → s.in_actions ≡ b → IsSoundFlow (finished_flow s)
     by_actions true a = by_numbers (numbers_fit s) refl a
     by_actions false a = absurd (some_or_none (value_missing s) (refusal_of s) (rw a refl) e)
 
 -- as it is made
-pub flow_made : (s : PartialFlow) (fields : List MatchField) (steps : List Step) → fields ≡ fields_of s.settings → steps ≡ steps_of s → IsSound (flow_of s) → IsSound (record { head = s.head; fields = fields; steps = steps })
+pub flow_made : (s : PartialFlow) (fields : List MatchField) (steps : List Step) → fields ≡ fields_of_settings s.settings → steps ≡ steps_of s → IsSoundFlow (finished_flow s) → IsSoundFlow (record { head = s.head; fields = fields; steps = steps })
 flow_made s fields steps f t h = rw (f, t) h
 
 -- ---- groups

@@ -8,14 +8,14 @@ use Rattle.of_text.specs.Flows.{Flow}
 use Rattle.of_text.specs.Views.{view}
 use Rattle.of_import.specs.declared.parsed_lines.FlowLine.{FlowLine}
 
-unfoldable pub mixed : ℕ → MatchField → ℕ
-mixed sum e = (((((sum * 1000003) % 2 ^ 128 + e.value) % 2 ^ 128) * 1000003) % 2 ^ 128 + unwrap_or e.mask 0) % 2 ^ 128
+unfoldable pub field_mixed : ℕ → MatchField → ℕ
+field_mixed sum e = (((((sum * 1000003) % 2 ^ 128 + e.value) % 2 ^ 128) * 1000003) % 2 ^ 128 + unwrap_or e.mask 0) % 2 ^ 128
 
-unfoldable pub digest_of : Flow → ℕ
-digest_of f = fold mixed (((f.head.table * 65536) % 2 ^ 128 + f.head.priority) % 2 ^ 128) f.fields
+unfoldable pub flow_digest : Flow → ℕ
+flow_digest f = fold field_mixed (((f.head.table * 65536) % 2 ^ 128 + f.head.priority) % 2 ^ 128) f.fields
 
 abbrev pub digests_of : List FlowLine → List ℕ
-digests_of fs = map (λ f. digest_of (view f.flow)) fs
+digests_of fs = map (λ f. flow_digest (view f.flow)) fs
 
 -- the map has these digests
 abbrev pub HasDigests : {S : Type 0} → List ℕ → HashMap ℕ ℕ S → Type 0

@@ -15,7 +15,7 @@ use Rattle.of_actions.specs.Rows.{said}
 use Rattle.of_text.specs.Flows.{Flow, Step, Apply, Clear, Write, Metadata, Goto}
 use Rattle.of_ovs_words.specs.declared.why.Why.{Why}
 use Rattle.of_ovs_words.specs.declared.why.Why.TheVariants as whys
-use Rattle.of_ovs_words.specs.Matches.{fields_of}
+use Rattle.of_ovs_words.specs.Matches.{fields_of_settings}
 use Rattle.of_ovs_words.specs.FieldWords.{text_for}
 use Rattle.of_import.specs.PartialFlows.{PartialFlow, Refusal}
 
@@ -51,7 +51,7 @@ abbrev pub action_fits : Action → Bool
 action_fits a = argument_fits (said a).1
 
 abbrev pub numbers_fit : PartialFlow → Bool
-numbers_fit s = list_all field_fits (fields_of s.settings) && list_all action_fits s.apply && list_all action_fits s.write
+numbers_fit s = list_all field_fits (fields_of_settings s.settings) && list_all action_fits s.apply && list_all action_fits s.write
 
 -- ---- prerequisites (OpenFlow 1.3.5, 7.2.3.8)
 
@@ -67,8 +67,8 @@ why_missing needs.Icmpv4 = whys.NeedsIcmp
 why_missing needs.Icmpv6 = whys.NeedsIcmp6
 why_missing needs.Nothing = whys.Unknown
 
-abbrev pub refused_for : Field → Refusal
-refused_for f = record { word = text_for f; why = why_missing (prerequisite_of f) }
+abbrev pub refused_field : Field → Refusal
+refused_field f = record { word = text_for f; why = why_missing (prerequisite_of f) }
 
 -- the first field whose prerequisite is not in the match
 abbrev pub first_unmet : List MatchField → Option MatchField
@@ -79,17 +79,17 @@ unfoldable pub refusal_of : PartialFlow → Option Refusal
 refusal_of s =
     if not s.in_actions then Some (record { word = codes "actions"; why = whys.Missing })
     else if not (numbers_fit s) then Some (record { word = codes "actions"; why = whys.Value })
-    else option_map (λ e. refused_for e.field) (first_unmet (fields_of s.settings))
+    else option_map (λ e. refused_field e.field) (first_unmet (fields_of_settings s.settings))
 
 -- THE FLOW of its words
-abbrev pub flow_of : PartialFlow → Flow
-flow_of s = record { head = s.head; fields = fields_of s.settings; steps = steps_of s }
+abbrev pub finished_flow : PartialFlow → Flow
+finished_flow s = record { head = s.head; fields = fields_of_settings s.settings; steps = steps_of s }
 
 -- ---- tables
 
 -- the new number of a table, where the list has one
-abbrev pub renumbered : List ℕ → ℕ → ℕ
-renumbered numbers n = slice_index_or numbers n n
+abbrev pub new_table_number : List ℕ → ℕ → ℕ
+new_table_number numbers n = slice_index_or numbers n n
 
 abbrev pub in_numbers : List ℕ → PartialFlow → PartialFlow
-in_numbers numbers s = record s { head = record s.head { table = renumbered numbers s.head.table }; goto = option_map (renumbered numbers) s.goto }
+in_numbers numbers s = record s { head = record s.head { table = new_table_number numbers s.head.table }; goto = option_map (new_table_number numbers) s.goto }

@@ -1,6 +1,6 @@
 -- THE TEXT OF A TABLE OF OPEN VSWITCH: the configuration that its lines say, without those that are left out, after comments about these.
 use Rattle.std.specs.Prelude.{◌≡◌, ◌<◌, ◌≤◌, ◌+◌, ◌++◌, ℕ, false, List, [], filter, map, length, None, Some, if◌then◌else◌}
-use Rattle.of_text.specs.Configs.{Configuration, EncodeConfig, tables_of, config_text}
+use Rattle.of_text.specs.Configs.{Configuration, EncodeConfig, tables_of_flows, config_text}
 use Rattle.of_text.specs.Groups.{TextGroup}
 use Rattle.of_text.specs.Lines.{lines_of}
 use Rattle.of_text.specs.First.{first_refusal}
@@ -11,16 +11,16 @@ use Rattle.of_import.specs.declared.import.ImportError.{ImportError}
 use Rattle.of_import.specs.declared.import.ImportError.TheVariants.{NoMemory, Faults, Refused, TooMany}
 use Rattle.of_import.specs.ParsedLinesViews.{view_faults}
 use Rattle.of_import.specs.ParsedLines.{FlowAt, ParsedLines, parsed_lines_of}
-use Rattle.of_import.specs.Kept.{Kept, flows_in, groups_in, kept_of, line_of}
+use Rattle.of_import.specs.Kept.{Kept, flows_in, groups_in, kept_of_lines, line_of_item}
 use Rattle.of_import.specs.KeptViews.{view_kept, view_refusal}
-use Rattle.of_import.specs.TableNumbers.{TableNumbers, numbers_of, same_numbers}
+use Rattle.of_import.specs.TableNumbers.{TableNumbers, table_numbers_of, same_numbers}
 use Rattle.of_import.specs.Counters.{with_counters}
 use Rattle.of_import.specs.Notes.{is_changed, notes_of}
 
 -- the configuration has these groups and flows, each flow in its table after those before it, and none is refused
 pub record IsConfigOf (gs : List (ℕ × TextGroup)) (fs : List FlowAt) (c : Configuration) : Type 0 where
   pub groups : c.groups ≡ groups_in gs
-  pub tables : c.tables ≡ tables_of (flows_in fs)
+  pub tables : c.tables ≡ tables_of_flows (flows_in fs)
   pub stand : first_refusal (groups_in gs) (flows_in fs) ≡ None
 
 -- the text of a configuration, with the counters of its flows, after comments: it is read back as that
@@ -34,13 +34,13 @@ pub record IsTextOf (k : Kept) (notes text : List ℕ) : Type 0 where
 
 -- the new numbers of tables
 abbrev pub numbers_for : Mode → List (List ℕ) → TableNumbers
-numbers_for mode lines = if mode.renumber then numbers_of (parsed_lines_of mode [] lines).flows else same_numbers
+numbers_for mode lines = if mode.renumber then table_numbers_of (parsed_lines_of mode [] lines).flows else same_numbers
 
 abbrev pub parsed : Mode → List (List ℕ) → ParsedLines
 parsed mode lines = parsed_lines_of mode (numbers_for mode lines).numbers lines
 
 abbrev pub kept_in : ParsedLines → Kept
-kept_in t = kept_of t.groups t.flows
+kept_in t = kept_of_lines t.groups t.flows
 
 abbrev pub notes_for : Mode → List (List ℕ) → List ℕ
 notes_for mode lines = notes_of (numbers_for mode lines).moves (parsed mode lines).faults (kept_in (parsed mode lines))
@@ -62,7 +62,7 @@ pub record IsImport (lines : List (List ℕ)) (mode : Mode) (text : List ℕ) (f
 abbrev pub RefusedOf : List (ℕ × TextGroup) → List FlowAt → ImportError → Type 0
 RefusedOf gs fs NoMemory = Unit {0}
 RefusedOf gs fs (Faults faults refused) = ⊥
-RefusedOf gs fs (Refused line code) = (place : ℕ) × (first_refusal (groups_in gs) (flows_in fs) ≡ Some (place, code)) × (line ≡ line_of place gs fs)
+RefusedOf gs fs (Refused line code) = (place : ℕ) × (first_refusal (groups_in gs) (flows_in fs) ≡ Some (place, code)) × (line ≡ line_of_item place gs fs)
 RefusedOf gs fs (TooMany count) = ⊥
 
 -- some lines are refused, and these are all

@@ -6,7 +6,7 @@ use Rattle.of_wire.specs.declared.code.Code.{Code}
 use Rattle.of_text.specs.Flows.{Flow as TextFlow}
 use Rattle.of_text.specs.Groups.{TextGroup}
 use Rattle.of_text.specs.First.{first_refusal}
-use Rattle.of_text.specs.Refusals.{is_same}
+use Rattle.of_text.specs.Refusals.{has_same_match}
 use Rattle.of_import.specs.ParsedLines.{FlowAt}
 
 abbrev pub groups_in : List (ℕ × TextGroup) → List TextGroup
@@ -22,19 +22,19 @@ pub record KeptGroups : Type 0 where
   -- the lines that are left out, and their first refusals
   pub refused : List (ℕ × Code)
 
-abbrev pub line_at : ℕ → List (ℕ × TextGroup) → ℕ
-line_at place gs = slice_index_or (map (λ g. g.0) gs) place 0
+abbrev pub group_line_at : ℕ → List (ℕ × TextGroup) → ℕ
+group_line_at place gs = slice_index_or (map (λ g. g.0) gs) place 0
 
 abbrev pub id_at : ℕ → List (ℕ × TextGroup) → ℕ
 id_at place gs = slice_index_or (map (λ g. g.1.head.id) gs) place 0
 
 -- without the group of that number
-abbrev pub without : ℕ → List (ℕ × TextGroup) → List (ℕ × TextGroup)
-without id gs = filter (λ g. not (g.1.head.id == id)) gs
+abbrev pub without_group : ℕ → List (ℕ × TextGroup) → List (ℕ × TextGroup)
+without_group id gs = filter (λ g. not (g.1.head.id == id)) gs
 
 abbrev pub after_refusal : Option (ℕ × Code) → KeptGroups → KeptGroups
 after_refusal None k = k
-after_refusal (Some r) k = record { groups = without (id_at r.0 k.groups) k.groups; refused = k.refused ++ (line_at r.0 k.groups, r.1) ∷ [] }
+after_refusal (Some r) k = record { groups = without_group (id_at r.0 k.groups) k.groups; refused = k.refused ++ (group_line_at r.0 k.groups, r.1) ∷ [] }
 
 -- of as many steps
 abbrev pub kept_groups : ℕ → KeptGroups → KeptGroups
@@ -50,12 +50,12 @@ refusal_alone groups f = option_map (λ r. r.1) (first_refusal groups (f ∷ [])
 abbrev pub accepted : List TextGroup → List FlowAt → List FlowAt
 accepted groups fs = filter (λ f. is_none (refusal_alone groups f.flow)) fs
 
-abbrev pub refused : List TextGroup → List FlowAt → List (ℕ × Code)
-refused groups fs = filter_map (λ f. option_map (λ code. (f.line, code)) (refusal_alone groups f.flow)) fs
+abbrev pub refused_flows : List TextGroup → List FlowAt → List (ℕ × Code)
+refused_flows groups fs = filter_map (λ f. option_map (λ code. (f.line, code)) (refusal_alone groups f.flow)) fs
 
 -- the flow has the table, the priority and the match of that one: as an ADD, it takes its place (OpenFlow 1.3.5, 6.4)
 abbrev pub replaces : TextFlow → TextFlow → Bool
-replaces f g = g.head.table == f.head.table && is_same f g
+replaces f g = g.head.table == f.head.table && has_same_match f g
 
 -- from the last flow back: one that a later one replaces is left out
 abbrev pub with_older : List FlowAt → FlowAt → List FlowAt
@@ -70,12 +70,12 @@ pub record Kept : Type 0 where
   pub refused : List (ℕ × Code)
 
 abbrev pub kept_beside : KeptGroups → List FlowAt → Kept
-kept_beside k fs = record { groups = k.groups; flows = youngest (accepted (groups_in k.groups) fs); refused = k.refused ++ refused (groups_in k.groups) fs }
+kept_beside k fs = record { groups = k.groups; flows = youngest (accepted (groups_in k.groups) fs); refused = k.refused ++ refused_flows (groups_in k.groups) fs }
 
 -- WHAT IS KEPT of the groups and flows that were read, and the lines that are left out since the switch refuses them
-unfoldable pub kept_of : List (ℕ × TextGroup) → List FlowAt → Kept
-kept_of gs fs = kept_beside (kept_groups (length gs) (record { groups = gs; refused = [] })) fs
+unfoldable pub kept_of_lines : List (ℕ × TextGroup) → List FlowAt → Kept
+kept_of_lines gs fs = kept_beside (kept_groups (length gs) (record { groups = gs; refused = [] })) fs
 
 -- the line of a group or flow, the flows after the groups
-abbrev pub line_of : ℕ → List (ℕ × TextGroup) → List FlowAt → ℕ
-line_of place gs fs = slice_index_or (map (λ g. g.0) gs ++ map (λ f. f.line) fs) place 0
+abbrev pub line_of_item : ℕ → List (ℕ × TextGroup) → List FlowAt → ℕ
+line_of_item place gs fs = slice_index_or (map (λ g. g.0) gs ++ map (λ f. f.line) fs) place 0

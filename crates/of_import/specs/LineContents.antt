@@ -5,11 +5,11 @@ use Rattle.of_text.specs.Flows.{Flow as TextFlow}
 use Rattle.of_text.specs.Groups.{TextGroup}
 use Rattle.of_text.specs.Lines.{before}
 use Rattle.of_ovs_words.specs.declared.why.Why.{Why}
-use Rattle.of_ovs_words.specs.Words.{after_word, is_gap, name_of, word_in, words_from}
+use Rattle.of_ovs_words.specs.Words.{after_word, is_gap, word_name, word_in, words_from}
 use Rattle.of_import.specs.declared.mode.Mode.{Mode}
-use Rattle.of_import.specs.PartialFlows.{PartialFlow, Refusal, blank, with_word}
-use Rattle.of_import.specs.Finished.{flow_of, in_numbers, refusal_of}
-use Rattle.of_import.specs.PartialGroups.{PartialGroup, is_other_command, no_group, with_group_word, group_of}
+use Rattle.of_import.specs.PartialFlows.{PartialFlow, Refusal, blank, with_flow_word}
+use Rattle.of_import.specs.Finished.{finished_flow, in_numbers, refusal_of}
+use Rattle.of_import.specs.PartialGroups.{PartialGroup, is_other_command, no_group, with_group_word, finished_group}
 
 -- what a flow text does not have: actions that are left out, whether GOTO_TABLE is the line's `resubmit`, and counters
 pub record Marks : Type 0 where
@@ -43,33 +43,33 @@ is_heading text = bytes_eq (before 95 text) (codes "OFPST") || bytes_eq (before 
 -- all words that are refused, or else why they are no flow
 abbrev pub flow_unless : Option Refusal → PartialFlow → LineContent
 flow_unless (Some refusal) s = Refused (refusal ∷ [])
-flow_unless None s = Flow (flow_of s) (record { left = s.left; resubmits = s.resubmits; counters = s.counters })
+flow_unless None s = Flow (finished_flow s) (record { left = s.left; resubmits = s.resubmits; counters = s.counters })
 
 unfoldable pub flow_content : PartialFlow → LineContent
 flow_content s = if length s.faults == 0 then flow_unless (refusal_of s) s else Refused s.faults
 
 abbrev pub parsed_flow : Mode → List ℕ → List ℕ → LineContent
-parsed_flow mode numbers text = flow_content (in_numbers numbers (with_words with_word (blank mode) (words_from 0 text)))
+parsed_flow mode numbers text = flow_content (in_numbers numbers (with_words with_flow_word (blank mode) (words_from 0 text)))
 
 abbrev pub group_or_why : Result TextGroup Why → LineContent
 group_or_why (Ok group) = Group group
 group_or_why (Err why) = Refused (record { word = codes "type"; why = why } ∷ [])
 
 unfoldable pub group_content : PartialGroup → LineContent
-group_content s = if length s.faults == 0 then group_or_why (group_of s) else Refused s.faults
+group_content s = if length s.faults == 0 then group_or_why (finished_group s) else Refused s.faults
 
 abbrev pub parsed_group : List ℕ → LineContent
 parsed_group text = group_content (with_words with_group_word no_group (words_from 0 text))
 
 -- a group, also behind a command: `group_id=..`, `add group_id=..`
-abbrev pub is_command : List ℕ → Bool
-is_command word = bytes_eq word (codes "add") || is_other_command word
+abbrev pub is_command_name : List ℕ → Bool
+is_command_name word = bytes_eq word (codes "add") || is_other_command word
 
-abbrev pub names_group : List ℕ → Bool
-names_group text = bytes_eq (name_of text) (codes "group_id")
+abbrev pub names_group_id : List ℕ → Bool
+names_group_id text = bytes_eq (word_name text) (codes "group_id")
 
 abbrev pub begins_group : List ℕ → Bool
-begins_group text = names_group text || (is_command (word_in 0 text) && names_group (trimmed (after_word 0 text)))
+begins_group text = names_group_id text || (is_command_name (word_in 0 text) && names_group_id (trimmed (after_word 0 text)))
 
 abbrev pub parsed_text : Mode → List ℕ → List ℕ → LineContent
 parsed_text mode numbers text =

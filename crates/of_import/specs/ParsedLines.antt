@@ -23,8 +23,8 @@ pub record ParsedLines : Type 0 where
 abbrev pub nothing_parsed : ParsedLines
 nothing_parsed = record { groups = []; flows = []; faults = [] }
 
-abbrev pub with_flow : ℕ → TextFlow → Marks → ParsedLines → ParsedLines
-with_flow n f m t = record t { flows = t.flows ++ record { line = n; flow = f; marks = m } ∷ [] }
+abbrev pub with_parsed_flow : ℕ → TextFlow → Marks → ParsedLines → ParsedLines
+with_parsed_flow n f m t = record t { flows = t.flows ++ record { line = n; flow = f; marks = m } ∷ [] }
 
 abbrev pub with_faults : ℕ → List Refusal → ParsedLines → ParsedLines
 with_faults n rs t = record t { faults = t.faults ++ (n, rs) ∷ [] }
@@ -33,16 +33,16 @@ abbrev pub again : Refusal
 again = record { word = codes "group_id"; why = Again }
 
 -- in ascending order of number; a number that there is already is refused (6.5)
-abbrev pub with_group : ℕ → TextGroup → ParsedLines → ParsedLines
-with_group n g t =
+abbrev pub with_parsed_group : ℕ → TextGroup → ParsedLines → ParsedLines
+with_parsed_group n g t =
     if list_any (λ h. h.1.head.id == g.head.id) t.groups then with_faults n (again ∷ []) t
     else record t { groups = filter (λ h. nat_lt h.1.head.id g.head.id) t.groups ++ (n, g) ∷ filter (λ h. nat_lt g.head.id h.1.head.id) t.groups }
 
 -- one line more, of that number
 abbrev pub with_line : ℕ → LineContent → ParsedLines → ParsedLines
 with_line n Nothing t = t
-with_line n (Group g) t = with_group n g t
-with_line n (Flow f m) t = with_flow n f m t
+with_line n (Group g) t = with_parsed_group n g t
+with_line n (Flow f m) t = with_parsed_flow n f m t
 with_line n (Refused rs) t = with_faults n rs t
 
 -- lines more, after so many

@@ -12,7 +12,7 @@ use Rattle.of_import.specs.declared.parsed_lines.ParsedLines.{ParsedLines as Dec
 use Rattle.of_import.specs.PartialFlows.{Refusal}
 use Rattle.of_import.specs.PartialFlowViews.{view_word_fault}
 use Rattle.of_import.specs.LineContentViews.{view_marks}
-use Rattle.of_import.specs.Sound.{IsSound}
+use Rattle.of_import.specs.Sound.{IsSoundFlow}
 use Rattle.of_import.specs.ParsedLines.{FlowAt, ParsedLines}
 
 abbrev pub view_group_line : GroupLine → ℕ × TextGroup
@@ -34,7 +34,7 @@ abbrev pub GroupFits : GroupLine → Type 0
 GroupFits g = AllByRecursion Fits (group_rows (view_group g.group))
 
 abbrev pub FlowIsSound : FlowLine → Type 0
-FlowIsSound f = IsSound (view f.flow)
+FlowIsSound f = IsSoundFlow (view f.flow)
 
 -- groups by ascending number, each of which may stand in a flow text
 pub record AreSoundGroups (groups : List GroupLine) : Type 0 where

@@ -15,14 +15,14 @@ use Rattle.of_ovs_words.specs.declared.field_word.FieldWord.{FieldWord}
 use Rattle.of_ovs_words.specs.declared.action_word.ActionWord.{ActionWord}
 use Rattle.of_ovs_words.specs.declared.action_word.Verb.{Verb}
 use Rattle.of_ovs_words.specs.declared.action_word.Verb.TheVariants as verbs
-use Rattle.of_ovs_words.specs.Words.{name_of, value_of, words_from}
+use Rattle.of_ovs_words.specs.Words.{word_name, word_value, words_from}
 use Rattle.of_ovs_words.specs.Outcomes.{◌>>=◌, numbered}
 use Rattle.of_ovs_words.specs.HeadWords.{head_named}
 use Rattle.of_ovs_words.specs.ProtocolWords.{protocol_named}
 use Rattle.of_ovs_words.specs.FieldWords.{field_word_named}
 use Rattle.of_ovs_words.specs.ActionWords.{action_named}
-use Rattle.of_ovs_words.specs.Matches.{with_field, with_protocol}
-use Rattle.of_ovs_words.specs.Actions.{actions_in, is_word_of, with_action}
+use Rattle.of_ovs_words.specs.Matches.{with_match_field, with_protocol}
+use Rattle.of_ovs_words.specs.Actions.{actions_in_words, is_word_of, with_action_in_word}
 use Rattle.of_wire.specs.declared.limits.TheConstants.{TABLES}
 use Rattle.of_import.specs.declared.mode.Mode.{Mode}
 
@@ -60,9 +60,9 @@ abbrev pub blank : Mode → PartialFlow
 blank mode = record { mode = mode; head = record { table = 0; priority = 32768; cookie = 0; idle = 0; hard = 0; flags = 0 }; settings = []; in_actions = false; apply = []; dropped = false; clears = false; writes = false; write = []; metadata = None; goto = None; stage = 0; left = []; resubmits = false; counters = []; faults = [] }
 
 -- a word that is refused changes nothing else
-abbrev pub or_refused : PartialFlow → List ℕ → Result PartialFlow Why → PartialFlow
-or_refused s word (Ok next) = next
-or_refused s word (Err why) = record s { faults = s.faults ++ record { word = word; why = why } ∷ [] }
+abbrev pub next_or_fault : PartialFlow → List ℕ → Result PartialFlow Why → PartialFlow
+next_or_fault s word (Ok next) = next
+next_or_fault s word (Err why) = record s { faults = s.faults ++ record { word = word; why = why } ∷ [] }
 
 -- ---- beside its match and its actions
 
@@ -89,14 +89,14 @@ head_after mode h parts.Command value = Err whys.Command
 abbrev pub mask_of_metadata : List ℕ → Result ℕ Why
 mask_of_metadata word = if length word == 0 then Ok 18446744073709551615 else numbered (2 ^ 64) word
 
-abbrev pub metadata_in : List ℕ → Result (ℕ × ℕ) Why
-metadata_in value = do
+abbrev pub metadata_and_mask_in : List ℕ → Result (ℕ × ℕ) Why
+metadata_and_mask_in value = do
   v ← numbered (2 ^ 64) (before 47 value)
   m ← mask_of_metadata (behind 47 value)
   Ok (v, m)
 
-abbrev pub alone : List ℕ → Result (Unit {0}) Why
-alone value = if length value == 0 then Ok tt else Err whys.Unknown
+abbrev pub without_value : List ℕ → Result (Unit {0}) Why
+without_value value = if length value == 0 then Ok tt else Err whys.Unknown
 
 -- the instruction of that place may come now: after those before it, once, and not beside `drop`
 abbrev pub may_follow : PartialFlow → ℕ → Result (Unit {0}) Why
@@ -116,29 +116,29 @@ later_table s value =
 abbrev pub is_such_port : List ℕ → Bool
 is_such_port text = str_eq_ignore_ascii_case text (codes "normal") || str_eq_ignore_ascii_case text (codes "local")
 
-abbrev pub is_output : Verb → Bool
-is_output verbs.Output = true
-is_output other = false
+abbrev pub is_output_verb : Verb → Bool
+is_output_verb verbs.Output = true
+is_output_verb other = false
 
 abbrev pub may_be_left : List ℕ → Bool
-may_be_left word = is_such_port word || (is_word_of is_output word && is_such_port (value_of word))
+may_be_left word = is_such_port word || (is_word_of is_output_verb word && is_such_port (word_value word))
 
 -- an action that is applied
 abbrev pub with_applied : PartialFlow → List ℕ → Result PartialFlow Why
 with_applied s word =
     if nat_lt 0 s.stage then Err whys.Order
     else if s.mode.skip && may_be_left word then Ok (record s { left = s.left ++ word ∷ [] })
-    else with_action s.settings [] s.dropped s.apply word >>= λ r. Ok (record s { dropped = r.0; apply = r.1 })
+    else with_action_in_word s.settings [] s.dropped s.apply word >>= λ r. Ok (record s { dropped = r.0; apply = r.1 })
 
 abbrev pub with_write : PartialFlow → List ℕ → Result PartialFlow Why
-with_write s value = may_follow s 2 >>= λ _. actions_in s.settings s.apply [] (words_from 0 value) >>= λ actions. Ok (record s { stage = 2; writes = true; write = actions })
+with_write s value = may_follow s 2 >>= λ _. actions_in_words s.settings s.apply [] (words_from 0 value) >>= λ actions. Ok (record s { stage = 2; writes = true; write = actions })
 
 unfoldable pub with_instruction : PartialFlow → Verb → List ℕ → Result PartialFlow Why
-with_instruction s verbs.Clear word = may_follow s 1 >>= λ _. alone (value_of word) >>= λ _. Ok (record s { stage = 1; clears = true })
-with_instruction s verbs.Write word = with_write s (value_of word)
-with_instruction s verbs.Metadata word = may_follow s 3 >>= λ _. metadata_in (value_of word) >>= λ m. Ok (record s { stage = 3; metadata = Some m })
-with_instruction s verbs.Goto word = may_follow s 4 >>= λ _. table_in s.mode (value_of word) >>= λ n. Ok (record s { stage = 4; goto = Some n })
-with_instruction s verbs.Resubmit word = may_follow s 4 >>= λ _. later_table s (value_of word) >>= λ n. Ok (record s { stage = 4; goto = Some n; resubmits = true })
+with_instruction s verbs.Clear word = may_follow s 1 >>= λ _. without_value (word_value word) >>= λ _. Ok (record s { stage = 1; clears = true })
+with_instruction s verbs.Write word = with_write s (word_value word)
+with_instruction s verbs.Metadata word = may_follow s 3 >>= λ _. metadata_and_mask_in (word_value word) >>= λ m. Ok (record s { stage = 3; metadata = Some m })
+with_instruction s verbs.Goto word = may_follow s 4 >>= λ _. table_in s.mode (word_value word) >>= λ n. Ok (record s { stage = 4; goto = Some n })
+with_instruction s verbs.Resubmit word = may_follow s 4 >>= λ _. later_table s (word_value word) >>= λ n. Ok (record s { stage = 4; goto = Some n; resubmits = true })
 with_instruction s other word = with_applied s word
 
 -- ---- words
@@ -148,11 +148,11 @@ with_named_action s (Some named) word = with_instruction s named.verb word
 with_named_action s None word = with_applied s word
 
 abbrev pub with_flow_action : PartialFlow → List ℕ → Result PartialFlow Why
-with_flow_action s word = with_named_action s (action_named (name_of word)) word
+with_flow_action s word = with_named_action s (action_named (word_name word)) word
 
 abbrev pub with_field_word : PartialFlow → Option FieldWord → List ℕ → Result PartialFlow Why
 with_field_word s None value = Err whys.Unknown
-with_field_word s (Some word) value = with_field s.settings word value >>= λ settings. Ok (record s { settings = settings })
+with_field_word s (Some word) value = with_match_field s.settings word value >>= λ settings. Ok (record s { settings = settings })
 
 abbrev pub with_protocol_word : PartialFlow → Option ProtocolWord → List ℕ → List ℕ → Result PartialFlow Why
 with_protocol_word s None name value = with_field_word s (field_word_named name) value
@@ -167,18 +167,18 @@ unfoldable pub with_head_word : PartialFlow → List ℕ → List ℕ → Result
 with_head_word s name value = with_part s (head_named name) name value
 
 abbrev pub with_other_word : PartialFlow → List ℕ → PartialFlow
-with_other_word s word = or_refused s word (with_head_word s (name_of word) (value_of word))
+with_other_word s word = next_or_fault s word (with_head_word s (word_name word) (word_value word))
 
 -- what a dump says of the packets of a flow, and of its age
 abbrev pub is_counter : List ℕ → Bool
 is_counter name = bytes_eq name (codes "duration") || bytes_eq name (codes "n_packets") || bytes_eq name (codes "n_bytes")
 
-abbrev pub counted : PartialFlow → List ℕ → PartialFlow
-counted s word = if is_counter (name_of word) then record s { counters = s.counters ++ word ∷ [] } else s
+abbrev pub with_counter : PartialFlow → List ℕ → PartialFlow
+with_counter s word = if is_counter (word_name word) then record s { counters = s.counters ++ word ∷ [] } else s
 
 -- an action or an instruction, if it is one
 abbrev pub with_action_word : PartialFlow → List ℕ → PartialFlow
-with_action_word s word = or_refused s word (with_flow_action s word)
+with_action_word s word = next_or_fault s word (with_flow_action s word)
 
 -- the first of them is behind `actions=`
 abbrev pub with_first_action : PartialFlow → List ℕ → PartialFlow
@@ -188,8 +188,8 @@ abbrev pub begins_actions : List ℕ → Bool
 begins_actions name = bytes_eq name (codes "actions") || bytes_eq name (codes "action")
 
 -- ONE MORE WORD of a flow
-unfoldable pub with_word : PartialFlow → List ℕ → PartialFlow
-with_word s word =
+unfoldable pub with_flow_word : PartialFlow → List ℕ → PartialFlow
+with_flow_word s word =
     if s.in_actions then with_action_word s word
-    else if begins_actions (name_of word) then with_first_action s (value_of word)
-    else with_other_word (counted s word) word
+    else if begins_actions (word_name word) then with_first_action s (word_value word)
+    else with_other_word (with_counter s word) word

@@ -10,10 +10,10 @@ use Rattle.of_text.specs.Groups.{TextBucket, TextGroup}
 use Rattle.of_wire.specs.declared.limits.TheConstants.{OFPG_ANY, OFPP_ANY}
 use Rattle.of_ovs_words.specs.declared.why.Why.{Why}
 use Rattle.of_ovs_words.specs.declared.why.Why.TheVariants as whys
-use Rattle.of_ovs_words.specs.Words.{name_of, value_of}
+use Rattle.of_ovs_words.specs.Words.{word_name, word_value}
 use Rattle.of_ovs_words.specs.Outcomes.{◌>>=◌, numbered}
 use Rattle.of_ovs_words.specs.Ports.{port_in}
-use Rattle.of_ovs_words.specs.Actions.{with_action}
+use Rattle.of_ovs_words.specs.Actions.{with_action_in_word}
 use Rattle.of_import.specs.PartialFlows.{Refusal, begins_actions}
 use Rattle.of_import.specs.Finished.{action_fits}
 
@@ -37,11 +37,11 @@ new_bucket = record { weight = 0; watch_port = OFPP_ANY; watch_group = OFPG_ANY 
 abbrev pub no_group : PartialGroup
 no_group = record { id = None; kind = None; begun = false; head = new_bucket; actions = []; dropped = false; buckets = []; faults = [] }
 
-abbrev pub closed : PartialGroup → List TextBucket
-closed s = if s.begun then s.buckets ++ record { head = s.head; actions = s.actions } ∷ [] else s.buckets
+abbrev pub closed_buckets : PartialGroup → List TextBucket
+closed_buckets s = if s.begun then s.buckets ++ record { head = s.head; actions = s.actions } ∷ [] else s.buckets
 
 abbrev pub with_new_bucket : PartialGroup → PartialGroup
-with_new_bucket s = record s { begun = true; head = new_bucket; actions = []; dropped = false; buckets = closed s }
+with_new_bucket s = record s { begun = true; head = new_bucket; actions = []; dropped = false; buckets = closed_buckets s }
 
 abbrev pub kind_in : List ℕ → Result GroupKind Why
 kind_in value =
@@ -52,7 +52,7 @@ kind_in value =
     else Err whys.Unknown
 
 abbrev pub with_bucket_action : PartialGroup → List ℕ → Result PartialGroup Why
-with_bucket_action s word = with_action [] [] s.dropped s.actions word >>= λ r. Ok (record s { dropped = r.0; actions = r.1 })
+with_bucket_action s word = with_action_in_word [] [] s.dropped s.actions word >>= λ r. Ok (record s { dropped = r.0; actions = r.1 })
 
 abbrev pub first_action : PartialGroup → List ℕ → Result PartialGroup Why
 first_action s value = if length value == 0 then Ok s else with_bucket_action s value
@@ -60,11 +60,11 @@ first_action s value = if length value == 0 then Ok s else with_bucket_action s 
 -- a word of a bucket, by its name and its value
 unfoldable pub with_bucket_word : PartialGroup → List ℕ → Result PartialGroup Why
 with_bucket_word s word =
-    if bytes_eq (name_of word) (codes "weight") then (numbered 65536 (value_of word) >>= λ n. Ok (record s { head = record s.head { weight = n } }))
-    else if bytes_eq (name_of word) (codes "watch_port") then (port_in whys.PortName (value_of word) >>= λ n. Ok (record s { head = record s.head { watch_port = n } }))
-    else if bytes_eq (name_of word) (codes "watch_group") then (numbered (2 ^ 32) (value_of word) >>= λ n. Ok (record s { head = record s.head { watch_group = n } }))
-    else if bytes_eq (name_of word) (codes "bucket_id") then Ok s
-    else if begins_actions (name_of word) then first_action s (value_of word)
+    if bytes_eq (word_name word) (codes "weight") then (numbered 65536 (word_value word) >>= λ n. Ok (record s { head = record s.head { weight = n } }))
+    else if bytes_eq (word_name word) (codes "watch_port") then (port_in whys.PortName (word_value word) >>= λ n. Ok (record s { head = record s.head { watch_port = n } }))
+    else if bytes_eq (word_name word) (codes "watch_group") then (numbered (2 ^ 32) (word_value word) >>= λ n. Ok (record s { head = record s.head { watch_group = n } }))
+    else if bytes_eq (word_name word) (codes "bucket_id") then Ok s
+    else if begins_actions (word_name word) then first_action s (word_value word)
     else with_bucket_action s word
 
 -- a word that is refused changes nothing else
@@ -87,16 +87,16 @@ is_other_command name =
 -- a word before the buckets
 unfoldable pub with_group_head : PartialGroup → List ℕ → Result PartialGroup Why
 with_group_head s word =
-    if bytes_eq (name_of word) (codes "group_id") then (numbered (2 ^ 32) (value_of word) >>= λ n. Ok (record s { id = Some n }))
-    else if bytes_eq (name_of word) (codes "type") then (kind_in (value_of word) >>= λ kind. Ok (record s { kind = Some kind }))
-    else if bytes_eq (name_of word) (codes "add") then Ok s
-    else if is_other_command (name_of word) then Err whys.Command
+    if bytes_eq (word_name word) (codes "group_id") then (numbered (2 ^ 32) (word_value word) >>= λ n. Ok (record s { id = Some n }))
+    else if bytes_eq (word_name word) (codes "type") then (kind_in (word_value word) >>= λ kind. Ok (record s { kind = Some kind }))
+    else if bytes_eq (word_name word) (codes "add") then Ok s
+    else if is_other_command (word_name word) then Err whys.Command
     else Err whys.Unknown
 
 -- ONE MORE WORD of a group
 unfoldable pub with_group_word : PartialGroup → List ℕ → PartialGroup
 with_group_word s word =
-    if bytes_eq (name_of word) (codes "bucket") then with_first_word (with_new_bucket s) (value_of word)
+    if bytes_eq (word_name word) (codes "bucket") then with_first_word (with_new_bucket s) (word_value word)
     else if s.begun then with_word_of_bucket s word
     else group_or_refused s word (with_group_head s word)
 
@@ -104,10 +104,10 @@ abbrev pub bucket_fits : TextBucket → Bool
 bucket_fits b = nat_lt b.head.weight (2 ^ 16) && nat_lt b.head.watch_port (2 ^ 32) && nat_lt b.head.watch_group (2 ^ 32) && list_all action_fits b.actions
 
 abbrev pub group_by : PartialGroup → Option ℕ → Option GroupKind → Result TextGroup Why
-group_by s (Some id) (Some kind) = Ok (record { head = record { id = id; kind = kind }; buckets = closed s })
+group_by s (Some id) (Some kind) = Ok (record { head = record { id = id; kind = kind }; buckets = closed_buckets s })
 group_by s (Some id) None = Err whys.Missing
 group_by s None kind = Err whys.Missing
 
 -- THE GROUP of its words, in whose buckets each number fits its place
-unfoldable pub group_of : PartialGroup → Result TextGroup Why
-group_of s = if list_all bucket_fits (closed s) then group_by s s.id s.kind else Err whys.Value
+unfoldable pub finished_group : PartialGroup → Result TextGroup Why
+finished_group s = if list_all bucket_fits (closed_buckets s) then group_by s s.id s.kind else Err whys.Value

@@ -10,7 +10,7 @@ use Rattle.of_import.specs.declared.line.LineContent.{LineContent as Declared}
 use Rattle.of_import.specs.declared.line.LineContent.TheVariants as variants
 use Rattle.of_text.specs.Views.{view, view_group}
 
-pub record IsSound (f : Flow) : Type 0 where
+pub record IsSoundFlow (f : Flow) : Type 0 where
   pub fits : AllByRecursion Fits (flow_rows f)
   pub order : IsSome (flow_standing 0 (map rows.Match f.fields ++ flat_map step_rows f.steps))
 
@@ -18,5 +18,5 @@ pub record IsSound (f : Flow) : Type 0 where
 abbrev pub IsSoundContent : Declared → Type 0
 IsSoundContent variants.Nothing = Unit {0}
 IsSoundContent (variants.Group g) = AllByRecursion Fits (group_rows (view_group g))
-IsSoundContent (variants.Flow f marks) = IsSound (view f)
+IsSoundContent (variants.Flow f marks) = IsSoundFlow (view f)
 IsSoundContent (variants.Refused faults) = Unit {0}

@@ -2,11 +2,11 @@
 ghost use Rattle.std.specs.Prelude.{◌≡◌, ◌++◌, ◌&&◌, None, IfOk, OnOk, map, IfSome, [], ◌<◌, ◌^◌};
 ghost use Rattle.std.specs.List.{list_all};
 ghost use Rattle.std.specs.Option.{option_map};
-ghost use Rattle.of_import.specs.Finished.{action_fits as action_fits_so, field_fits as field_fits_so, first_unmet as first_unmet_of, flow_of, goto_step, metadata_step, refusal_of as refusal_in, steps_of, when, why_missing as why_missing_so};
-ghost use Rattle.of_ovs_words.specs.Matches.{fields_of as fields_in};
+ghost use Rattle.of_import.specs.Finished.{action_fits as action_fits_so, field_fits as field_fits_so, first_unmet as first_unmet_of, finished_flow, goto_step, metadata_step, refusal_of as refusal_in, steps_of, when, why_missing as why_missing_so};
+ghost use Rattle.of_ovs_words.specs.Matches.{fields_of_settings as fields_in};
 ghost use Rattle.of_import.specs.PartialFlowViews.{view_partial_flow, view_word_fault};
 ghost use Rattle.of_text.specs.Rows.{HeadFits};
-ghost use Rattle.of_import.specs.Sound.{IsSound};
+ghost use Rattle.of_import.specs.Sound.{IsSoundFlow};
 ghost use Rattle.of_text.specs.Views.{view, view_step};
 
 use crate::partial_flow::PartialFlow;
@@ -217,8 +217,8 @@ pub fn flow_from(
 ) -> Result<FlowText, AllocError>
     requires fields { fields.items ≡ fields_in partial.old.settings.items }
     requires whole { refusal_in (view_partial_flow partial.old) ≡ None }
-    ensures flow { IfOk result (λ flow. view flow ≡ flow_of (view_partial_flow partial.old)) }
-    ensures sound { IfOk result (λ flow. IsSound (view flow)) }
+    ensures flow { IfOk result (λ flow. view flow ≡ finished_flow (view_partial_flow partial.old)) }
+    ensures sound { IfOk result (λ flow. IsSoundFlow (view flow)) }
     ensures left { partial.new.left ≡ partial.old.left }
     ensures resubmits { partial.new.resubmits ≡ partial.old.resubmits }
     ensures counters { partial.new.counters ≡ partial.old.counters }

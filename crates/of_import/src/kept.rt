@@ -8,11 +8,11 @@ ghost use Rattle.of_text.specs.First.{first_refusal};
 ghost use Rattle.of_text.specs.Flows.{text_rows};
 ghost use Rattle.of_text.specs.Texts.{AreRows};
 ghost use Rattle.of_text.specs.Views.{view, view_flows, view_group, view_groups};
-ghost use Rattle.of_import.specs.Digests.{digest_of, digests_of, mixed as mixed_of, HasDigests, PutsDigest};
-ghost use Rattle.of_import.specs.Kept.{accepted, after_refusal, groups_in, kept_groups, kept_of, refusal_alone as refusal_alone_of, refused as refused_of, replaces as replaces_flow, with_older, youngest as youngest_of};
+ghost use Rattle.of_import.specs.Digests.{flow_digest, digests_of, field_mixed as mixed_of, HasDigests, PutsDigest};
+ghost use Rattle.of_import.specs.Kept.{accepted, after_refusal, groups_in, kept_groups, kept_of_lines, refusal_alone as refusal_alone_of, refused_flows as refused_of, replaces as replaces_flow, with_older, youngest as youngest_of};
 ghost use Rattle.of_import.specs.KeptViews.{view_kept, view_kept_groups, view_refusal};
 ghost use Rattle.of_import.specs.ParsedLinesViews.{AreSoundGroups, FlowIsSound, view_flow_line, view_group_line};
-ghost use Rattle.of_import.specs.Sound.{IsSound};
+ghost use Rattle.of_import.specs.Sound.{IsSoundFlow};
 
 use crate::copies::{copy_flow, copy_group};
 use crate::parsed_lines::{FlowLine, GroupLine, remove_id};
@@ -164,7 +164,7 @@ fn refusal_alone(
     flow: &FlowText,
 ) -> Result<Option<Code>, AllocError>
     requires groups { AreSoundGroups groups.now }
-    requires flow { IsSound (view flow.now) }
+    requires flow { IsSoundFlow (view flow.now) }
     ensures { IfOk result (λ r. r ≡ refusal_alone_of (groups_in (map view_group_line groups.now)) (view flow.now)) }
 {
     let copies = copies_of(alloc, groups)?;
@@ -248,7 +248,7 @@ fn replaces(flow: &FlowText, other: &FlowText) -> bool
         && has_fields_of(flow, other)
 }
 
-#[tactic(auto, unfolding(crate::specs::Digests::mixed))]
+#[tactic(auto, unfolding(crate::specs::Digests::field_mixed))]
 fn mixed(sum: u128, e: MatchField) -> u128
     ensures { result ≡ mixed_of sum e }
 {
@@ -259,9 +259,9 @@ fn mixed(sum: u128, e: MatchField) -> u128
 }
 
 // A number that is the same for flows that replace each other.
-#[tactic(auto, unfolding(crate::specs::Digests::digest_of))]
+#[tactic(auto, unfolding(crate::specs::Digests::flow_digest))]
 fn digest(flow: &FlowText) -> u128
-    ensures { result ≡ digest_of (view flow.now) }
+    ensures { result ≡ flow_digest (view flow.now) }
 {
     let seed = u128::from(flow.head.table)
         .wrapping_mul(65536)
@@ -303,7 +303,7 @@ fn has_younger(
     flow: &FlowText,
 ) -> bool
     requires digests { HasDigests (digests_of later.now) places.now }
-    requires key { key ≡ digest_of (view flow.now) }
+    requires key { key ≡ flow_digest (view flow.now) }
     ensures { result ≡ list_any (λ g. replaces_flow (view g.flow) (view flow.now)) later.now }
 {
     match place_of(places, key) {
@@ -358,7 +358,7 @@ pub fn youngest(alloc: Global, flows: Vec<FlowLine>) -> Result<Vec<FlowLine>, Al
 }
 
 /// What is kept of the lines that were read.
-#[tactic(auto, unfolding(crate::specs::Kept::kept_of))]
+#[tactic(auto, unfolding(crate::specs::Kept::kept_of_lines))]
 pub fn keep(
     alloc: Global,
     groups: Vec<GroupLine>,
@@ -366,7 +366,7 @@ pub fn keep(
 ) -> Result<KeptLines, AllocError>
     requires groups { AreSoundGroups groups.items }
     requires flows { AllByRecursion FlowIsSound flows.items }
-    ensures kept { IfOk result (λ kept. view_kept kept ≡ kept_of (map view_group_line groups.items) (map view_flow_line flows.items)) }
+    ensures kept { IfOk result (λ kept. view_kept kept ≡ kept_of_lines (map view_group_line groups.items) (map view_flow_line flows.items)) }
     ensures groups { IfOk result (λ kept. AreSoundGroups kept.groups.items) }
     ensures flows { IfOk result (λ kept. AllByRecursion FlowIsSound kept.flows.items) }
 {

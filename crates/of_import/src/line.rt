@@ -3,10 +3,10 @@ ghost use Rattle.std.specs.Prelude.{◌≡◌, ◌++◌, ◌∷◌, [], ◌||◌
 ghost use Rattle.std.specs.Str.{bytes_eq};
 ghost use Rattle.of_text.specs.Lines.{before};
 ghost use Rattle.of_ovs_words.specs.Words.{words_from};
-ghost use Rattle.of_import.specs.Finished.{in_numbers, renumbered as renumbered_by};
-ghost use Rattle.of_import.specs.PartialFlows.{blank, with_word};
+ghost use Rattle.of_import.specs.Finished.{in_numbers, new_table_number as renumbered_by};
+ghost use Rattle.of_import.specs.PartialFlows.{blank, with_flow_word};
 ghost use Rattle.of_import.specs.PartialGroups.{no_group, with_group_word};
-ghost use Rattle.of_import.specs.LineContents.{begins_group as begins_group_so, flow_content, group_content, parsed_flow, parsed_group, is_command as is_command_word, is_heading as is_heading_text, names_group as names_group_so, parsed_line, parsed_text as parsed_text_of, with_words, trimmed as trimmed_of};
+ghost use Rattle.of_import.specs.LineContents.{begins_group as begins_group_so, flow_content, group_content, parsed_flow, parsed_group, is_command_name as is_command_word, is_heading as is_heading_text, names_group_id as names_group_so, parsed_line, parsed_text as parsed_text_of, with_words, trimmed as trimmed_of};
 ghost use Rattle.of_import.specs.Sound.{IsSoundContent};
 ghost use Rattle.of_import.specs.PartialFlowViews.{view_partial_flow};
 ghost use Rattle.of_import.specs.PartialGroupViews.{view_partial_group};
@@ -43,7 +43,7 @@ pub enum LineContent {
 
 // Adds what words say of a flow.
 fn add_flow_words(alloc: Global, partial: &mut PartialFlow, text: &[u8]) -> Result<(), AllocError>
-    ensures { OnOk result (with_words with_word (view_partial_flow partial.old) (words_from 0 text.now) ≡ view_partial_flow partial.new) }
+    ensures { OnOk result (with_words with_flow_word (view_partial_flow partial.old) (words_from 0 text.now) ≡ view_partial_flow partial.new) }
 {
     let mut rest = text;
     while !rest.is_empty() {

@@ -2,7 +2,7 @@
 ghost use Rattle.std.specs.Prelude.{◌≡◌, ◌++◌, ◌∷◌, filter, length, map, codes, IfOk, OnOk};
 ghost use Rattle.std.specs.List.{flat_map};
 ghost use Rattle.of_import.specs.KeptViews.{loses_action, view_kept, view_refusal};
-ghost use Rattle.of_import.specs.Notes.{action_words, comment, counter_note as counter_note_of, fault_words, is_changed as is_changed_line, mark_notes, notes_of, part_note, part_words, refusal_words, resubmit_note, shown as shown_byte, table_words, word_after_space};
+ghost use Rattle.of_import.specs.Notes.{left_out_action_words, comment, counter_note as counter_note_of, fault_words, is_changed as is_changed_line, mark_notes, notes_of, part_note, part_words, refusal_words, resubmit_note, shown as shown_byte, renumbered_table_words, word_after_space};
 ghost use Rattle.of_import.specs.ParsedLinesViews.{view_faults, view_flow_line};
 ghost use Rattle.of_import.specs.PartialFlowViews.{view_word_fault};
 
@@ -56,7 +56,7 @@ fn push_part(alloc: Global, out: &mut Vec<u8>, count: usize) -> Result<(), Alloc
 }
 
 fn push_move(alloc: Global, out: &mut Vec<u8>, from: u8, to: u8) -> Result<(), AllocError>
-    ensures { OnOk result (out.new.items ≡ out.old.items ++ comment (table_words (from, to))) }
+    ensures { OnOk result (out.new.items ≡ out.old.items ++ comment (renumbered_table_words (from, to))) }
 {
     let mut words = Vec::new(alloc);
     words.extend_from_slice(b"table")?;
@@ -68,7 +68,7 @@ fn push_move(alloc: Global, out: &mut Vec<u8>, from: u8, to: u8) -> Result<(), A
 
 // Tables that have other numbers.
 fn push_moves(alloc: Global, out: &mut Vec<u8>, moves: &[(u8, u8)]) -> Result<(), AllocError>
-    ensures { OnOk result (out.new.items ≡ out.old.items ++ flat_map (λ m. comment (table_words m)) moves.now) }
+    ensures { OnOk result (out.new.items ≡ out.old.items ++ flat_map (λ m. comment (renumbered_table_words m)) moves.now) }
 {
     for it in moves {
         push_move(alloc, out, it.0, it.1)?;
@@ -140,7 +140,7 @@ fn push_action(
     line: usize,
     action: &[u8],
 ) -> Result<(), AllocError>
-    ensures { OnOk result (out.new.items ≡ out.old.items ++ comment (action_words line action.now)) }
+    ensures { OnOk result (out.new.items ≡ out.old.items ++ comment (left_out_action_words line action.now)) }
 {
     let mut words = Vec::new(alloc);
     words.extend_from_slice(b"line")?;
@@ -156,7 +156,7 @@ fn push_actions(
     line: usize,
     left: &[Vec<u8>],
 ) -> Result<(), AllocError>
-    ensures { OnOk result (out.new.items ≡ out.old.items ++ flat_map (λ word. comment (action_words line word)) (map (λ w. w.items) left.now)) }
+    ensures { OnOk result (out.new.items ≡ out.old.items ++ flat_map (λ word. comment (left_out_action_words line word)) (map (λ w. w.items) left.now)) }
 {
     for action in left {
         push_action(alloc, out, line, action)?;

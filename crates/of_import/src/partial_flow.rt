@@ -1,6 +1,6 @@
 //! The meaning of the words of a line for a flow.
 ghost use Rattle.std.specs.Prelude.{◌≡◌, ◌≤◌, ◌<◌, ◌^◌, ◌++◌, ◌∷◌, [], map, IfOk, IfErr, OnOk, Ok};
-ghost use Rattle.of_import.specs.PartialFlows.{alone as alone_word, begins_actions as begins_actions_so, with_first_action, blank, with_flag as head_with_flag, counted, head_after, is_counter as is_counter_name, later_table as later_table_of, may_be_left as may_be_left_out, may_follow as may_follow_so, is_such_port as is_such_port_name, with_action_word, with_applied, with_instruction, mask_of_metadata as metadata_mask_of, metadata_in as metadata_of, table_in as table_of, with_word as flow_with_word, with_flow_action, with_head_word, with_other_word, with_write};
+ghost use Rattle.of_import.specs.PartialFlows.{without_value as alone_word, begins_actions as begins_actions_so, with_first_action, blank, with_flag as head_with_flag, with_counter, head_after, is_counter as is_counter_name, later_table as later_table_of, may_be_left as may_be_left_out, may_follow as may_follow_so, is_such_port as is_such_port_name, with_action_word, with_applied, with_instruction, mask_of_metadata as metadata_mask_of, metadata_and_mask_in as metadata_of, table_in as table_of, with_flow_word as flow_with_word, with_flow_action, with_head_word, with_other_word, with_write};
 ghost use Rattle.of_import.specs.PartialFlowViews.{view_partial_flow, view_word_fault};
 ghost use Rattle.of_ovs_words.specs.Stops.{IfRefused, Stops};
 
@@ -376,7 +376,7 @@ impl PartialFlow {
 
     // Keeps the word, if it is a counter.
     fn count(&mut self, alloc: Global, word: &[u8]) -> Result<(), AllocError>
-        ensures { OnOk result (view_partial_flow self.new ≡ counted (view_partial_flow self.old) word.now) }
+        ensures { OnOk result (view_partial_flow self.new ≡ with_counter (view_partial_flow self.old) word.now) }
     {
         if is_counter(name_of(word)) {
             let word = word.to_vec(alloc)?;
@@ -396,7 +396,7 @@ impl PartialFlow {
     }
 
     /// Adds what one more word says.
-    #[tactic(auto, unfolding(crate::specs::PartialFlows::with_word))]
+    #[tactic(auto, unfolding(crate::specs::PartialFlows::with_flow_word))]
     pub fn add_word(&mut self, alloc: Global, word: &[u8]) -> Result<(), AllocError>
         ensures { OnOk result (view_partial_flow self.new ≡ flow_with_word (view_partial_flow self.old) word.now) }
     {

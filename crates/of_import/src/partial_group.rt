@@ -1,6 +1,6 @@
 //! The meaning of the words of a line for a group.
 ghost use Rattle.std.specs.Prelude.{◌≡◌, ◌++◌, ◌∷◌, IfOk, IfErr, OnOk, Ok, Err, map, false, [], ◌<◌, ◌^◌};
-ghost use Rattle.of_import.specs.PartialGroups.{with_new_bucket, bucket_fits as bucket_fits_so, closed, first_action, group_of as group_in, group_or_refused, is_other_command as is_other_command_name, kind_in as kind_of, no_group, with_bucket_word as bucket_with_word, with_first_word, with_group_head, with_group_word, with_bucket_action, with_word_of_bucket};
+ghost use Rattle.of_import.specs.PartialGroups.{with_new_bucket, bucket_fits as bucket_fits_so, closed_buckets, first_action, finished_group as group_in, group_or_refused, is_other_command as is_other_command_name, kind_in as kind_of, no_group, with_bucket_word as bucket_with_word, with_first_word, with_group_head, with_group_word, with_bucket_action, with_word_of_bucket};
 ghost use Rattle.of_import.specs.PartialGroupViews.{view_partial_group};
 ghost use Rattle.std.specs.List.{AllByRecursion, list_all};
 ghost use Rattle.of_text.specs.Groups.{group_rows};
@@ -120,7 +120,7 @@ impl PartialGroup {
     // The bucket that is begun goes to those before it.
     fn close(&mut self) -> Result<(), AllocError>
         ensures { OnOk result (view_partial_group self.new ≡ record (view_partial_group self.old)
-            { begun = false; actions = []; buckets = closed (view_partial_group self.old) }) }
+            { begun = false; actions = []; buckets = closed_buckets (view_partial_group self.old) }) }
     {
         let actions = take_actions(&mut self.actions);
         if self.begun {
@@ -270,7 +270,7 @@ impl PartialGroup {
     }
 
     /// The group that its words say.
-    #[tactic(auto, unfolding(crate::specs::PartialGroups::group_of))]
+    #[tactic(auto, unfolding(crate::specs::PartialGroups::finished_group))]
     pub fn finish(self) -> Result<GroupText, Stop>
         ensures finished { IfOk result (λ group. group_in (view_partial_group self) ≡ Ok (view_group group)) }
         ensures fits { IfOk result (λ group. AllByRecursion Fits (group_rows (view_group group))) }

@@ -3,7 +3,7 @@ ghost use Rattle.std.specs.Prelude.{◌≡◌, ◌++◌, ◌∷◌, [], map, IfO
 ghost use Rattle.std.specs.List.{list_any};
 ghost use Rattle.of_text.specs.Views.{view, view_step};
 ghost use Rattle.of_import.specs.ParsedLinesViews.{view_flow_line};
-ghost use Rattle.of_import.specs.TableNumbers.{following, goes_to as goes_to_table, move_of, names as names_table, numbers_of, occurs as occurs_in, same_numbers};
+ghost use Rattle.of_import.specs.TableNumbers.{following_number, is_goto_to as goes_to_table, move_of, concerns_table as names_table, table_numbers_of, occurs as occurs_in, same_numbers};
 ghost use Rattle.of_import.specs.TableNumbersViews.{view_numbers};
 
 use crate::parsed_lines::FlowLine;
@@ -52,7 +52,7 @@ fn occurs(flows: &[FlowLine], table: u8) -> bool
 
 // The number after that of a table.
 fn next_number(flows: &[FlowLine], table: u8, number: u8) -> u8
-    ensures { result ≡ following (map view_flow_line flows.now) table number }
+    ensures { result ≡ following_number (map view_flow_line flows.now) table number }
 {
     if occurs(flows, table) {
         number.saturating_add(1)
@@ -102,7 +102,7 @@ impl TableNumbers {
     fn add(&mut self, flows: &[FlowLine], table: u8) -> Result<(), AllocError>
         ensures numbers { OnOk result (self.new.numbers.items ≡ self.old.numbers.items ++ self.old.count ∷ []) }
         ensures moves { OnOk result (self.new.moves.items ≡ self.old.moves.items ++ move_of (map view_flow_line flows.now) table self.old.count) }
-        ensures count { OnOk result (self.new.count ≡ following (map view_flow_line flows.now) table self.old.count) }
+        ensures count { OnOk result (self.new.count ≡ following_number (map view_flow_line flows.now) table self.old.count) }
     {
         self.numbers.push(self.count)?;
         push_move(&mut self.moves, flows, table, self.count)?;
@@ -111,9 +111,9 @@ impl TableNumbers {
     }
 
     /// Numbers from 0 on for the tables that occur.
-    #[tactic(auto, unfolding(crate::specs::TableNumbers::numbers_of))]
+    #[tactic(auto, unfolding(crate::specs::TableNumbers::table_numbers_of))]
     pub fn of(alloc: Global, flows: &[FlowLine]) -> Result<TableNumbers, AllocError>
-        ensures { IfOk result (λ r. view_numbers r ≡ numbers_of (map view_flow_line flows.now)) }
+        ensures { IfOk result (λ r. view_numbers r ≡ table_numbers_of (map view_flow_line flows.now)) }
     {
         let mut made = TableNumbers::same(alloc);
         let mut table: u16 = 0;

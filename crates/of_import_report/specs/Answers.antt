@@ -5,7 +5,7 @@ use Rattle.of_import.specs.declared.parsed_lines.LineFaults.{LineFaults}
 use Rattle.of_import.specs.declared.kept.KeptLines.{KeptLines}
 use Rattle.of_import.specs.declared.import.ImportError.{ImportError}
 use Rattle.of_import.specs.Imports.{IsImport, NoImport}
-use Rattle.of_import_report.specs.Json.{import_json, left_out, is_memory, no_import_json}
+use Rattle.of_import_report.specs.Json.{import_json, lines_left_out, is_memory, no_import_json}
 
 -- of an import, and how many of its lines are left out or lose an action
 pub record OnImport (lines : List (List ℕ)) (mode : Mode) (json : List ℕ) (left : Option ℕ) : Type 0 where
@@ -16,7 +16,7 @@ pub record OnImport (lines : List (List ℕ)) (mode : Mode) (json : List ℕ) (l
   pub changed : ℕ
   pub is : IsImport lines mode text faults kept moves changed
   pub json_is : json ≡ import_json text faults kept moves changed
-  pub left_is : left ≡ Some (left_out faults kept.refused.items changed)
+  pub left_is : left ≡ Some (lines_left_out faults kept.refused.items changed)
 
 -- if there is none
 pub record OnNone (lines : List (List ℕ)) (mode : Mode) (json : List ℕ) (left : Option ℕ) : Type 0 where

@@ -3,14 +3,14 @@ use Rattle.std.specs.Prelude.{ℕ, zero, suc, ◌==◌, List, [], ◌∷◌, ◌
 use Rattle.std.specs.List.{flat_map}
 use Rattle.of_import.specs.declared.parsed_lines.FlowLine.{FlowLine}
 
-abbrev pub line_in : ℕ → FlowLine → List ℕ
-line_in table f = if f.flow.head.table == table then f.line ∷ [] else []
+abbrev pub flow_line_in : ℕ → FlowLine → List ℕ
+flow_line_in table f = if f.flow.head.table == table then f.line ∷ [] else []
 
 -- A TABLE'S LINES: the one at place K is that of its entry K, since entries are in the order of the flows
-unfoldable pub lines_in : ℕ → List FlowLine → List ℕ
-lines_in table flows = flat_map (line_in table) flows
+unfoldable pub flow_lines_in : ℕ → List FlowLine → List ℕ
+flow_lines_in table flows = flat_map (flow_line_in table) flows
 
 -- those of the first k tables
-unfoldable pub lines_below : ℕ → List FlowLine → List (List ℕ)
-lines_below zero flows = []
-lines_below (suc k) flows = lines_below k flows ++ lines_in k flows ∷ []
+unfoldable pub flow_lines_below : ℕ → List FlowLine → List (List ℕ)
+flow_lines_below zero flows = []
+flow_lines_below (suc k) flows = flow_lines_below k flows ++ flow_lines_in k flows ∷ []

@@ -1,10 +1,10 @@
 -- THE OUTCOME OF AN IMPORT AS JSON (RFC 8259): one object in one line.
 use Rattle.std.specs.Prelude.{ℕ, ◌+◌, Bool, true, false, List, [], ◌∷◌, ◌++◌, length, codes, decimal, Option, Some, None}
 use Rattle.std.specs.Global.{Vec}
-use Rattle.of_wire.specs.CodeNames.{name_of as error_name}
+use Rattle.of_wire.specs.CodeNames.{error_name}
 use Rattle.of_text.specs.Lines.{lines_of}
 use Rattle.of_json.specs.Parts.{key, listed, match_object, number_member, quoted, text_member, truth}
-use Rattle.of_ovs_words.specs.Words.{name_of, value_of}
+use Rattle.of_ovs_words.specs.Words.{word_name, word_value}
 use Rattle.of_import.specs.declared.word_fault.WordFault.{WordFault}
 use Rattle.of_import.specs.declared.parsed_lines.LineFaults.{LineFaults}
 use Rattle.of_import.specs.declared.parsed_lines.FlowLine.{FlowLine}
@@ -19,8 +19,8 @@ use Rattle.of_import_report.specs.Whys.{why_words}
 use Rattle.of_import_report.specs.Keywords.{keywords_in, lines_with}
 
 -- the first member of an object
-unfoldable pub line_member : ℕ → List ℕ
-line_member n = key (codes "line") ++ decimal n
+unfoldable pub import_line_member : ℕ → List ℕ
+import_line_member n = key (codes "line") ++ decimal n
 
 -- ---- lines that are refused: `{"line":3,"words":[{"word":"ct(table=1)","why":".."}]}` for their words, `{"line":9,"type":2,"code":9,"error":".."}` by the switch
 
@@ -28,7 +28,7 @@ unfoldable pub word_object : WordFault → List ℕ
 word_object f = 123 ∷ key (codes "word") ++ string f.word.items ++ text_member (codes "why") (why_words f.why) ++ 125 ∷ []
 
 unfoldable pub fault_object : LineFaults → List ℕ
-fault_object l = 123 ∷ line_member l.line ++ array_member (codes "words") (listed word_object l.faults.items) ++ 125 ∷ []
+fault_object l = 123 ∷ import_line_member l.line ++ array_member (codes "words") (listed word_object l.faults.items) ++ 125 ∷ []
 
 -- an error that the standard names (OpenFlow 1.3.5, 7.4.4)
 abbrev pub error_member : Option (List ℕ) → List ℕ
@@ -37,7 +37,7 @@ error_member (Some name) = text_member (codes "error") name
 
 unfoldable pub refusal_object : LineRefusal → List ℕ
 refusal_object r =
-    123 ∷ line_member r.line ++ number_member (codes "type") r.code.kind ++ number_member (codes "code") r.code.code ++ error_member (error_name r.code.kind r.code.code)
+    123 ∷ import_line_member r.line ++ number_member (codes "type") r.code.kind ++ number_member (codes "code") r.code.code ++ error_member (error_name r.code.kind r.code.code)
     ++ 125 ∷ []
 
 -- `{"keyword":"ct","lines":2}`
@@ -57,46 +57,46 @@ move_object m = 123 ∷ key (codes "from") ++ decimal m.0 ++ number_member (code
 -- ---- groups and flows: `{"line":4,"group":1}`, and `{"line":5,"table":0,"priority":10,"match":{..},"counters":{..},"without":[..],"resubmit":false}`
 
 unfoldable pub group_object : GroupLine → List ℕ
-group_object g = 123 ∷ line_member g.line ++ number_member (codes "group") g.group.head.id ++ 125 ∷ []
+group_object g = 123 ∷ import_line_member g.line ++ number_member (codes "group") g.group.head.id ++ 125 ∷ []
 
 -- what a dump counted: `"n_packets":"12"`
 unfoldable pub counter_member : Vec ℕ → List ℕ
-counter_member word = string (name_of word.items) ++ 58 ∷ string (value_of word.items)
+counter_member word = string (word_name word.items) ++ 58 ∷ string (word_value word.items)
 
 unfoldable pub counters_member : List (Vec ℕ) → List ℕ
 counters_member words = 44 ∷ key (codes "counters") ++ 123 ∷ listed counter_member words ++ 125 ∷ []
 
-unfoldable pub truth_member : List ℕ → Bool → List ℕ
-truth_member name b = 44 ∷ key name ++ truth b
+unfoldable pub import_truth_member : List ℕ → Bool → List ℕ
+import_truth_member name b = 44 ∷ key name ++ truth b
 
 -- actions that are left out, and whether `resubmit` became GOTO_TABLE
 unfoldable pub marks_members : FlowMarks → List ℕ
 marks_members m =
-    counters_member m.counters.items ++ array_member (codes "without") (listed string_of m.left.items) ++ truth_member (codes "resubmit") m.resubmits
+    counters_member m.counters.items ++ array_member (codes "without") (listed string_of m.left.items) ++ import_truth_member (codes "resubmit") m.resubmits
 
-unfoldable pub entry_members : FlowLine → List ℕ
-entry_members f =
-    line_member f.line ++ number_member (codes "table") f.flow.head.table ++ number_member (codes "priority") f.flow.head.priority
+unfoldable pub import_entry_members : FlowLine → List ℕ
+import_entry_members f =
+    import_line_member f.line ++ number_member (codes "table") f.flow.head.table ++ number_member (codes "priority") f.flow.head.priority
     ++ 44 ∷ key (codes "match") ++ match_object f.flow.fields.items
 
 unfoldable pub flow_object : FlowLine → List ℕ
-flow_object f = 123 ∷ entry_members f ++ marks_members f.marks ++ 125 ∷ []
+flow_object f = 123 ∷ import_entry_members f ++ marks_members f.marks ++ 125 ∷ []
 
 -- ---- THE DOCUMENT of an import: how many lines are left out or lose an action, the lines that are refused, new numbers of tables, groups and flows, and the
 -- lines of the flow text
 
-unfoldable pub head_members : Bool → List ℕ
-head_members imported = key (codes "command") ++ quoted (codes "import") ++ truth_member (codes "imported") imported
+unfoldable pub import_head_members : Bool → List ℕ
+import_head_members imported = key (codes "command") ++ quoted (codes "import") ++ import_truth_member (codes "imported") imported
 
 unfoldable pub item_members : KeptLines → List ℕ
 item_members kept = array_member (codes "groups") (listed group_object kept.groups.items) ++ array_member (codes "flows") (listed flow_object kept.flows.items)
 
-abbrev pub left_out : List LineFaults → List LineRefusal → ℕ → ℕ
-left_out faults refused changed = length faults + length refused + changed
+abbrev pub lines_left_out : List LineFaults → List LineRefusal → ℕ → ℕ
+lines_left_out faults refused changed = length faults + length refused + changed
 
 unfoldable pub import_json : List ℕ → List LineFaults → KeptLines → List (ℕ × ℕ) → ℕ → List ℕ
 import_json text faults kept moves changed =
-    123 ∷ head_members true ++ number_member (codes "left_out") (left_out faults kept.refused.items changed) ++ refused_members faults kept.refused.items
+    123 ∷ import_head_members true ++ number_member (codes "left_out") (lines_left_out faults kept.refused.items changed) ++ refused_members faults kept.refused.items
     ++ array_member (codes "tables") (listed move_object moves) ++ item_members kept ++ array_member (codes "text") (listed string (lines_of text)) ++ 125 ∷ 10 ∷ []
 
 -- ---- THE DOCUMENT if there is no import: the lines that are refused, or how many tables there are, if these are too many
@@ -106,7 +106,7 @@ count_member None = []
 count_member (Some count) = number_member (codes "table_count") count
 
 unfoldable pub refused_json : List LineFaults → List LineRefusal → Option ℕ → List ℕ
-refused_json faults refused count = 123 ∷ head_members false ++ refused_members faults refused ++ count_member count ++ 125 ∷ 10 ∷ []
+refused_json faults refused count = 123 ∷ import_head_members false ++ refused_members faults refused ++ count_member count ++ 125 ∷ 10 ∷ []
 
 abbrev pub is_memory : ImportError → Bool
 is_memory NoMemory = true

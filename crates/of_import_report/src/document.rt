@@ -3,7 +3,7 @@ ghost use Rattle.std.specs.Prelude.{◌≡◌, ◌++◌, ◌∷◌, codes, IfOk,
 ghost use Rattle.std.specs.List.{flat_map};
 ghost use Rattle.of_text.specs.Lines.{lines_of};
 ghost use Rattle.of_json.specs.Parts.{listed};
-ghost use Rattle.of_import_report.specs.Json.{count_member, head_members, import_json, left_out as left_out_of, move_object, refused_json};
+ghost use Rattle.of_import_report.specs.Json.{count_member, import_head_members, import_json, lines_left_out as left_out_of, move_object, refused_json};
 ghost use Rattle.of_import_report.specs.Strings.{array_member, string};
 
 use crate::items::{push_item_members, push_move_objects};
@@ -14,9 +14,9 @@ use of_json::{push_key, push_number_member, push_quoted};
 use of_text::cut;
 use std::alloc::{AllocError, Global};
 
-#[tactic(auto, unfolding(crate::specs::Json::head_members))]
+#[tactic(auto, unfolding(crate::specs::Json::import_head_members))]
 fn push_head_members(out: &mut Vec<u8>, imported: bool) -> Result<(), AllocError>
-    ensures { OnOk result (out.new.items ≡ out.old.items ++ head_members imported) }
+    ensures { OnOk result (out.new.items ≡ out.old.items ++ import_head_members imported) }
 {
     push_key(out, b"command")?;
     push_quoted(out, b"import")?;

@@ -1,6 +1,6 @@
 //! The lines of flow entries in a table of Open vSwitch.
 ghost use Rattle.std.specs.Prelude.{◌≡◌, ◌++◌, IfOk, OnOk};
-ghost use Rattle.of_import_report.specs.FlowLines.{line_in, lines_below, lines_in};
+ghost use Rattle.of_import_report.specs.FlowLines.{flow_line_in, flow_lines_below, flow_lines_in};
 ghost use Rattle.of_import_report.specs.Views.{view_names};
 
 use of_import::FlowLine;
@@ -8,7 +8,7 @@ use of_wire::limits::TABLES;
 use std::alloc::{AllocError, Global};
 
 fn push_line_in(numbers: &mut Vec<usize>, table: u8, it: &FlowLine) -> Result<(), AllocError>
-    ensures { OnOk result (numbers.new.items ≡ numbers.old.items ++ line_in table it.now) }
+    ensures { OnOk result (numbers.new.items ≡ numbers.old.items ++ flow_line_in table it.now) }
 {
     if it.flow.head.table == table {
         numbers.push(it.line)?;
@@ -17,9 +17,9 @@ fn push_line_in(numbers: &mut Vec<usize>, table: u8, it: &FlowLine) -> Result<()
 }
 
 // The lines of the flows of a table.
-#[tactic(auto, unfolding(crate::specs::FlowLines::lines_in))]
+#[tactic(auto, unfolding(crate::specs::FlowLines::flow_lines_in))]
 fn lines_of_table(alloc: Global, table: u8, flows: &[FlowLine]) -> Result<Vec<usize>, AllocError>
-    ensures { IfOk result (λ numbers. numbers.items ≡ lines_in table flows.now) }
+    ensures { IfOk result (λ numbers. numbers.items ≡ flow_lines_in table flows.now) }
 {
     let mut numbers = Vec::new(alloc);
     for it in flows {
@@ -29,9 +29,9 @@ fn lines_of_table(alloc: Global, table: u8, flows: &[FlowLine]) -> Result<Vec<us
 }
 
 /// The lines of flow entries, from 1: for each of the sixteen tables, by age.
-#[tactic(auto, unfolding(crate::specs::FlowLines::lines_below))]
+#[tactic(auto, unfolding(crate::specs::FlowLines::flow_lines_below))]
 pub fn flow_lines_of(alloc: Global, flows: &[FlowLine]) -> Result<Vec<Vec<usize>>, AllocError>
-    ensures { IfOk result (λ lines. view_names lines.items ≡ lines_below 16 flows.now) }
+    ensures { IfOk result (λ lines. view_names lines.items ≡ flow_lines_below 16 flows.now) }
 {
     let mut lines = Vec::new(alloc);
     for table in 0..TABLES {

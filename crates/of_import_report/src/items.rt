@@ -2,7 +2,7 @@
 ghost use Rattle.std.specs.Prelude.{◌≡◌, ◌++◌, ◌∷◌, OnOk};
 ghost use Rattle.std.specs.List.{flat_map};
 ghost use Rattle.of_json.specs.Parts.{listed};
-ghost use Rattle.of_import_report.specs.Json.{counter_member, counters_member, entry_members, flow_object, group_object, item_members, marks_members, move_object};
+ghost use Rattle.of_import_report.specs.Json.{counter_member, counters_member, import_entry_members, flow_object, group_object, item_members, marks_members, move_object};
 
 use crate::refusals::push_line_member;
 use crate::strings::{begin_array, push_flag_member, push_string, push_strings};
@@ -137,9 +137,9 @@ fn push_marks_members(out: &mut Vec<u8>, marks: &FlowMarks) -> Result<(), AllocE
 }
 
 // Appends what a flow entry is.
-#[tactic(auto, unfolding(crate::specs::Json::entry_members))]
+#[tactic(auto, unfolding(crate::specs::Json::import_entry_members))]
 fn push_flow_members(out: &mut Vec<u8>, it: &FlowLine) -> Result<(), AllocError>
-    ensures { OnOk result (out.new.items ≡ out.old.items ++ entry_members it.now) }
+    ensures { OnOk result (out.new.items ≡ out.old.items ++ import_entry_members it.now) }
 {
     push_line_member(out, it.line)?;
     push_number_member(out, b"table", u128::from(it.flow.head.table))?;

@@ -2,7 +2,7 @@
 ghost use Rattle.std.specs.Prelude.{◌≡◌, map, IfOk, OnOk};
 ghost use Rattle.std.specs.List.{fold, list_any};
 ghost use Rattle.std.specs.Str.{bytes_eq};
-ghost use Rattle.of_import_report.specs.Keywords.{has_keyword, keyword as keyword_of, keywords_in, lines_with, with_keyword, with_line};
+ghost use Rattle.of_import_report.specs.Keywords.{has_keyword, keyword_of_fault as keyword_of, keywords_in, lines_with, with_keyword, keywords_with_line};
 ghost use Rattle.of_import_report.specs.Views.{view_names};
 
 use of_import::{LineFaults, WordFault, name_of};
@@ -42,7 +42,7 @@ fn add_keyword(alloc: Global, names: &mut Vec<Vec<u8>>, fault: &WordFault) -> Re
 
 // Adds the keywords of a line.
 fn add_line(alloc: Global, names: &mut Vec<Vec<u8>>, line: &LineFaults) -> Result<(), AllocError>
-    ensures { OnOk result (view_names names.new.items ≡ with_line (view_names names.old.items) line.now) }
+    ensures { OnOk result (view_names names.new.items ≡ keywords_with_line (view_names names.old.items) line.now) }
 {
     for fault in line.faults.iter() {
         add_keyword(alloc, names, fault)?;

@@ -3,8 +3,8 @@ ghost use Rattle.std.specs.Prelude.{◌≡◌, ◌++◌, ◌∷◌, codes, OnOk}
 ghost use Rattle.std.specs.List.{flat_map};
 ghost use Rattle.std.specs.Option.{option_map};
 ghost use Rattle.of_json.specs.Parts.{listed};
-ghost use Rattle.of_wire.specs.CodeNames.{name_of as error_name};
-ghost use Rattle.of_import_report.specs.Json.{error_member, fault_object, keyword_object, line_member, refusal_object, refused_members, word_object};
+ghost use Rattle.of_wire.specs.CodeNames.{error_name};
+ghost use Rattle.of_import_report.specs.Json.{error_member, fault_object, keyword_object, import_line_member, refusal_object, refused_members, word_object};
 ghost use Rattle.of_import_report.specs.Keywords.{keywords_in};
 ghost use Rattle.of_import_report.specs.Strings.{array_member};
 ghost use Rattle.of_import_report.specs.Views.{view_names};
@@ -19,9 +19,9 @@ use of_wire::Code;
 use std::alloc::{AllocError, Global};
 
 /// Appends the first member of an object: a line.
-#[tactic(auto, unfolding(crate::specs::Json::line_member))]
+#[tactic(auto, unfolding(crate::specs::Json::import_line_member))]
 pub fn push_line_member(out: &mut Vec<u8>, line: usize) -> Result<(), AllocError>
-    ensures { OnOk result (out.new.items ≡ out.old.items ++ line_member line) }
+    ensures { OnOk result (out.new.items ≡ out.old.items ++ import_line_member line) }
 {
     push_key(out, b"line")?;
     push_decimal(out, line as u128)

@@ -3,7 +3,7 @@ ghost use Rattle.std.specs.Prelude.{◌≡◌, ◌++◌, ◌∷◌, [], OnOk};
 ghost use Rattle.std.specs.List.{flat_map};
 ghost use Rattle.of_json.specs.Parts.{key, listed};
 ghost use Rattle.of_import.specs.Notes.{shown};
-ghost use Rattle.of_import_report.specs.Json.{truth_member};
+ghost use Rattle.of_import_report.specs.Json.{import_truth_member};
 ghost use Rattle.of_import_report.specs.Strings.{escaped, string, string_of};
 
 use of_json::{push_key, push_truth};
@@ -86,9 +86,9 @@ pub fn begin_array(out: &mut Vec<u8>, name: &[u8]) -> Result<(), AllocError>
 }
 
 /// Appends a further member: true or false.
-#[tactic(auto, unfolding(crate::specs::Json::truth_member))]
+#[tactic(auto, unfolding(crate::specs::Json::import_truth_member))]
 pub fn push_flag_member(out: &mut Vec<u8>, name: &[u8], flag: bool) -> Result<(), AllocError>
-    ensures { OnOk result (out.new.items ≡ out.old.items ++ truth_member name.now flag) }
+    ensures { OnOk result (out.new.items ≡ out.old.items ++ import_truth_member name.now flag) }
 {
     out.push(b',')?;
     push_key(out, name)?;

@@ -27,8 +27,8 @@ use Rattle.of_actions.specs.declared.rows.ActionRow.{ActionRow}
 use Rattle.of_actions.specs.declared.rows.Form.{Form}
 use Rattle.of_actions.specs.declared.rows.Form.TheVariants as forms
 use Rattle.of_actions.specs.declared.rows.TheConstants.{ACTIONS}
-use Rattle.of_actions.specs.Rows.{row_of, said, action_saying}
-use Rattle.of_actions.specs.Actions.{action_at, action_refusals, argument_of, form_refusals, type_refusals, unknown_type, wrong_size, actions_of, AreActions}
+use Rattle.of_actions.specs.Rows.{action_row, said, action_saying}
+use Rattle.of_actions.specs.Actions.{action_at, wire_action_refusals, argument_of, form_refusals, type_refusals, unknown_type, wrong_size, actions_of, AreActions}
 use Rattle.of_actions.specs.Beginnings.{type_at, len_at}
 use Rattle.of_actions.specs.PortNumbers.{is_port}
 use Rattle.of_actions.specs.Supported.{is_allowed, is_supported, are_supported}
@@ -36,7 +36,7 @@ use Rattle.of_actions.specs.SetField.{settable, set_field_at, set_value_at, set_
 use Rattle.of_actions.proofs.ActionLists.{is_served_list, served_is}
 use Rattle.of_actions.proofs.RowLemmas.{is_said, said_again}
 use Rattle.of_laws.specs.ActionStructs.{action_cells, action_type, action_types, said_cells, AreStructs}
-use Rattle.of_laws.specs.Cells.{u16, Begins}
+use Rattle.of_laws.specs.Cells.{u16_cell, Begins}
 use Rattle.of_laws.proofs.ActionTails.{behind_none, form_is, form_of, has_sample, row_again, sample}
 use Rattle.of_laws.proofs.Places.{Says, says, size, rest_is, size_is, front_of}
 
@@ -49,23 +49,23 @@ record Head (packet_out : Bool) (seen : List Action) (rest : List ℕ) : Type 0 
   whole : len_at rest ≤ length rest
   kind : first_of (type_refusals packet_out rest) ≡ None
 
-head : (packet_out : Bool) (seen : List Action) (rest : List ℕ) → first_of (action_refusals packet_out seen rest) ≡ None → Head packet_out seen rest
-unfolding action_refusals
+head : (packet_out : Bool) (seen : List Action) (rest : List ℕ) → first_of (wire_action_refusals packet_out seen rest) ≡ None → Head packet_out seen rest
+unfolding wire_action_refusals
 head packet_out seen rest none =
-    let n = none_applies (action_refusals packet_out seen rest) none in
+    let n = none_applies (wire_action_refusals packet_out seen rest) none in
     let room = n.0 in
     let fits = n.1.1.0 in
-    record { few = grind (arith, nat_tests); long = grind (arith, nat_tests); whole = grind (arith, nat_tests); kind = behind_none 3 (action_refusals packet_out seen rest) none }
+    record { few = grind (arith, nat_tests); long = grind (arith, nat_tests); whole = grind (arith, nat_tests); kind = behind_none 3 (wire_action_refusals packet_out seen rest) none }
 
 -- an action of the type that stands there, which says this
 record One (packet_out : Bool) (s : Argument) (rest : List ℕ) : Type 0 where
-  front : Begins (u16 (type_at rest) ∷ said_cells s) rest (drop (len_at rest) rest)
+  front : Begins (u16_cell (type_at rest) ∷ said_cells s) rest (drop (len_at rest) rest)
   served : is_allowed packet_out s ≡ true
 
 -- a struct of so many bytes
 struct : (packet_out : Bool) (s : Argument) (rest : List ℕ) (n : ℕ) → IsBytes rest → len_at rest ≡ n → n ≤ length rest → 2 + size (said_cells s) ≡ n → Says 2 (said_cells s) rest → is_allowed packet_out s ≡ true → One packet_out s rest
 struct packet_out s rest n fits len whole is says served =
-    let cells = u16 (type_at rest) ∷ said_cells s in
+    let cells = u16_cell (type_at rest) ∷ said_cells s in
     record {
       front = subst (λ (k : ℕ). Begins cells rest (drop k rest)) (is ∙ sym len) (front_of cells rest fits (omega (arith, is, whole)) (refl, says));
       served = served;
@@ -168,7 +168,7 @@ record OneAction (packet_out : Bool) (a : Action) (rest : List ℕ) : Type 0 whe
 
 one : (packet_out : Bool) (a : Action) (rest : List ℕ) → IsBytes rest → len_at rest ≤ length rest → first_of (type_refusals packet_out rest) ≡ None → action_at rest ≡ Some a → OneAction packet_out a rest
 unfolding type_refusals action_at is_supported
-one packet_out a rest fits whole none at = by_row (row_of (type_at rest)) none at
+one packet_out a rest fits whole none at = by_row (action_row (type_at rest)) none at
   where
     by_said : (form : Form) (o : Option Argument) → argument_of form rest ≡ o → first_of (form_refusals form packet_out rest) ≡ None → option_and_then (action_saying (type_at rest)) o ≡ Some a → OneAction packet_out a rest
     by_said form None is none at = absurd cc
@@ -176,8 +176,8 @@ one packet_out a rest fits whole none at = by_row (row_of (type_at rest)) none a
         let this = one_form packet_out form s rest fits whole none is in
         let e = is_said (type_at rest) s a at in
         record {
-          front = subst (λ (t : ℕ). Begins (u16 t ∷ said_cells (said a).1) rest (drop (len_at rest) rest)) (sym e.kind)
-              (subst (λ (u : Argument). Begins (u16 (type_at rest) ∷ said_cells u) rest (drop (len_at rest) rest)) (sym e.says) this.front);
+          front = subst (λ (t : ℕ). Begins (u16_cell t ∷ said_cells (said a).1) rest (drop (len_at rest) rest)) (sym e.kind)
+              (subst (λ (u : Argument). Begins (u16_cell (type_at rest) ∷ said_cells u) rest (drop (len_at rest) rest)) (sym e.says) this.front);
           served = ap (is_allowed packet_out) e.says ∙ this.served;
         }
 
@@ -259,7 +259,7 @@ pub passes : (packet_out : Bool) (a : Action) (rest : List ℕ) → Says 0 (acti
 unfolding type_refusals action_at is_supported
 passes packet_out a rest y served =
     let p = form_passes packet_out (said a).1 rest y.1 served in
-    let row : row_of (type_at rest) ≡ Some (said a).0 = ap row_of y.0 ∙ row_again a in
+    let row : action_row (type_at rest) ≡ Some (said a).0 = ap action_row y.0 ∙ row_again a in
     record {
       len = p.len;
       some = p.some;
@@ -272,8 +272,8 @@ passes packet_out a rest y served =
           ∙ ap (λ (t : ℕ). action_saying t (said a).1) y.0 ∙ said_again a;
     }
 
-none_refused : (packet_out : Bool) (seen : List Action) (rest : List ℕ) (n : ℕ) → length seen ≤ 63 → len_at rest ≡ n → 8 ≤ n → n % 8 ≡ 0 → n ≤ length rest → first_of (type_refusals packet_out rest) ≡ None → first_of (action_refusals packet_out seen rest) ≡ None
-unfolding action_refusals
+none_refused : (packet_out : Bool) (seen : List Action) (rest : List ℕ) (n : ℕ) → length seen ≤ 63 → len_at rest ≡ n → 8 ≤ n → n % 8 ≡ 0 → n ≤ length rest → first_of (type_refusals packet_out rest) ≡ None → first_of (wire_action_refusals packet_out seen rest) ≡ None
+unfolding wire_action_refusals
 none_refused packet_out seen rest n few len some eights whole none =
     let room : ltb 63 (length seen) ≡ false = le-ltb _ _ few in
     let short : ltb (length rest) 4 ≡ false = le-ltb _ _ (omega (arith, some, whole)) in

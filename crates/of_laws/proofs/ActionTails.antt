@@ -24,9 +24,9 @@ use Rattle.of_actions.specs.declared.rows.Form.{Form}
 use Rattle.of_actions.specs.declared.rows.Form.TheVariants as forms
 use Rattle.of_actions.specs.declared.rows.TheConstants.{ACTIONS}
 use Rattle.of_actions.specs.Beginnings.{argument_at, type_at, len_at}
-use Rattle.of_actions.specs.Rows.{row_of, said, action_saying}
+use Rattle.of_actions.specs.Rows.{action_row, said, action_saying}
 use Rattle.of_actions.specs.SetField.{set_field_at, set_value_at, set_refusals, known_set_refusals}
-use Rattle.of_actions.specs.Actions.{actions_of, action_refusals, argument_of, form_refusals, type_refusals, unknown_type, action_at, actions_said, AreActions}
+use Rattle.of_actions.specs.Actions.{actions_of, wire_action_refusals, argument_of, form_refusals, type_refusals, unknown_type, action_at, actions_said, AreActions}
 use Rattle.of_laws.proofs.Items.{HasValues, are_items}
 
 -- where none is refused, none of the later ones is
@@ -40,9 +40,9 @@ behind_none (suc n) (r ∷ rs) h = by_test r.0 h (behind_none n rs)
     by_test false e next = next e
 
 actions_take : (packet_out : Bool) → TakesBytes (actions_of packet_out)
-unfolding action_refusals
+unfolding wire_action_refusals
 actions_take packet_out seen bytes some none =
-    let low : ltb (len_at bytes) 8 ≡ false = first_false _ _ (first_false _ _ (none_applies (action_refusals packet_out seen bytes) none).1.1.0) in
+    let low : ltb (len_at bytes) 8 ≡ false = first_false _ _ (first_false _ _ (none_applies (wire_action_refusals packet_out seen bytes) none).1.1.0) in
     omega (arith, ltb-false (len_at bytes) 8 low)
 
 -- ---- rows and what they say
@@ -72,7 +72,7 @@ pub form_is : (a : Action) → (said a).0.form ≡ form_of (said a).1
 form_is PopVlan = refl
 form_is other = refl
 
-pub row_again : (a : Action) → row_of (said a).0.kind ≡ Some (said a).0
+pub row_again : (a : Action) → action_row (said a).0.kind ≡ Some (said a).0
 row_again PopVlan = refl
 row_again other = refl
 
@@ -115,16 +115,16 @@ form_has packet_out forms.Port type rest h = record { has = λ none. said_has ty
 
 some_type : (packet_out : Bool) (rest : List ℕ) → Has (type_refusals packet_out rest) (action_at rest)
 unfolding type_refusals action_at
-some_type packet_out rest = by_row (row_of (type_at rest)) refl
+some_type packet_out rest = by_row (action_row (type_at rest)) refl
   where
-    by_row : (o : Option ActionRow) → row_of (type_at rest) ≡ o
+    by_row : (o : Option ActionRow) → action_row (type_at rest) ≡ o
         → Has (option_map_or (λ (r : ActionRow). form_refusals r.form packet_out rest) o ((true, unknown_type (type_at rest)) ∷ [])) (option_and_then (action_saying (type_at rest)) (option_and_then (λ (r : ActionRow). argument_of r.form rest) o))
     by_row None is = record { has = λ none. absurd cc }
     by_row (Some r) is = form_has packet_out r.form (type_at rest) rest (row_has (type_at rest) ACTIONS r is refl)
 
 actions_have : (packet_out : Bool) → HasValues (actions_of packet_out)
-unfolding action_refusals
-actions_have packet_out seen bytes some none = (some_type packet_out bytes).has (behind_none 3 (action_refusals packet_out seen bytes) none)
+unfolding wire_action_refusals
+actions_have packet_out seen bytes some none = (some_type packet_out bytes).has (behind_none 3 (wire_action_refusals packet_out seen bytes) none)
 
 pub actions_found : (packet_out : Bool) (bytes : List ℕ) (actions : List Action) → actions_said packet_out bytes ≡ Ok actions → AreActions packet_out [] bytes actions None
 unfolding actions_said

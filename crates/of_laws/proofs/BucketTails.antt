@@ -15,11 +15,11 @@ use Rattle.of_actions.specs.declared.action.Action.{Action}
 use Rattle.of_actions.specs.Actions.{actions_said}
 use Rattle.of_actions.proofs.ActionsComputed.{actions_are}
 use Rattle.of_groups.specs.declared.bucket.Bucket.{Bucket}
-use Rattle.of_messages.specs.Buckets.{buckets, bucket_at, bucket_with, bucket_refusals, buckets_said, actions_in, fault_of, len_at}
+use Rattle.of_messages.specs.Buckets.{buckets, bucket_of_bytes, bucket_with, bucket_refusals, buckets_said, actions_in, actions_fault, bucket_len_at}
 use Rattle.of_messages.proofs.BucketLemmas.{buckets_take}
 use Rattle.of_formats.specs.Structs.{numbers}
 use Rattle.of_formats.specs.Tables as tables
-use Rattle.of_laws.specs.Buckets.{bucket_cells, IsBucket, AreBuckets}
+use Rattle.of_laws.specs.Buckets.{bucket_cells, BeginsWithBucket, AreBuckets}
 use Rattle.of_laws.proofs.ActionTails.{behind_none, actions_found}
 use Rattle.of_laws.proofs.Items.{HasValues, are_items}
 use Rattle.of_laws.proofs.Places.{says, rest_is, size_is, front_of}
@@ -27,49 +27,49 @@ use Rattle.of_laws.proofs.Places.{says, rest_is, size_is, front_of}
 -- ---- from buckets to bytes
 
 -- over a variable, where nothing has computed to bytes yet
-pub bucket_left : (seen : List Bucket) (rest : List ℕ) (n : ℕ) → len_at rest ≡ n → 16 ≤ n → n % 8 ≡ 0 → n ≤ length rest
-    → first_of (bucket_refusals seen rest) ≡ first_of ((ltb 15 (length seen), refusal 6 4) ∷ fault_of (actions_said false (actions_in rest)))
+pub bucket_left : (seen : List Bucket) (rest : List ℕ) (n : ℕ) → bucket_len_at rest ≡ n → 16 ≤ n → n % 8 ≡ 0 → n ≤ length rest
+    → first_of (bucket_refusals seen rest) ≡ first_of ((ltb 15 (length seen), refusal 6 4) ∷ actions_fault (actions_said false (actions_in rest)))
 unfolding bucket_refusals
 bucket_left seen rest n len low eights whole =
     let short : ltb (length rest) 16 ≡ false = le-ltb _ _ (omega (arith, low, whole)) in
     let low' : ltb n 16 ≡ false = le-ltb _ _ low in
     let eight' : eqb (n % 8) 0 ≡ true = eq-eqb _ _ eights in
     let whole' : ltb (length rest) n ≡ false = le-ltb _ _ whole in
-    let third : ((ltb (len_at rest) 16 || not (eqb (len_at rest % 8) 0)) || ltb (length rest) (len_at rest)) ≡ false =
+    let third : ((ltb (bucket_len_at rest) 16 || not (eqb (bucket_len_at rest % 8) 0)) || ltb (length rest) (bucket_len_at rest)) ≡ false =
     ap (λ (k : ℕ). (ltb k 16 || not (eqb (k % 8) 0)) || ltb (length rest) k) len ∙ ap (λ (b : Bool). (b || not (eqb (n % 8) 0)) || ltb (length rest) n) low' ∙ ap (λ (b : Bool). not b || ltb (length rest) n) eight' ∙ whole' in
-    ap (λ (s : Bool). first_of ((ltb 15 (length seen), refusal 6 4) ∷ (s, refusal 6 12) ∷ ((ltb (len_at rest) 16 || not (eqb (len_at rest % 8) 0)) || ltb (length rest) (len_at rest), refusal 6 12) ∷ fault_of (actions_said false (actions_in rest)))) short
-    ∙ ap (λ (s : Bool). first_of ((ltb 15 (length seen), refusal 6 4) ∷ (false, refusal 6 12) ∷ (s, refusal 6 12) ∷ fault_of (actions_said false (actions_in rest)))) third
+    ap (λ (s : Bool). first_of ((ltb 15 (length seen), refusal 6 4) ∷ (s, refusal 6 12) ∷ ((ltb (bucket_len_at rest) 16 || not (eqb (bucket_len_at rest % 8) 0)) || ltb (length rest) (bucket_len_at rest), refusal 6 12) ∷ actions_fault (actions_said false (actions_in rest)))) short
+    ∙ ap (λ (s : Bool). first_of ((ltb 15 (length seen), refusal 6 4) ∷ (false, refusal 6 12) ∷ (s, refusal 6 12) ∷ actions_fault (actions_said false (actions_in rest)))) third
 
-none_refused : (seen : List Bucket) (rest : List ℕ) (n : ℕ) (actions : List Action) → length seen ≤ 15 → len_at rest ≡ n → 16 ≤ n → n % 8 ≡ 0 → n ≤ length rest → actions_said false (actions_in rest) ≡ Ok actions → first_of (bucket_refusals seen rest) ≡ None
+none_refused : (seen : List Bucket) (rest : List ℕ) (n : ℕ) (actions : List Action) → length seen ≤ 15 → bucket_len_at rest ≡ n → 16 ≤ n → n % 8 ≡ 0 → n ≤ length rest → actions_said false (actions_in rest) ≡ Ok actions → first_of (bucket_refusals seen rest) ≡ None
 none_refused seen rest n actions few len low eights whole said =
     let room : ltb 15 (length seen) ≡ false = le-ltb _ _ few in
-    bucket_left seen rest n len low eights whole ∙ rw room (ap (λ (r : Result (List Action) Code). first_of (fault_of r)) said)
+    bucket_left seen rest n len low eights whole ∙ rw room (ap (λ (r : Result (List Action) Code). first_of (actions_fault r)) said)
 
 -- what bytes say that begin with a bucket
 record Begun (b : Bucket) (rest after : List ℕ) : Type 0 where
-  len : len_at rest ≡ 16 + length (actions_in rest)
+  len : bucket_len_at rest ≡ 16 + length (actions_in rest)
   long : 16 + length (actions_in rest) ≤ length rest
   eights : (16 + length (actions_in rest)) % 8 ≡ 0
   said : actions_said false (actions_in rest) ≡ Ok b.actions
-  at : bucket_at rest ≡ Some b
-  behind : drop (len_at rest) rest ≡ after
+  at : bucket_of_bytes rest ≡ Some b
+  behind : drop (bucket_len_at rest) rest ≡ after
 
 unused : (b : Bucket) (n k : ℕ) → b.packets ≡ n → b.bytes ≡ k → record { weight = b.weight; watch_port = b.watch_port; watch_group = b.watch_group; actions = b.actions; packets = n; bytes = k } ≡ b
 unused b n k packets bytes = rw (← packets, ← bytes) refl
 
-begun : (b : Bucket) (rest after : List ℕ) → IsBucket b rest after → Begun b rest after
-unfolding bucket_at
+begun : (b : Bucket) (rest after : List ℕ) → BeginsWithBucket b rest after → Begun b rest after
+unfolding bucket_of_bytes
 begun b rest after h =
     let actions = h.actions in
     let cells = bucket_cells (16 + length actions) b in
     let s = says 0 cells rest rest (actions ++ after) refl h.front in
-    let len : len_at rest ≡ 16 + length actions = s.0 in
+    let len : bucket_len_at rest ≡ 16 + length actions = s.0 in
     let tail : actions ++ after ≡ drop 16 rest = rest_is cells rest (actions ++ after) h.front in
     let long : length rest ≡ 16 + length (actions ++ after) = size_is cells rest (actions ++ after) h.front in
-    let there : actions_in rest ≡ actions = ap (λ (x : List ℕ). take (len_at rest - 16) x) (sym tail) ∙ take_at actions after (len_at rest - 16) (omega arith) in
+    let there : actions_in rest ≡ actions = ap (λ (x : List ℕ). take (bucket_len_at rest - 16) x) (sym tail) ∙ take_at actions after (bucket_len_at rest - 16) (omega arith) in
     let said : actions_said false (actions_in rest) ≡ Ok b.actions = ap (actions_said false) there ∙ actions_are false actions b.actions None h.are in
-    let whole : len_at rest ≡ length actions + 16 = omega arith in
-    let behind : drop (len_at rest) rest ≡ after = ap (λ (n : ℕ). drop n rest) (len ∙ omega arith) ∙ sym (drop-drop (length actions) 16 rest) ∙ ap (drop (length actions)) (sym tail) ∙ drop_at actions after (length actions) refl in
+    let whole : bucket_len_at rest ≡ length actions + 16 = omega arith in
+    let behind : drop (bucket_len_at rest) rest ≡ after = ap (λ (n : ℕ). drop n rest) (len ∙ omega arith) ∙ sym (drop-drop (length actions) 16 rest) ∙ ap (drop (length actions)) (sym tail) ∙ drop_at actions after (length actions) refl in
     record {
       len = len ∙ ap (λ (x : List ℕ). 16 + length x) (sym there);
       long = omega (arith, ap length there, length-append actions after);
@@ -94,47 +94,47 @@ buckets_only bs bytes few h = items_are buckets (length bytes) [] bytes bs None 
 
 -- ---- from bytes to buckets
 
-some_bucket : (rest : List ℕ) (r : Result (List Action) Code) → first_of (fault_of r) ≡ None → IsSome (bucket_with (numbers tables.bucket 0 rest) r)
+some_bucket : (rest : List ℕ) (r : Result (List Action) Code) → first_of (actions_fault r) ≡ None → IsSome (bucket_with (numbers tables.bucket 0 rest) r)
 some_bucket rest (Ok actions) h = refl
 some_bucket rest (Err code) h = absurd cc
 
 buckets_have : HasValues buckets
-unfolding bucket_refusals bucket_at
+unfolding bucket_refusals bucket_of_bytes
 buckets_have seen bytes some none = some_bucket bytes (actions_said false (actions_in bytes)) (behind_none 3 (bucket_refusals seen bytes) none)
 
 -- what holds of a bucket that is not refused
 record Passes (seen : List Bucket) (rest : List ℕ) : Type 0 where
   few : length seen ≤ 15
-  low : 16 ≤ len_at rest
-  eights : len_at rest % 8 ≡ 0
-  long : len_at rest ≤ length rest
+  low : 16 ≤ bucket_len_at rest
+  eights : bucket_len_at rest % 8 ≡ 0
+  long : bucket_len_at rest ≤ length rest
 
 passes : (seen : List Bucket) (rest : List ℕ) → first_of (bucket_refusals seen rest) ≡ None → Passes seen rest
 unfolding bucket_refusals
 passes seen rest none =
     let n = none_applies (bucket_refusals seen rest) none in
     let room = n.0 in
-    let fits : ((ltb (len_at rest) 16 || not (eqb (len_at rest % 8) 0)) || ltb (length rest) (len_at rest)) ≡ false = n.1.1.0 in
+    let fits : ((ltb (bucket_len_at rest) 16 || not (eqb (bucket_len_at rest % 8) 0)) || ltb (length rest) (bucket_len_at rest)) ≡ false = n.1.1.0 in
     record { few = grind (arith, nat_tests); low = grind (arith, nat_tests); eights = grind (arith, nat_tests); long = grind (arith, nat_tests) }
 
-bucket_found : (b : Bucket) (seen : List Bucket) (rest : List ℕ) → IsBytes rest → Passes seen rest → bucket_at rest ≡ Some b → IsBucket b rest (drop (len_at rest) rest)
-unfolding bucket_at
+bucket_found : (b : Bucket) (seen : List Bucket) (rest : List ℕ) → IsBytes rest → Passes seen rest → bucket_of_bytes rest ≡ Some b → BeginsWithBucket b rest (drop (bucket_len_at rest) rest)
+unfolding bucket_of_bytes
 bucket_found b seen rest fits p at = by_actions (actions_said false (actions_in rest)) refl at
   where
-    by_actions : (r : Result (List Action) Code) → actions_said false (actions_in rest) ≡ r → bucket_with (numbers tables.bucket 0 rest) r ≡ Some b → IsBucket b rest (drop (len_at rest) rest)
+    by_actions : (r : Result (List Action) Code) → actions_said false (actions_in rest) ≡ r → bucket_with (numbers tables.bucket 0 rest) r ≡ Some b → BeginsWithBucket b rest (drop (bucket_len_at rest) rest)
     by_actions (Err code) said e = absurd cc
     by_actions (Ok actions) said e =
         let made : Bucket = record { weight = big_number 2 (drop 2 rest); watch_port = big_number 4 (drop 4 rest); watch_group = big_number 4 (drop 8 rest); actions = actions; packets = 0; bytes = 0 } in
         let same : made ≡ b = cc in
         let low = p.low in
         let long = p.long in
-        let size : length (actions_in rest) ≡ len_at rest - 16 = omega (arith, length-take (len_at rest - 16) (drop 16 rest), length-drop 16 rest) in
-        let whole : 16 + length (actions_in rest) ≡ len_at rest = omega arith in
-        let after : drop (len_at rest - 16) (drop 16 rest) ≡ drop (len_at rest) rest = drop-drop (len_at rest - 16) 16 rest ∙ ap (λ (n : ℕ). drop n rest) (omega arith) in
-        let tail : drop 16 rest ≡ actions_in rest ++ drop (len_at rest) rest = sym (take-append-drop (len_at rest - 16) (drop 16 rest)) ∙ ap (λ (x : List ℕ). actions_in rest ++ x) after in
+        let size : length (actions_in rest) ≡ bucket_len_at rest - 16 = omega (arith, length-take (bucket_len_at rest - 16) (drop 16 rest), length-drop 16 rest) in
+        let whole : 16 + length (actions_in rest) ≡ bucket_len_at rest = omega arith in
+        let after : drop (bucket_len_at rest - 16) (drop 16 rest) ≡ drop (bucket_len_at rest) rest = drop-drop (bucket_len_at rest - 16) 16 rest ∙ ap (λ (n : ℕ). drop n rest) (omega arith) in
+        let tail : drop 16 rest ≡ actions_in rest ++ drop (bucket_len_at rest) rest = sym (take-append-drop (bucket_len_at rest - 16) (drop 16 rest)) ∙ ap (λ (x : List ℕ). actions_in rest ++ x) after in
         let cells = bucket_cells (16 + length (actions_in rest)) made in
         let front = front_of cells rest fits (omega arith) (sym whole, (refl, (refl, (refl, tt)))) in
-        subst (λ (x : Bucket). IsBucket x rest (drop (len_at rest) rest)) same (record {
+        subst (λ (x : Bucket). BeginsWithBucket x rest (drop (bucket_len_at rest) rest)) same (record {
           actions = actions_in rest;
           front = rw (← tail) front;
           are = actions_found false (actions_in rest) actions said;
@@ -152,8 +152,8 @@ buckets_of_items seen [] [] fits h = record { are = refl; few = λ few. omega ar
 buckets_of_items seen [] (x ∷ xs) fits h = let none : false ≡ true = h.1 in absurd cc
 buckets_of_items seen (b ∷ bs) bytes fits h =
     let p = passes seen bytes h.1 in
-    let after = drop (len_at bytes) bytes in
-    let others = buckets_of_items (seen ++ b ∷ []) bs after (IsBytes-drop (len_at bytes) bytes fits) h.3 in
+    let after = drop (bucket_len_at bytes) bytes in
+    let others = buckets_of_items (seen ++ b ∷ []) bs after (IsBytes-drop (bucket_len_at bytes) bytes fits) h.3 in
     let room = p.few in
     let more : length (seen ++ b ∷ []) ≡ length seen + 1 = length-append seen (b ∷ []) in
     let rest = others.few (omega arith) in

@@ -12,7 +12,7 @@ use Rattle.of_messages.specs.Written.{hello_bytes}
 use Rattle.of_session.specs.declared.session.Phase.TheVariants.{Open}
 use Rattle.of_session.specs.declared.session.Next.{Next}
 use Rattle.of_session.specs.declared.session.Next.TheVariants.{Read}
-use Rattle.of_session.specs.Stream.{Whole, IsMessage, beginning_of}
+use Rattle.of_session.specs.Stream.{Whole, IsWholeMessage, beginning_of}
 use Rattle.of_session.specs.Session.{greeting}
 use Rattle.of_session.proofs.Fronts.{message_front}
 use Rattle.of_build.specs.Building.{hello}
@@ -33,7 +33,7 @@ ready k = record { connection = record { phase = Open; pending = [] }; core = k 
 abbrev having : List ℕ → Core → State
 having m k = record { connection = record { phase = Open; pending = m }; core = k }
 
-next_read : (m : List ℕ) (k : Core) (message : Message) → IsMessage m → k.control.role ≡ Equal → message_of m ≡ Ok message → coming (having m k) ≡ Read (xid_of m) (length m) message
+next_read : (m : List ℕ) (k : Core) (message : Message) → IsWholeMessage m → k.control.role ≡ Equal → message_of m ≡ Ok message → coming (having m k) ≡ Read (xid_of m) (length m) message
 next_read m k message one role is =
     let whole : beginning_of m ≡ Whole m [] = ap beginning_of (sym (append-nil m)) ∙ message_front m [] one in
     rw (whole, role, is) refl
@@ -45,7 +45,7 @@ all_taken : (m : List ℕ) (k : Core) → beside (record { phase = Open; pending
 all_taken m k = ap (λ (x : List ℕ). gives [] (record { connection = record { phase = Open; pending = x }; core = k })) (drop_all (length m) m (omega arith))
 
 -- THE MESSAGE is handled, and then nothing is left
-pub handles : (m : List ℕ) (k k' : Core) (message : Message) → IsMessage m → k.control.role ≡ Equal → message_of m ≡ Ok message
+pub handles : (m : List ℕ) (k k' : Core) (message : Message) → IsWholeMessage m → k.control.role ≡ Equal → message_of m ≡ Ok message
     → first_of (state_refusals message k) ≡ None → done (xid_of m) message k ≡ does [] k'
     → happened (Chunk m) (ready k) ≡ record { report = Gives []; state = ready k' }
 handles m k k' message one role is none does_it =

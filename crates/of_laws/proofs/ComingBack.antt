@@ -15,7 +15,7 @@ use Rattle.of_groups.proofs.NameLemmas.{or_first, or_true}
 use Rattle.of_table.specs.Tables.{no_tables, tables_of as empty_tables}
 use Rattle.of_text.specs.Rows.{Fits}
 use Rattle.of_text.specs.Groups.{TextBucket, TextGroup, bucket_of, bucket_rows, group_at, group_rows, groups_at, rows_of_groups}
-use Rattle.of_text.specs.Flows.{Flow as TextFlow, flow_rows, rows_of as rows_of_flows}
+use Rattle.of_text.specs.Flows.{Flow as TextFlow, flow_rows, rows_of_all_flows as rows_of_flows}
 use Rattle.of_text.specs.Kept.{AllStandBehind, AreKeptGroups, IsEntry}
 use Rattle.of_text.specs.Configs.{Configuration, IsConfig, EncodeConfig, all_flows, config_text}
 use Rattle.of_text.specs.Lines.{lines_of as text_lines}
@@ -37,11 +37,11 @@ use Rattle.of_switch.specs.Loading.{config_of}
 use Rattle.of_switch.specs.State.{State, new_core, start}
 use Rattle.of_switch.specs.Runs.{Gives, Run, run}
 use Rattle.of_switch.proofs.ToldAgain.{told_again}
-use Rattle.of_replay.specs.FileRuns.{after, switch_text}
-use Rattle.of_replay.specs.Lexing.{lines_of}
+use Rattle.of_replay.specs.FileRuns.{state_after_rows, switch_text}
+use Rattle.of_replay.specs.Lexing.{lines_of_file}
 use Rattle.of_replay.specs.Play.{lines_read}
-use Rattle.of_replay.specs.Rows.{Rows, rows_of}
-use Rattle.of_laws.specs.RoundTrip.{ComesBack, run_of}
+use Rattle.of_replay.specs.Rows.{Rows, rows_of_lines}
+use Rattle.of_laws.specs.RoundTrip.{ComesBack, run_of_file}
 use Rattle.of_laws.proofs.ByteLemmas.{are_bytes}
 use Rattle.of_laws.proofs.FlowsAdded.{AreSent, IsSent, flow_events, flows_lead, flows_shown}
 use Rattle.of_laws.proofs.GroupsAdded.{AreSentGroups, IsSentGroup, group_events, groups_lead, groups_shown}
@@ -166,7 +166,7 @@ pub comes_back : (text : List ℕ) (config : Configuration) (dpid : ℕ) → Enc
 comes_back text config dpid s =
     let k = encoded_config (text_lines text) config s in
     let rows = file_means config k in
-    let all : run_of dpid (build_text config) ≡ record { reports = Gives (Answer hello_bytes ∷ []) ∷ replicate (length (Chunk hello ∷ later config)) (Gives []); state = ready (built dpid (groups_at 0 config.groups) (loaded_tables 0 config.tables)) } =
+    let all : run_of_file dpid (build_text config) ≡ record { reports = Gives (Answer hello_bytes ∷ []) ∷ replicate (length (Chunk hello ∷ later config)) (Gives []); state = ready (built dpid (groups_at 0 config.groups) (loaded_tables 0 config.tables)) } =
     ap (λ (r : Rows). run r.events (start dpid)) rows ∙ whole_run dpid config k in
     record {
       good = ap (λ (r : Rows). r.bad) rows;
@@ -178,11 +178,11 @@ comes_back text config dpid s =
 
 -- ---- and back to text
 
-pub good_again : (text file : List ℕ) → BuildsOf text file → (rows_of (lines_read true file)).bad ≡ None
-good_again text file b = ap (λ (bytes : List ℕ). (rows_of (lines_of bytes)).bad) b.is ∙ (comes_back text b.config 1 b.encoded).good
+pub good_again : (text file : List ℕ) → BuildsOf text file → (rows_of_lines (lines_read true file)).bad ≡ None
+good_again text file b = ap (λ (bytes : List ℕ). (rows_of_lines (lines_of_file bytes)).bad) b.is ∙ (comes_back text b.config 1 b.encoded).good
 
-pub text_again : (text file : List ℕ) (config : Configuration) → BuildsOf text file → EncodeConfig (text_lines text) config → switch_text (after (rows_of (lines_read true file))) ≡ config_text config
+pub text_again : (text file : List ℕ) (config : Configuration) → BuildsOf text file → EncodeConfig (text_lines text) config → switch_text (state_after_rows (rows_of_lines (lines_read true file))) ≡ config_text config
 text_again text file config b s =
     let same : b.config ≡ config = one_config (text_lines text) b.config config b.encoded s in
-    ap (λ (bytes : List ℕ). switch_text (after (rows_of (lines_of bytes)))) b.is
+    ap (λ (bytes : List ℕ). switch_text (state_after_rows (rows_of_lines (lines_of_file bytes)))) b.is
     ∙ (ap config_text (comes_back text b.config 1 b.encoded).config_is ∙ ap config_text same)

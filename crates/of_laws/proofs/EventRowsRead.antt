@@ -15,8 +15,8 @@ use Rattle.of_table.proofs.PlaceLemmas.{position-first, position-later}
 use Rattle.of_build.specs.Building.{chunk_line}
 use Rattle.of_switch.specs.declared.event.Event.{Event}
 use Rattle.of_switch.specs.declared.event.Event.TheVariants.{Chunk, Connect}
-use Rattle.of_replay.specs.Lexing.{whole_from, last_from, lines_of, is_line, bytes_of}
-use Rattle.of_replay.specs.Rows.{events_in, row_of, rows_of}
+use Rattle.of_replay.specs.Lexing.{whole_from, last_from, lines_of_file, is_line, hex_bytes}
+use Rattle.of_replay.specs.Rows.{events_in, row_of_line, rows_of_lines}
 
 -- ---- lines
 
@@ -33,7 +33,7 @@ last_line front [] rest h = refl
 last_line front (b ∷ bs) rest h = rw h.0 (last_line (front ++ b ∷ []) bs rest h.1)
 
 -- a line, and then the lines of the rest
-next_line : (line rest : List ℕ) → IsOne line → lines_of (line ++ 10 ∷ rest) ≡ line ∷ lines_of rest
+next_line : (line rest : List ℕ) → IsOne line → lines_of_file (line ++ 10 ∷ rest) ≡ line ∷ lines_of_file rest
 next_line line rest h = rw (whole_line [] line rest h, last_line [] line rest h) refl
 
 -- ---- the digits
@@ -82,7 +82,7 @@ space bytes =
     position-later (λ (b : ℕ). eqb b 32) 99 (32 ∷ encode_lower bytes) refl
     ∙ ap (option_map (λ n. n + 1)) (position-first (λ (b : ℕ). eqb b 32) 32 (encode_lower bytes) refl)
 
-pub bytes_again : (bytes : List ℕ) → 0 < length bytes → IsBytes bytes → bytes_of (encode_lower bytes) ≡ Some bytes
+pub bytes_again : (bytes : List ℕ) → 0 < length bytes → IsBytes bytes → hex_bytes (encode_lower bytes) ≡ Some bytes
 unfolding encode_with
 bytes_again [] some each = absurd (omega (arith, some))
 bytes_again (b ∷ bs) some each =
@@ -91,16 +91,16 @@ bytes_again (b ∷ bs) some each =
     let long : eqb (length (encode_lower (b ∷ bs))) 0 ≡ false = ne_eqb (length (encode_lower (b ∷ bs))) 0 (λ e. omega (arith, e, size)) in
     rw (other, long, decode_of-encode_lower (b ∷ bs) each) refl
 
-row_shown : (bytes : List ℕ) → IsShown bytes → row_of (shown bytes) ≡ Some (Some (Chunk bytes))
+row_shown : (bytes : List ℕ) → IsShown bytes → row_of_line (shown bytes) ≡ Some (Some (Chunk bytes))
 row_shown bytes h = rw (shown_line bytes h.few, space bytes, bytes_again bytes h.some h.each) refl
 
 -- ---- files
 
 -- the lines of the file mean these events, and none of them is bad
 abbrev pub Means : List ℕ → List Event → Type 0
-Means file events = rows_of (lines_of file) ≡ record { events = events; bad = None }
+Means file events = rows_of_lines (lines_of_file file) ≡ record { events = events; bad = None }
 
-pub means_row : (line rest : List ℕ) (row : Option Event) (events : List Event) → IsOne line → row_of line ≡ Some row → Means rest events → Means (line ++ 10 ∷ rest) (events_in row ++ events)
+pub means_row : (line rest : List ℕ) (row : Option Event) (events : List Event) → IsOne line → row_of_line line ≡ Some row → Means rest events → Means (line ++ 10 ∷ rest) (events_in row ++ events)
 means_row line rest row events one is others = rw (next_line line rest one, is, others) refl
 
 pub means_chunk : (bytes rest : List ℕ) (events : List Event) → IsShown bytes → Means rest events → Means (chunk_line bytes ++ rest) (Chunk bytes ∷ events)
@@ -108,7 +108,7 @@ means_chunk bytes rest events h others =
     let text : chunk_line bytes ++ rest ≡ shown bytes ++ 10 ∷ rest = ap (λ (x : List ℕ). 99 ∷ 32 ∷ x) (append_assoc (encode_lower bytes) (10 ∷ []) rest) in
     subst (λ (file : List ℕ). Means file (Chunk bytes ∷ events)) (sym text) (means_row (shown bytes) rest (Some (Chunk bytes)) events (refl, (refl, hex_one bytes)) (row_shown bytes h) others)
 
-pub connect_is : row_of (codes "connect") ≡ Some (Some Connect)
+pub connect_is : row_of_line (codes "connect") ≡ Some (Some Connect)
 unfolding is_utf8 chars encode
 connect_is = refl
 

@@ -18,10 +18,10 @@ use Rattle.of_table.proofs.PlaceLemmas.{position-first, position-later}
 use Rattle.of_switch.specs.declared.port_change.PortChange.{PortChange}
 use Rattle.of_switch.specs.declared.port_change.PortChange.TheVariants.{Add, Remove, Link}
 use Rattle.of_text.specs.Lines.{before, further, is_passed, joined}
-use Rattle.of_replay.specs.Lexing.{after_word, below, bytes_of, decimal as decimal_in, digits_value, first_word, hw_of, is_digit, is_line, is_name_byte, moment_of, name_of, number_of, state_of}
+use Rattle.of_replay.specs.Lexing.{after_first_word, below_limit, hex_bytes, decimal as decimal_in, value_of_decimal, first_word, hw_of, is_digit, is_line, is_name_byte, moment_of, name_in_word, word_number, state_of}
 use Rattle.of_switch.specs.declared.event.Event.TheVariants.{Connect, Lost, Chunk, Frame, Moment, Ports}
 use Rattle.of_switch.specs.declared.event.Event.{Event}
-use Rattle.of_replay.specs.Rows.{added_port, change_of, events_in, frame_row, linked_port, named_row, chunk_row, port_of, removed_port, row_of}
+use Rattle.of_replay.specs.Rows.{added_port, change_of, events_in, frame_row, linked_port, named_row, chunk_row, port_of, removed_port, row_of_line}
 use Rattle.of_laws.specs.RowText.{HasChangeText, HasLine, HasText, IsName, bytes_word, change_words, file_text, name_word, row_text, row_words, state_word}
 use Rattle.of_laws.proofs.EventRowsRead.{IsOne, Means, bytes_again, connect_is, means_end, means_row}
 
@@ -88,13 +88,13 @@ space_at (b ∷ bs) rest h =
 first_is : (w rest : List ℕ) → IsWord w → first_word (w ++ 32 ∷ rest) ≡ w
 first_is w rest h = rw (space_at w rest h) (take_at w (32 ∷ rest) (length w) refl)
 
-after_is : (w rest : List ℕ) → IsWord w → after_word (w ++ 32 ∷ rest) ≡ Some rest
+after_is : (w rest : List ℕ) → IsWord w → after_first_word (w ++ 32 ∷ rest) ≡ Some rest
 after_is w rest h =
     let parts : w ++ 32 ∷ rest ≡ (w ++ 32 ∷ []) ++ rest = sym (append_assoc w (32 ∷ []) rest) in
     let behind : drop (length w + 1) (w ++ 32 ∷ rest) ≡ rest = ap (drop (length w + 1)) parts ∙ drop_at (w ++ 32 ∷ []) rest (length w + 1) (omega (arith, length-append w (32 ∷ []))) in
     rw (space_at w rest h, behind) refl
 
-named : (w rest : List ℕ) → IsWord w → is_line (w ++ 32 ∷ rest) ≡ true → is_passed (w ++ 32 ∷ rest) ≡ false → row_of (w ++ 32 ∷ rest) ≡ option_map Some (named_row w rest)
+named : (w rest : List ℕ) → IsWord w → is_line (w ++ 32 ∷ rest) ≡ true → is_passed (w ++ 32 ∷ rest) ≡ false → row_of_line (w ++ 32 ∷ rest) ≡ option_map Some (named_row w rest)
 named w rest h line passed = rw (line, passed, first_is w rest h, after_is w rest h) refl
 
 -- ---- numbers
@@ -102,17 +102,17 @@ named w rest h line passed = rw (line, passed, first_is w rest h, after_is w res
 digit_test : (k : ℕ) → k < 10 → is_digit (48 + k) ≡ true
 digit_test k lt = grind (arith, nat_tests)
 
-digit_more : (v w d : ℕ) (ds : List ℕ) → digits_value v ds ≡ Some w → is_digit d ≡ true → digits_value v (ds ++ d ∷ []) ≡ Some (10 * w + (d - 48))
+digit_more : (v w d : ℕ) (ds : List ℕ) → value_of_decimal v ds ≡ Some w → is_digit d ≡ true → value_of_decimal v (ds ++ d ∷ []) ≡ Some (10 * w + (d - 48))
 digit_more v w d [] h is = let same : v ≡ w = cc in rw is (ap (λ (n : ℕ). Some (10 * n + (d - 48))) same)
 digit_more v w d (x ∷ xs) h is = by_digit (is_digit x) h (digit_more (10 * v + (x - 48)) w d xs)
   where
-    by_digit : (t : Bool) → cond t (digits_value (10 * v + (x - 48)) xs) None ≡ Some w → (digits_value (10 * v + (x - 48)) xs ≡ Some w → is_digit d ≡ true → digits_value (10 * v + (x - 48)) (xs ++ d ∷ []) ≡ Some (10 * w + (d - 48)))
-        → cond t (digits_value (10 * v + (x - 48)) (xs ++ d ∷ [])) None ≡ Some (10 * w + (d - 48))
+    by_digit : (t : Bool) → cond t (value_of_decimal (10 * v + (x - 48)) xs) None ≡ Some w → (value_of_decimal (10 * v + (x - 48)) xs ≡ Some w → is_digit d ≡ true → value_of_decimal (10 * v + (x - 48)) (xs ++ d ∷ []) ≡ Some (10 * w + (d - 48)))
+        → cond t (value_of_decimal (10 * v + (x - 48)) (xs ++ d ∷ [])) None ≡ Some (10 * w + (d - 48))
     by_digit false e more = absurd cc
     by_digit true e more = more e is
 
 abbrev Digits : ℕ → List ℕ → Type 0
-Digits n ds = IsWord ds × (digits_value 0 ds ≡ Some n)
+Digits n ds = IsWord ds × (value_of_decimal 0 ds ≡ Some n)
 
 one_digit : (n : ℕ) → n < 10 → Digits n ((48 + n) ∷ [])
 one_digit n lt = (((omega arith, omega arith), tt), rw (digit_test n lt) (ap Some (omega arith)))
@@ -139,7 +139,7 @@ number_again limit n low lt = by_digits (decimal n) refl (digits n lt).1
     under : ltb n limit ≡ true
     under = lt-ltb n limit low
 
-    by_digits : (ds : List ℕ) → decimal n ≡ ds → digits_value 0 ds ≡ Some n → decimal_in limit ds ≡ Some n
+    by_digits : (ds : List ℕ) → decimal n ≡ ds → value_of_decimal 0 ds ≡ Some n → decimal_in limit ds ≡ Some n
     by_digits [] is h = let some = decimal_nonempty n lt in let none : length (decimal n) ≡ 0 = ap length is in absurd (omega arith)
     by_digits (d ∷ []) is h = rw h (rw under refl)
     by_digits (d ∷ e ∷ ds) is h =
@@ -147,7 +147,7 @@ number_again limit n low lt = by_digits (decimal n) refl (digits n lt).1
         let high = first_decimal n (omega arith) lt in
         let first : get_or (decimal n) 0 0 ≡ d = ap (λ (x : List ℕ). get_or x 0 0) is in
         let other : eqb d 48 ≡ false = ne_eqb d 48 (λ same. omega (arith, high, first, same)) in
-        rw other (ap (below limit) h ∙ rw under refl)
+        rw other (ap (below_limit limit) h ∙ rw under refl)
 
 -- ---- bytes
 
@@ -175,7 +175,7 @@ bytes_word_is : (bytes : List ℕ) → IsBytes bytes → IsWord (bytes_word byte
 bytes_word_is [] h = word_tested (codes "-") refl
 bytes_word_is (b ∷ bs) h = hex_word (b ∷ bs) h
 
-bytes_word_again : (bytes : List ℕ) → IsBytes bytes → bytes_of (bytes_word bytes) ≡ Some bytes
+bytes_word_again : (bytes : List ℕ) → IsBytes bytes → hex_bytes (bytes_word bytes) ≡ Some bytes
 bytes_word_again [] h = refl
 bytes_word_again (b ∷ bs) h = bytes_again (b ∷ bs) (omega arith) h
 
@@ -204,13 +204,13 @@ until_zeros (b ∷ bs) k h =
 name_word_is : (name : List ℕ) (n : IsName name) → name_word name ≡ n.word
 name_word_is name n = ap name_word n.padded ∙ until_zeros n.word (16 - length n.word) (letters_word n.word n.letters)
 
-name_again : (name : List ℕ) → IsName name → name_of (name_word name) ≡ Some name
+name_again : (name : List ℕ) → IsName name → name_in_word (name_word name) ≡ Some name
 name_again name n =
     let some : leb 1 (length n.word) ≡ true = le-leb 1 (length n.word) n.some in
     let few : leb (length n.word) 15 ≡ true = le-leb (length n.word) 15 n.few in
     let letters = n.letters in
-    let padded : name_of n.word ≡ Some (n.word ++ replicate (16 - length n.word) 0) = rw (some, few, letters) refl in
-    ap name_of (name_word_is name n) ∙ padded ∙ ap Some (sym n.padded)
+    let padded : name_in_word n.word ≡ Some (n.word ++ replicate (16 - length n.word) 0) = rw (some, few, letters) refl in
+    ap name_in_word (name_word_is name n) ∙ padded ∙ ap Some (sym n.padded)
 
 name_is_word : (name : List ℕ) → IsName name → IsWord (name_word name)
 name_is_word name n = subst (λ (w : List ℕ). IsWord w) (sym (name_word_is name n)) (letters_word n.word n.letters)
@@ -230,30 +230,30 @@ last_again f w v h = ap f (append-nil w) ∙ h
 
 -- ---- rows
 
-frame_again : (words more bytes : List ℕ) (port : ℕ) → number_of (first_word words) ≡ Some port → after_word words ≡ Some more → bytes_of more ≡ Some bytes → frame_row words ≡ Some (Frame port bytes)
+frame_again : (words more bytes : List ℕ) (port : ℕ) → word_number (first_word words) ≡ Some port → after_first_word words ≡ Some more → hex_bytes more ≡ Some bytes → frame_row words ≡ Some (Frame port bytes)
 frame_again words more bytes port a b c = rw (a, b, c) refl
 
-chunk_again : (word bytes : List ℕ) → bytes_of word ≡ Some bytes → chunk_row word ≡ Some (Chunk bytes)
+chunk_again : (word bytes : List ℕ) → hex_bytes word ≡ Some bytes → chunk_row word ≡ Some (Chunk bytes)
 chunk_again word bytes a = rw a refl
 
-added_again : (words more last word hw name : List ℕ) (number : ℕ) (up : Bool) → number_of (first_word words) ≡ Some number → after_word words ≡ Some more → hw_of (first_word more) ≡ Some hw → after_word more ≡ Some last
-    → name_of (first_word last) ≡ Some name → after_word last ≡ Some word → state_of word ≡ Some up → added_port words ≡ Some (Add number hw name up)
+added_again : (words more last word hw name : List ℕ) (number : ℕ) (up : Bool) → word_number (first_word words) ≡ Some number → after_first_word words ≡ Some more → hw_of (first_word more) ≡ Some hw → after_first_word more ≡ Some last
+    → name_in_word (first_word last) ≡ Some name → after_first_word last ≡ Some word → state_of word ≡ Some up → added_port words ≡ Some (Add number hw name up)
 added_again words more last word hw name number up a b c d e f g = rw (a, b, c, d, e, f, g) refl
 
-linked_again : (words word : List ℕ) (number : ℕ) (up : Bool) → number_of (first_word words) ≡ Some number → after_word words ≡ Some word → state_of word ≡ Some up → linked_port words ≡ Some (Link number up)
+linked_again : (words word : List ℕ) (number : ℕ) (up : Bool) → word_number (first_word words) ≡ Some number → after_first_word words ≡ Some word → state_of word ≡ Some up → linked_port words ≡ Some (Link number up)
 linked_again words word number up a b c = rw (a, b, c) refl
 
-removed_again : (word : List ℕ) (number : ℕ) → number_of word ≡ Some number → removed_port word ≡ Some (Remove number)
+removed_again : (word : List ℕ) (number : ℕ) → word_number word ≡ Some number → removed_port word ≡ Some (Remove number)
 removed_again word number a = rw a refl
 
-port_again : (words name more : List ℕ) (c : PortChange) → after_word words ≡ Some more → first_word words ≡ name → change_of name more ≡ Some c → port_of words ≡ Some c
+port_again : (words name more : List ℕ) (c : PortChange) → after_first_word words ≡ Some more → first_word words ≡ name → change_of name more ≡ Some c → port_of words ≡ Some c
 port_again words name more c a b e = rw (a, b, e) refl
 
 -- a number of 32 bits, and what follows it
-number_first : (n : ℕ) (rest : List ℕ) → n < 2 ^ 32 → number_of (first_word (decimal n ++ 32 ∷ rest)) ≡ Some n
-number_first n rest lt = ap number_of (first_is (decimal n) rest (digits n (omega arith)).0) ∙ number_again (2 ^ 32) n lt (omega arith)
+number_first : (n : ℕ) (rest : List ℕ) → n < 2 ^ 32 → word_number (first_word (decimal n ++ 32 ∷ rest)) ≡ Some n
+number_first n rest lt = ap word_number (first_is (decimal n) rest (digits n (omega arith)).0) ∙ number_again (2 ^ 32) n lt (omega arith)
 
-number_behind : (n : ℕ) (rest : List ℕ) → n < 2 ^ 32 → after_word (decimal n ++ 32 ∷ rest) ≡ Some rest
+number_behind : (n : ℕ) (rest : List ℕ) → n < 2 ^ 32 → after_first_word (decimal n ++ 32 ∷ rest) ≡ Some rest
 number_behind n rest lt = after_is (decimal n) rest (digits n (omega arith)).0
 
 change_again : (change : PortChange) → HasChangeText change → port_of (joined (change_words change)) ≡ Some change
@@ -266,13 +266,13 @@ change_again (Add number hw name up) h =
     let name_is = name_is_word name h.3 in
     let added = added_again words behind_number behind_hw behind_name hw name number up (number_first number behind_number h.0) (number_behind number behind_number h.0)
     (ap hw_of (first_is (encode_lower hw) behind_hw hw_is) ∙ hw_again hw h.1 h.2) (after_is (encode_lower hw) behind_hw hw_is)
-    (ap name_of (first_is (name_word name) behind_name name_is) ∙ name_again name h.3) (after_is (name_word name) behind_name name_is)
+    (ap name_in_word (first_is (name_word name) behind_name name_is) ∙ name_again name h.3) (after_is (name_word name) behind_name name_is)
     (last_again state_of (state_word up) up (state_again up)) in
     port_again (codes "add" ++ 32 ∷ words) (codes "add") words (Add number hw name up) (after_is (codes "add") words (word_tested (codes "add") refl)) (first_is (codes "add") words (word_tested (codes "add") refl)) added
 change_again (Remove number) h =
     let word = decimal number ++ [] in
     port_again (codes "remove" ++ 32 ∷ word) (codes "remove") word (Remove number) (after_is (codes "remove") word (word_tested (codes "remove") refl)) (first_is (codes "remove") word (word_tested (codes "remove") refl))
-    (removed_again word number (last_again number_of (decimal number) number (number_again (2 ^ 32) number h (omega arith))))
+    (removed_again word number (last_again word_number (decimal number) number (number_again (2 ^ 32) number h (omega arith))))
 change_again (Link number up) h =
     let word = state_word up ++ [] in
     let words = decimal number ++ 32 ∷ word in
@@ -293,27 +293,27 @@ are_words (Some (Frame port bytes)) h = (word_tested (codes "f") refl, ((digits 
 are_words (Some (Moment nanos)) h = (word_tested (codes "t") refl, ((digits nanos h).0, tt))
 are_words (Some (Ports change)) h = (word_tested (codes "port") refl, change_are_words change h)
 
-lost_is : row_of (codes "lost") ≡ Some (Some Lost)
+lost_is : row_of_line (codes "lost") ≡ Some (Some Lost)
 unfolding is_utf8 chars encode
 lost_is = refl
 
-passed_is : is_line [] ≡ true → row_of [] ≡ Some None
+passed_is : is_line [] ≡ true → row_of_line [] ≡ Some None
 passed_is h = rw h refl
 
-pub row_again : (row : Option Event) → HasText row → length (row_text row) ≤ 1048576 → row_of (row_text row) ≡ Some row
+pub row_again : (row : Option Event) → HasText row → length (row_text row) ≤ 1048576 → row_of_line (row_text row) ≡ Some row
 row_again None h few = passed_is (line_is [] tt few)
 row_again (Some Connect) h few = connect_is
 row_again (Some Lost) h few = lost_is
 row_again (Some (Chunk bytes)) h few =
     let line = line_is (row_text (Some (Chunk bytes))) (joined_line (row_words (Some (Chunk bytes))) (are_words (Some (Chunk bytes)) h)) few in
     named (codes "c") (bytes_word bytes ++ []) (word_tested (codes "c") refl) line refl
-    ∙ ap (option_map Some) (chunk_again (bytes_word bytes ++ []) bytes (last_again bytes_of (bytes_word bytes) bytes (bytes_word_again bytes h)))
+    ∙ ap (option_map Some) (chunk_again (bytes_word bytes ++ []) bytes (last_again hex_bytes (bytes_word bytes) bytes (bytes_word_again bytes h)))
 row_again (Some (Frame port bytes)) h few =
     let line = line_is (row_text (Some (Frame port bytes))) (joined_line (row_words (Some (Frame port bytes))) (are_words (Some (Frame port bytes)) h)) few in
     let word = bytes_word bytes ++ [] in
     let words = decimal port ++ 32 ∷ word in
     named (codes "f") words (word_tested (codes "f") refl) line refl
-    ∙ ap (option_map Some) (frame_again words word bytes port (number_first port word h.0) (number_behind port word h.0) (last_again bytes_of (bytes_word bytes) bytes (bytes_word_again bytes h.1)))
+    ∙ ap (option_map Some) (frame_again words word bytes port (number_first port word h.0) (number_behind port word h.0) (last_again hex_bytes (bytes_word bytes) bytes (bytes_word_again bytes h.1)))
 row_again (Some (Moment nanos)) h few =
     let line = line_is (row_text (Some (Moment nanos))) (joined_line (row_words (Some (Moment nanos))) (are_words (Some (Moment nanos)) h)) few in
     named (codes "t") (decimal nanos ++ []) (word_tested (codes "t") refl) line refl
@@ -324,7 +324,7 @@ row_again (Some (Ports change)) h few =
     let further_is = further_change change in
     let parts : row_text (Some (Ports change)) ≡ codes "port" ++ 32 ∷ words = ap (λ (x : List ℕ). codes "port" ++ x) further_is in
     let line' : is_line (codes "port" ++ 32 ∷ words) ≡ true = subst (λ (x : List ℕ). is_line x ≡ true) parts line in
-    ap row_of parts ∙ named (codes "port") words (word_tested (codes "port") refl) line' refl ∙ ap (λ (c : Option PortChange). option_map Some (option_map Ports c)) (change_again change h)
+    ap row_of_line parts ∙ named (codes "port") words (word_tested (codes "port") refl) line' refl ∙ ap (λ (c : Option PortChange). option_map Some (option_map Ports c)) (change_again change h)
   where
     further_change : (change : PortChange) → further (change_words change) ≡ 32 ∷ joined (change_words change)
     further_change (Add number hw name up) = refl

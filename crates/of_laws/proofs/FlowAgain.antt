@@ -3,7 +3,7 @@ use Rattle.std.proofs.Common.{◌≡◌, ℕ, ◌+◌, ◌<◌, ◌≤◌, true,
 use Rattle.std.proofs.lemmas.Bool.{le-ltb}
 use Rattle.std.proofs.lemmas.List.{length-append}
 use Rattle.byteorder.specs.Numbers.{big_number-reads_back}
-use Rattle.of_formats.specs.Structs.{Fits, numbers}
+use Rattle.of_formats.specs.Structs.{FitsStruct, numbers}
 use Rattle.of_formats.specs.Tables as tables
 use Rattle.of_formats.proofs.StructLaws.{numbers_at, written_is_read}
 use Rattle.of_oxm.specs.NormalForm.{IsMatch}
@@ -14,8 +14,8 @@ use Rattle.of_messages.specs.declared.message.FlowMod.{FlowMod}
 use Rattle.of_messages.specs.declared.message.Message.TheVariants.{FlowMod as IsFlowMod}
 use Rattle.of_messages.specs.Heads.{header_length, type_of, version_of}
 use Rattle.of_messages.specs.Messages.{flow_mod_by, flow_mod_of, message_of}
-use Rattle.of_messages.specs.Written.{flow_mod_bytes, flow_mod_fixed_part, flow_mod_numbers}
-use Rattle.of_laws.specs.Grammar.{IsValidFlowMod, MatchThenInstructions, deletes, flow_mod_numbers as said_numbers}
+use Rattle.of_messages.specs.Written.{flow_mod_bytes, flow_mod_fixed_part, flow_mod_numbers, flow_mod_numbers as said_numbers}
+use Rattle.of_laws.specs.Grammar.{IsValidFlowMod, MatchThenInstructions, deletes}
 use Rattle.of_laws.proofs.Heads.{as_flow_mod, body_by, flow_mod}
 use Rattle.of_laws.proofs.Only.{of_kind}
 use Rattle.of_laws.proofs.OnlyLarge.{flow_mod_read}
@@ -32,13 +32,13 @@ pub record Says (m : FlowMod) (b : List ℕ) : Type 0 where
   pub rest_is : drop 48 b ≡ canonical m.fields ++ canonical_instructions m.instructions
 
 -- the numbers of a FLOW_MOD that is written are read again
-again : (xid : ℕ) (m : FlowMod) → Fits tables.flow_mod (flow_mod_numbers m) [] → numbers tables.flow_mod 8 (flow_mod_bytes xid m) ≡ flow_mod_numbers m
+again : (xid : ℕ) (m : FlowMod) → FitsStruct tables.flow_mod (flow_mod_numbers m) [] → numbers tables.flow_mod 8 (flow_mod_bytes xid m) ≡ flow_mod_numbers m
 unfolding flow_mod_fixed_part
 again xid m fits =
     sym (numbers_at tables.flow_mod 8 0 (flow_mod_bytes xid m))
     ∙ written_is_read tables.flow_mod (flow_mod_numbers m) [] (canonical m.fields ++ canonical_instructions m.instructions) fits
 
-pub says : (xid : ℕ) (m : FlowMod) → Fits tables.flow_mod (flow_mod_numbers m) [] → length (canonical m.fields ++ canonical_instructions m.instructions) < 65488 → Says m (flow_mod_bytes xid m)
+pub says : (xid : ℕ) (m : FlowMod) → FitsStruct tables.flow_mod (flow_mod_numbers m) [] → length (canonical m.fields ++ canonical_instructions m.instructions) < 65488 → Says m (flow_mod_bytes xid m)
 unfolding flow_mod_fixed_part
 says xid m fits short =
     let b = flow_mod_bytes xid m in
@@ -72,7 +72,7 @@ mod_again m b h tail valid =
     ∙ ap (flow_mod_by (said_numbers m)) h.rest_is
     ∙ flow_mod_read m (canonical m.fields ++ canonical_instructions m.instructions) tail valid
 
-pub flow_mod_again : (xid : ℕ) (m : FlowMod) → Fits tables.flow_mod (flow_mod_numbers m) [] → IsValidFlowMod m → IsMatch m.fields → are_kept m.instructions ≡ true → are_for m.table m.instructions ≡ true
+pub flow_mod_again : (xid : ℕ) (m : FlowMod) → FitsStruct tables.flow_mod (flow_mod_numbers m) [] → IsValidFlowMod m → IsMatch m.fields → are_kept m.instructions ≡ true → are_for m.table m.instructions ≡ true
     → (deletes m.command ≡ true → m.instructions ≡ []) → message_of (flow_mod_bytes xid m) ≡ Ok (IsFlowMod m)
 flow_mod_again xid m fits valid match kept fit none =
     let b = flow_mod_bytes xid m in

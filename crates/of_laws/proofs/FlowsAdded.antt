@@ -12,7 +12,7 @@ use Rattle.of_oxm.specs.Canonical.{canonical}
 use Rattle.of_actions.specs.CanonicalInstructions.{canonical_instructions}
 use Rattle.of_actions.proofs.InstructionLengths.{instructions_short}
 use Rattle.of_actions.specs.InstructionLists.{are_for}
-use Rattle.of_formats.specs.Structs.{Fits}
+use Rattle.of_formats.specs.Structs.{FitsStruct}
 use Rattle.of_formats.specs.Tables as tables
 use Rattle.of_groups.specs.Buckets.{sends}
 use Rattle.of_groups.specs.Faults.{is_absent}
@@ -23,7 +23,7 @@ use Rattle.of_table.proofs.PlaceLemmas.{find_none, filter_others}
 use Rattle.of_text.specs.Flows.{Flow as TextFlow, Step, Apply, Clear, Write, Metadata, Goto}
 use Rattle.of_text.specs.Groups.{TextGroup, groups_at}
 use Rattle.of_text.specs.Kept.{AllStandBehind, IsEntry, instruction_of, instructions_of}
-use Rattle.of_text.specs.Refusals.{names_absent, is_same as is_same_text}
+use Rattle.of_text.specs.Refusals.{names_absent, has_same_match as is_same_text}
 use Rattle.of_text.specs.Configs.{all_flows}
 use Rattle.of_text.specs.Rows.{HeadFits}
 use Rattle.of_messages.specs.declared.message.Message.TheVariants.{FlowMod as IsFlowMod}
@@ -96,7 +96,7 @@ flow_read xid table f s flags =
     let few = few_flags f.head.flags flags in
     let low : f.head.table < 16 = omega (arith, s.own, s.low) in
     let fit : are_for f.head.table (instructions_of f) ≡ true = rw (s.own) s.entry.leads_on in
-    let fits : Fits tables.flow_mod (flow_mod_numbers (add_of f)) [] = (s.head.2, (omega arith, (omega arith, (omega arith, (s.head.3, (s.head.4, (s.head.1, (omega arith, (omega arith, (omega arith, (omega (arith, few), tt))))))))))) in
+    let fits : FitsStruct tables.flow_mod (flow_mod_numbers (add_of f)) [] = (s.head.2, (omega arith, (omega arith, (omega arith, (s.head.3, (s.head.4, (s.head.1, (omega arith, (omega arith, (omega arith, (omega (arith, few), tt))))))))))) in
     flow_mod_again xid (add_of f) fits (record { table = low; flags = omega (arith, few); fit = s.entry.checked }) s.entry.fields s.entry.kept fit (λ deleted. absurd cc)
 
 step_named : (gs : List TextGroup) (s : Step) → has_action (sends (is_absent (groups_at 0 gs))) (instruction_of s) ≡ names_absent gs s

@@ -18,6 +18,7 @@ use Rattle.of_actions.specs.FlowCheck.{all_go_with}
 use Rattle.of_actions.specs.PortNumbers.{is_number}
 use Rattle.of_groups.specs.declared.group.GroupKind.{GroupKind}
 use Rattle.of_groups.specs.declared.group.GroupKind.TheVariants.{All, Indirect, FastFailover}
+use Rattle.of_groups.specs.Groups.{kind_number}
 use Rattle.of_messages.specs.declared.group_mod.GroupMod.{GroupMod}
 use Rattle.of_messages.specs.declared.group_mod.GroupMod.TheVariants as group
 use Rattle.of_messages.specs.declared.group_mod.NewGroup.{NewGroup}
@@ -28,14 +29,15 @@ use Rattle.of_messages.specs.declared.message.PacketData.{PacketData}
 use Rattle.of_messages.specs.declared.message.PacketData.TheVariants.{Buffered, Frame}
 use Rattle.of_messages.specs.declared.message.PacketOut.{PacketOut}
 use Rattle.of_messages.specs.Buckets.{buckets_said}
-use Rattle.of_messages.specs.GroupMods.{command_of as group_command_of, is_above, kind_of, group_of, delete_of, group_mod_of}
+use Rattle.of_messages.specs.GroupMods.{command_of_group_mod as group_command_of, is_above, group_kind_of, group_of, delete_of, group_mod_of}
 use Rattle.of_messages.specs.Heads.{actions_length}
 use Rattle.of_messages.specs.Messages.{command_of, command_said, is_bad_table, instructions_for, flow_mod_of, is_ingress, packet_in_data, packet_out_of}
+use Rattle.of_messages.specs.Written.{command_number}
 use Rattle.of_formats.specs.Reading.{known}
 use Rattle.of_formats.proofs.Binding.{bound, passed, is_known, same_ok}
 use Rattle.of_laws.specs.Buckets.{AreBuckets}
-use Rattle.of_laws.specs.Cells.{Cell, u16, u32, pad}
-use Rattle.of_laws.specs.Grammar.{IsData, IsValidData, IsIngress, IsValidPacketOut, ActionsThenData, buffer_of, command_number, flow_mod_cells, deletes, HasInstructions, MatchThenInstructions, MayName, IsValidFlowMod, kind_number, group_mod_cells, GroupTail, IsValidGroup, IsValidGroupMod}
+use Rattle.of_laws.specs.Cells.{StructCell, u16_cell, u32_cell, pad}
+use Rattle.of_laws.specs.Grammar.{IsData, IsValidData, IsIngress, IsValidPacketOut, ActionsThenData, buffer_of, flow_mod_cells, deletes, HasInstructions, MatchThenInstructions, MayName, IsValidFlowMod, group_mod_cells, GroupTail, IsValidGroup, IsValidGroupMod}
 use Rattle.of_laws.specs.Requests.{NamesTable}
 use Rattle.of_laws.proofs.ActionTails.{actions_found}
 use Rattle.of_laws.proofs.BucketTails.{buckets_found}
@@ -74,14 +76,14 @@ data_found d buffer bytes h = by_buffer (eqb buffer 0xffffffff) refl (is_none (f
         subst (λ (x : PacketData). DataSays x buffer bytes) same (record { number = refl; is = tt; valid = eqb-false _ _ is })
 
 pub record PacketOutSays (p : PacketOut) (m : List ℕ) : Type 0 where
-  pub says : Says 8 (u32 (buffer_of p.packet) ∷ u32 p.in_port ∷ []) m
+  pub says : Says 8 (u32_cell (buffer_of p.packet) ∷ u32_cell p.in_port ∷ []) m
   pub behind : ActionsThenData p (drop 16 m)
   pub valid : IsValidPacketOut p
 
 tail_found : (p : PacketOut) (m : List ℕ) → IsBytes m → 24 + actions_length m ≤ length m → actions_said true (actions_in m) ≡ Ok p.actions → IsData p.packet (frame_in m) → ActionsThenData p (drop 16 m)
 tail_found p m fits long said is =
     let size : length (actions_in m) ≡ actions_length m = omega (arith, length-take (actions_length m) (drop 24 m), length-drop 24 m) in
-    let cells : List Cell = u16 (length (actions_in m)) ∷ pad 6 ∷ [] in
+    let cells : List StructCell = u16_cell (length (actions_in m)) ∷ pad 6 ∷ [] in
     let front = begins 16 cells m fits (omega arith) (sym size, tt) in
     let parts : drop 24 m ≡ actions_in m ++ frame_in m = sym (take-append-drop (actions_length m) (drop 24 m)) in
     record { actions = actions_in m; packet = frame_in m; front = rw (← parts) front; are = actions_found true (actions_in m) p.actions said; is = is }
@@ -197,8 +199,8 @@ flow_mod_found f m fits h =
 
 -- ---- GROUP_MOD
 
-kind_known : (n : ℕ) (k : GroupKind) → kind_of n ≡ Some k → n ≡ kind_number k
-unfolding kind_of
+kind_known : (n : ℕ) (k : GroupKind) → group_kind_of n ≡ Some k → n ≡ kind_number k
+unfolding group_kind_of
 kind_known n All h = grind (arith, nat_tests)
 kind_known n Indirect h = grind (arith, nat_tests)
 kind_known n FastFailover h = grind (arith, nat_tests)
@@ -212,11 +214,11 @@ record GroupSays (g : NewGroup) (type id : ℕ) (rest : List ℕ) : Type 0 where
 group_found : (g : NewGroup) (type id : ℕ) (rest : List ℕ) → IsBytes rest → group_of type id rest ≡ Ok g → GroupSays g type id rest
 group_found g type id rest fits h =
     let low = passed ((is_above id, refusal 6 1) ∷ []) _ g h in
-    let kind = bound (known (kind_of type) (refusal 6 10)) _ g low.1 in
+    let kind = bound (known (group_kind_of type) (refusal 6 10)) _ g low.1 in
     let buckets = bound (buckets_said rest) _ g kind.2 in
     let found = buckets_found buckets.0 rest fits buckets.1 in
     subst (λ (x : NewGroup). GroupSays x type id rest) (same_ok buckets.2) (record {
-      kind = kind_known type kind.0 (is_known (kind_of type) (refusal 6 10) kind.0 kind.1);
+      kind = kind_known type kind.0 (is_known (group_kind_of type) (refusal 6 10) kind.0 kind.1);
       number = refl;
       behind = found.are;
       valid = (ltb-false _ _ low.0.0, found.few);

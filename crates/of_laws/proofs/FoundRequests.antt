@@ -16,7 +16,7 @@ use Rattle.of_messages.specs.declared.multipart.MultipartRequest.{MultipartReque
 use Rattle.of_messages.specs.declared.multipart.MultipartRequest.TheVariants.{Description, Flow, Aggregate, Table, PortStats, Group, GroupDescription, GroupFeatures, PortDescription}
 use Rattle.of_messages.specs.Configs.{names_table}
 use Rattle.of_formats.specs.Messages.{is_bad_size}
-use Rattle.of_messages.specs.Multiparts.{kind_of, kind_in, size_asked, multipart_refusals, multipart_by, flow_stats_of, one_or_all, number_in, multipart_of}
+use Rattle.of_messages.specs.Multiparts.{multipart_kind_of, multipart_kind_in, size_asked, multipart_refusals, multipart_by, flow_stats_of, one_or_all, requested_number, multipart_of}
 use Rattle.of_formats.proofs.Binding.{bound, passed, same_ok}
 use Rattle.of_laws.specs.Requests.{BeginsMatch, IsOne, IsValidRequest, NamesTable, RequestTail, flows_cells, or_all, request_cells}
 use Rattle.of_laws.proofs.FoundSmall.{named}
@@ -101,8 +101,8 @@ asked_known n group_description h = grind (arith, nat_tests)
 asked_known n group_features h = grind (arith, nat_tests)
 asked_known n port_description h = grind (arith, nat_tests)
 
-asked_none : (n : ℕ) → asked_by n ≡ None → is_none (kind_of n) ≡ true
-unfolding asked_by kind_of
+asked_none : (n : ℕ) → asked_by n ≡ None → is_none (multipart_kind_of n) ≡ true
+unfolding asked_by multipart_kind_of
 asked_none n h = grind (arith, nat_tests)
 
 -- the request cannot have that size
@@ -117,8 +117,8 @@ is_bad group_description size = not (eqb size 16)
 is_bad group_features size = not (eqb size 16)
 is_bad port_description size = not (eqb size 16)
 
-bad_known : (a : Asked) (size : ℕ) → is_bad_size (size_asked (kind_of (number_of a))) size ≡ is_bad a size
-unfolding kind_of
+bad_known : (a : Asked) (size : ℕ) → is_bad_size (size_asked (multipart_kind_of (number_of a))) size ≡ is_bad a size
+unfolding multipart_kind_of
 bad_known description size = refl
 bad_known flow size = refl
 bad_known aggregate size = refl
@@ -180,17 +180,17 @@ by_asked table r m fits a size h =
     subst (λ (x : MultipartRequest). RequestSays x m) same (plain_says Table m long refl (a.type_is, (a.one_part, tt)) (ended 16 m long) tt)
 by_asked port_stats r m fits a size h =
     let long = exact _ _ size in
-    let which = one_or_all OFPP_ANY (number_in m) in
+    let which = one_or_all OFPP_ANY (requested_number m) in
     let e : ◌≡◌ {A = Result MultipartRequest Code} (Ok (PortStats which)) (Ok r) = sym (asks_4 m a long) ∙ h in
     let same : PortStats which ≡ r = cc in
-    let one = one_known OFPP_ANY (number_in m) in
+    let one = one_known OFPP_ANY (requested_number m) in
     subst (λ (x : MultipartRequest). RequestSays x m) same (record { says = (a.type_is, (a.one_part, (one.0, tt))); long = omega arith; behind = ended 24 m long; valid = one.1 })
 by_asked group r m fits a size h =
     let long = exact _ _ size in
-    let which = one_or_all OFPG_ALL (number_in m) in
+    let which = one_or_all OFPG_ALL (requested_number m) in
     let e : ◌≡◌ {A = Result MultipartRequest Code} (Ok (Group which)) (Ok r) = sym (asks_6 m a long) ∙ h in
     let same : Group which ≡ r = cc in
-    let one = one_known OFPG_ALL (number_in m) in
+    let one = one_known OFPG_ALL (requested_number m) in
     subst (λ (x : MultipartRequest). RequestSays x m) same (record { says = (a.type_is, (a.one_part, (one.0, tt))); long = omega arith; behind = ended 24 m long; valid = one.1 })
 by_asked group_description r m fits a size h =
     let long = exact _ _ size in
@@ -230,14 +230,14 @@ passes m none = by_kind (asked_by (big_number 2 (drop 8 m))) refl
         record {
           asked = a;
           asks = record { type_is = type_is; one_part = even_known (big_number 2 (drop 10 m)) n.1.0 };
-          sized = sym (bad_known a (length m)) ∙ ap (λ (t : ℕ). is_bad_size (size_asked (kind_of t)) (length m)) (sym type_is) ∙ n.1.1.0;
+          sized = sym (bad_known a (length m)) ∙ ap (λ (t : ℕ). is_bad_size (size_asked (multipart_kind_of t)) (length m)) (sym type_is) ∙ n.1.1.0;
         }
 
 first_none : (m : List ℕ) (r : MultipartRequest) → multipart_of m ≡ Ok r → first_of (multipart_refusals m) ≡ None
 unfolding multipart_of
 first_none m r h = by_first (first_of (multipart_refusals m)) refl h
   where
-    by_first : (o : Option Code) → first_of (multipart_refusals m) ≡ o → multipart_by m o (kind_in m) ≡ Ok r → first_of (multipart_refusals m) ≡ None
+    by_first : (o : Option Code) → first_of (multipart_refusals m) ≡ o → multipart_by m o (multipart_kind_in m) ≡ Ok r → first_of (multipart_refusals m) ≡ None
     by_first (Some code) is e = absurd cc
     by_first None is e = is
 

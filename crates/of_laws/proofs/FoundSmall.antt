@@ -18,20 +18,20 @@ use Rattle.of_messages.specs.PortMods.{known_bits, port_mod_of}
 use Rattle.of_messages.specs.Roles.{asked_by, role_request_of}
 use Rattle.of_formats.specs.Structs.{bytes_from}
 use Rattle.of_formats.proofs.Binding.{is_known}
-use Rattle.of_laws.specs.Cells.{byte, u16, u32, pad, plain}
+use Rattle.of_laws.specs.Cells.{byte, u16_cell, u32_cell, pad, plain}
 use Rattle.of_laws.specs.Grammar.{role_cells, async_config_cells}
 use Rattle.of_laws.specs.Requests.{NamesTable}
 use Rattle.of_laws.proofs.OnlySmall.{six_bytes}
 use Rattle.of_laws.proofs.Places.{Says}
 
-pub config_found : (c : SwitchConfig) (m : List ℕ) → set_config_of m ≡ Ok c → Says 8 (u16 0 ∷ u16 c.miss_send_len ∷ []) m
+pub config_found : (c : SwitchConfig) (m : List ℕ) → set_config_of m ≡ Ok c → Says 8 (u16_cell 0 ∷ u16_cell c.miss_send_len ∷ []) m
 config_found c m h = by_flags (eqb (big_number 2 (drop 8 m)) 0) refl h
   where
-    by_flags : (t : Bool) → eqb (big_number 2 (drop 8 m)) 0 ≡ t → cond {A = Result SwitchConfig Code} t (Ok (record { miss_send_len = big_number 2 (drop 10 m) })) (Err (refusal 10 0)) ≡ Ok c → Says 8 (u16 0 ∷ u16 c.miss_send_len ∷ []) m
+    by_flags : (t : Bool) → eqb (big_number 2 (drop 8 m)) 0 ≡ t → cond {A = Result SwitchConfig Code} t (Ok (record { miss_send_len = big_number 2 (drop 10 m) })) (Err (refusal 10 0)) ≡ Ok c → Says 8 (u16_cell 0 ∷ u16_cell c.miss_send_len ∷ []) m
     by_flags false is e = absurd cc
     by_flags true is e =
         let same : record { miss_send_len = big_number 2 (drop 10 m) } ≡ c = cc in
-        subst (λ (x : SwitchConfig). Says 8 (u16 0 ∷ u16 x.miss_send_len ∷ []) m) same (eqb-true _ _ is, (refl, tt))
+        subst (λ (x : SwitchConfig). Says 8 (u16_cell 0 ∷ u16_cell x.miss_send_len ∷ []) m) same (eqb-true _ _ is, (refl, tt))
 
 pub named : (t : ℕ) → names_table t ≡ true → NamesTable t
 named t h = by_low (ltb t 16) refl h
@@ -41,7 +41,7 @@ named t h = by_low (ltb t 16) refl h
     by_low false is e = inr (eqb-true t 255 e)
 
 pub record TableModSays (t : TableMod) (m : List ℕ) : Type 0 where
-  pub says : Says 8 (byte t.table ∷ pad 3 ∷ u32 t.config ∷ []) m
+  pub says : Says 8 (byte t.table ∷ pad 3 ∷ u32_cell t.config ∷ []) m
   pub valid : NamesTable t.table
 
 pub table_mod_found : (t : TableMod) (m : List ℕ) → table_mod_of m ≡ Ok t → TableModSays t m
@@ -54,7 +54,7 @@ table_mod_found t m h = by_table (names_table (slice_index m 8)) refl h
         subst (λ (x : TableMod). TableModSays x m) same (record { says = (refl, (refl, tt)); valid = named (slice_index m 8) is })
 
 pub record PortModSays (p : PortMod) (m : List ℕ) : Type 0 where
-  pub says : Says 8 (u32 p.port ∷ pad 4 ∷ plain 6 p.hw ∷ pad 2 ∷ u32 p.config ∷ u32 p.mask ∷ pad 4 ∷ pad 4 ∷ []) m
+  pub says : Says 8 (u32_cell p.port ∷ pad 4 ∷ plain 6 p.hw ∷ pad 2 ∷ u32_cell p.config ∷ u32_cell p.mask ∷ pad 4 ∷ pad 4 ∷ []) m
   pub valid : bit_and p.mask 101 ≡ p.mask
 
 abbrev mask_in : List ℕ → ℕ

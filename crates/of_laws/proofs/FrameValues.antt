@@ -4,7 +4,7 @@ use Rattle.of_layers.specs.declared.field.Field.{Field}
 use Rattle.of_layers.specs.declared.field.Field.TheVariants.{InPort, Metadata, VlanVid, IpProto}
 use Rattle.of_layers.specs.declared.transport.Transport.{Transport}
 use Rattle.of_layers.specs.declared.transport.Transport.TheVariants.{Nothing, Tcp, Udp, Icmpv4, Icmpv6}
-use Rattle.of_layers.specs.Fields.{row_of, number_of, bits_of, ones_of}
+use Rattle.of_layers.specs.Fields.{row_of, number_of, bit_count, ones_of}
 use Rattle.of_layers.specs.Layers.{Item, plain, named, Extension, Layers, next_before, addresses, outer_tag, ether_type, arp, ipv4, ipv6, options, fragment, items_of, cells}
 use Rattle.of_layers.specs.Looking.{look}
 use Rattle.of_layers.specs.Reading.{layers_of}
@@ -19,7 +19,7 @@ use Rattle.of_laws.proofs.Widths.{agrees, IsAsWide, layers_within}
 -- those of VLAN_VID without the one that says that there is a tag
 abbrev pub width_of : Field → ℕ
 width_of VlanVid = 12
-width_of f = bits_of f
+width_of f = bit_count f
 
 -- a header gives a field so many bits
 abbrev pub IsRight : List Item → Field → Type 0
@@ -59,8 +59,8 @@ seen_below l h f v e = (layers_within (number_of f) (width_of f) (as_wide f) l h
 below_ones : (w v : ℕ) → v < 2 ^ w → v ≤ 2 ^ w - 1
 below_ones w v h = omega arith
 
-seen_within : (l : Layers) → IsLayers l → (f : Field) (v : ℕ) → width_of f ≡ bits_of f → look f (cells l) ≡ Some v → v ≤ ones_of f
-seen_within l h f v same e = subst (λ k. v ≤ k) (sym (ones_is f)) (below_ones (bits_of f) v (subst (λ w. v < 2 ^ w) same (seen_below l h f v e)))
+seen_within : (l : Layers) → IsLayers l → (f : Field) (v : ℕ) → width_of f ≡ bit_count f → look f (cells l) ≡ Some v → v ≤ ones_of f
+seen_within l h f v same e = subst (λ k. v ≤ k) (sym (ones_is f)) (below_ones (bit_count f) v (subst (λ w. v < 2 ^ w) same (seen_below l h f v e)))
 
 -- with the bit that says that there is a tag
 vid_within : (a : Option ℕ) → ((v : ℕ) → a ≡ Some v → v < 2 ^ 12) → vid a ≤ ones_of VlanVid

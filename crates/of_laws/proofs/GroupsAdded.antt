@@ -13,7 +13,7 @@ use Rattle.of_groups.specs.declared.bucket.Bucket.{Bucket}
 use Rattle.of_groups.specs.declared.group.Group.{Group}
 use Rattle.of_groups.specs.declared.group_fault.GroupFault.{GroupFault}
 use Rattle.of_groups.specs.Buckets.{any_sends, are_fit, fresh}
-use Rattle.of_groups.specs.Groups.{any_named, any_watches, find_group, is_there, names, new_group, number_of, with_group}
+use Rattle.of_groups.specs.Groups.{any_named, any_watches, find_group, is_there, names, new_group, group_number, with_group}
 use Rattle.of_groups.specs.Chains.{AreShort, chain, is_chain, is_long, names_next}
 use Rattle.of_groups.specs.Faults.{add_fault, is_absent, is_bad_watch, is_not_one, naming_fault}
 use Rattle.of_groups.specs.Sound.{is_fit_group}
@@ -54,7 +54,7 @@ pub record IsSentGroup (all : List Group) (g : TextGroup) : Type 0 where
 -- groups that may be sent in turn
 pub record AreSentGroups (gs : List TextGroup) : Type 0 where
   pub each : AllByRecursion (IsSentGroup (groups_at 0 gs)) gs
-  pub rising : is_ascending number_of (groups_at 0 gs) ≡ true
+  pub rising : is_ascending group_number (groups_at 0 gs) ≡ true
   pub few : length gs ≤ 256
   pub short : AreShort (groups_at 0 gs)
 
@@ -90,7 +90,7 @@ record Next (gs before rest : List TextGroup) (g : TextGroup) (n : ℕ) : Type 0
 
 comes : (gs before rest : List TextGroup) (g : TextGroup) (n : ℕ) → Next gs before rest g n → with_group (group_at 0 g) (there gs n before (g ∷ rest)) ≡ there gs n (before ++ g ∷ []) rest
 comes gs before rest g n x =
-    let rising : is_ascending number_of (groups_at 0 (before ++ g ∷ rest)) ≡ true = subst (λ (l : List TextGroup). is_ascending number_of (groups_at 0 l) ≡ true) x.parted x.all.rising in
+    let rising : is_ascending group_number (groups_at 0 (before ++ g ∷ rest)) ≡ true = subst (λ (l : List TextGroup). is_ascending group_number (groups_at 0 l) ≡ true) x.parted x.all.rising in
     let parts = rising_parts before rest g rising in
     let low = all_kept (λ (h : TextGroup). h.head.id < g.head.id) (λ (h : TextGroup). nat_lt (len_in gs h.head.id) (suc n)) before parts.0 in
     let high = all_kept (λ (h : TextGroup). g.head.id < h.head.id) (λ (h : TextGroup). nat_lt (len_in gs h.head.id) n) rest parts.1 in
@@ -100,7 +100,7 @@ comes gs before rest g n x =
 
 none_before : (gs before rest : List TextGroup) (g : TextGroup) (n : ℕ) → Next gs before rest g n → find_group g.head.id (groups_at 0 before) ≡ None
 none_before gs before rest g n x =
-    let rising : is_ascending number_of (groups_at 0 (before ++ g ∷ rest)) ≡ true = subst (λ (l : List TextGroup). is_ascending number_of (groups_at 0 l) ≡ true) x.parted x.all.rising in
+    let rising : is_ascending group_number (groups_at 0 (before ++ g ∷ rest)) ≡ true = subst (λ (l : List TextGroup). is_ascending group_number (groups_at 0 l) ≡ true) x.parted x.all.rising in
     none_as_high g before (rising_parts before rest g rising).0
 
 is_new : (gs before rest : List TextGroup) (g : TextGroup) (n : ℕ) → Next gs before rest g n → is_there g.head.id (there gs n before (g ∷ rest)) ≡ false

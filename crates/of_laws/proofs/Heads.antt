@@ -18,8 +18,8 @@ use Rattle.of_messages.specs.declared.port_mod.PortMod.{PortMod}
 use Rattle.of_messages.specs.declared.role.RoleRequest.{RoleRequest}
 use Rattle.of_messages.specs.declared.role.Role.TheVariants as role
 use Rattle.of_formats.specs.Messages.{is_bad_size, message_row}
-use Rattle.of_messages.specs.Heads.{version_of, type_of, header_length, size_of, is_supported, actions_length, head_refusals, role_refusals}
-use Rattle.of_messages.specs.Messages.{body_of, message_from, message_of, message_by, flow_mod_of, packet_out_of}
+use Rattle.of_messages.specs.Heads.{version_of, type_of, header_length, size_by_type, is_supported_type, actions_length, head_refusals, role_refusals}
+use Rattle.of_messages.specs.Messages.{message_body, message_from, message_of, message_by, flow_mod_of, packet_out_of}
 use Rattle.of_messages.specs.AsyncConfigs.{async_masks_of}
 use Rattle.of_messages.specs.Configs.{set_config_of, table_mod_of}
 use Rattle.of_messages.specs.GroupMods.{group_mod_of}
@@ -87,7 +87,7 @@ is_bad role_request size = not (eqb size 24)
 is_bad get_async_request size = not (eqb size 8)
 is_bad set_async size = not (eqb size 32)
 
-bad_known : (k : Kind) (size : ℕ) → is_bad_size (size_of (type_number k)) size ≡ is_bad k size
+bad_known : (k : Kind) (size : ℕ) → is_bad_size (size_by_type (type_number k)) size ≡ is_bad k size
 unfolding message_row
 bad_known hello size = refl
 bad_known error size = refl
@@ -107,7 +107,7 @@ bad_known role_request size = refl
 bad_known get_async_request size = refl
 bad_known set_async size = refl
 
-is_known : (k : Kind) → is_supported (type_number k) ≡ true
+is_known : (k : Kind) → is_supported_type (type_number k) ≡ true
 unfolding message_row
 is_known hello = refl
 is_known error = refl
@@ -195,8 +195,8 @@ body_at n m =
     else if n == 28 then Ok (SetAsync (async_masks_of m))
     else Err (refusal 1 1)
 
-body_is : (m : List ℕ) → body_of m ≡ body_at (type_of m) m
-unfolding body_of
+body_is : (m : List ℕ) → message_body m ≡ body_at (type_of m) m
+unfolding message_body
 body_is m = refl
 
 body_known : (k : Kind) (m : List ℕ) → body_at (type_number k) m ≡ body_by k m
@@ -315,7 +315,7 @@ kind_number n role_request h = grind (arith, nat_tests)
 kind_number n get_async_request h = grind (arith, nat_tests)
 kind_number n set_async h = grind (arith, nat_tests)
 
-kind_none : (n : ℕ) → kind_of n ≡ None → is_supported n ≡ false
+kind_none : (n : ℕ) → kind_of n ≡ None → is_supported_type n ≡ false
 unfolding kind_of message_row
 kind_none n h = grind (arith, nat_tests)
 
@@ -336,7 +336,7 @@ head_said k m none is =
       len = len;
       type_is = is;
       version = ap (λ (t : ℕ). not (eqb t 0) && not (eqb (version_of m) 4)) (sym is) ∙ n.1.0;
-      fits = sym (bad_known k (length m)) ∙ ap (λ (t : ℕ). is_bad_size (size_of t) (length m)) (sym is) ∙ n.1.1.1.1.0;
+      fits = sym (bad_known k (length m)) ∙ ap (λ (t : ℕ). is_bad_size (size_by_type t) (length m)) (sym is) ∙ n.1.1.1.1.0;
       actions = ap (λ (t : ℕ). eqb t 13 && ltb (length m) (24 + actions_length m)) (sym is) ∙ n.1.1.1.1.1.0;
     }
 
@@ -344,9 +344,9 @@ pub said : (m : List ℕ) (v : Message) → message_of m ≡ Ok v → Said m v
 unfolding message_from
 said m v e = by_first (first_of (head_refusals m ++ role_refusals role.Equal m)) refl e
   where
-    by_kind : first_of (head_refusals m ++ role_refusals role.Equal m) ≡ None → (o : Option Kind) → kind_of (type_of m) ≡ o → body_of m ≡ Ok v → Said m v
+    by_kind : first_of (head_refusals m ++ role_refusals role.Equal m) ≡ None → (o : Option Kind) → kind_of (type_of m) ≡ o → message_body m ≡ Ok v → Said m v
     by_kind none None is f =
-        let served : is_supported (type_of m) ≡ true = not-false _ (none_applies (head_refusals m ++ role_refusals role.Equal m) none).1.1.1.0 in
+        let served : is_supported_type (type_of m) ≡ true = not-false _ (none_applies (head_refusals m ++ role_refusals role.Equal m) none).1.1.1.0 in
         let both : true ≡ false = sym served ∙ kind_none (type_of m) is in
         absurd cc
     by_kind none (Some k) is f =

@@ -18,9 +18,9 @@ use Rattle.of_actions.specs.declared.instruction.Instruction.{Instruction}
 use Rattle.of_actions.specs.declared.instruction.Instruction.TheVariants.{Apply, Clear, Write, Metadata, Goto}
 use Rattle.of_actions.specs.Actions.{AreActions}
 use Rattle.of_actions.specs.Beginnings.{type_at, len_at}
-use Rattle.of_actions.specs.Headers.{Header, goto, metadata, write, apply, clear, kind_of, is_known, is_size, is_next, table_at, actions_at, header_refusals, header_at, AreHeaders}
-use Rattle.of_actions.specs.InstructionLists.{type_of, run_place, is_served_body, are_kept, is_for, are_for}
-use Rattle.of_actions.specs.Instructions.{IsBody, IsFault, AreBodies, EncodesInstructions}
+use Rattle.of_actions.specs.Headers.{Header, goto, metadata, write, apply, clear, kind_of, is_known, is_size, is_next, goto_table_at, actions_at, header_refusals, header_at, AreHeaders}
+use Rattle.of_actions.specs.InstructionLists.{type_of_instruction, run_place, is_served_body, are_kept, is_for, are_for}
+use Rattle.of_actions.specs.Instructions.{IsInstructionBody, IsFault, AreBodies, EncodesInstructions}
 use Rattle.of_actions.specs.RunOrder.{in_run_order}
 use Rattle.of_actions.specs.Supported.{are_supported, is_supported}
 use Rattle.of_actions.specs.Unread.{leads_on}
@@ -29,8 +29,8 @@ use Rattle.of_actions.proofs.Bodies.{bodies_for, distinct_place, places_once}
 use Rattle.of_actions.proofs.HeaderLists.{kind_is}
 use Rattle.of_actions.proofs.RunOrders.{order_for, order_kept}
 use Rattle.of_laws.specs.ActionStructs.{action_cells, AreStructs}
-use Rattle.of_laws.specs.Cells.{Cell, u16, pad, Begins}
-use Rattle.of_laws.specs.InstructionStructs.{AreInAnyOrder, AreInstructions, IsInstruction, actions_in, instruction_cells, instruction_type}
+use Rattle.of_laws.specs.Cells.{StructCell, u16_cell, pad, Begins}
+use Rattle.of_laws.specs.InstructionStructs.{AreInAnyOrder, AreInstructions, IsInstruction, actions_of_instruction, instruction_cells, instruction_type}
 use Rattle.of_laws.proofs.ActionStructs.{found as actions_found, only as actions_only, passes as action_passes}
 use Rattle.of_laws.proofs.Places.{Says, says, size, rest_is, size_is, front_of}
 
@@ -43,7 +43,7 @@ first false b h = absurd cc
 
 -- ---- the header that bytes begin with, by its type
 
-at_goto : (rest : List ℕ) → type_at rest ≡ 1 → header_at rest ≡ Some (goto (table_at rest))
+at_goto : (rest : List ℕ) → type_at rest ≡ 1 → header_at rest ≡ Some (goto (goto_table_at rest))
 unfolding header_at
 at_goto rest is = rw is refl
 
@@ -69,7 +69,7 @@ record Head (table : ℕ) (seen : List Header) (rest : List ℕ) : Type 0 where
   whole : len_at rest ≤ length rest
   sized : is_size (type_at rest) (len_at rest) ≡ true
   unused : is_used kind_of (type_at rest) seen ≡ false
-  next : ((type_at rest == 1) && not (is_next table (table_at rest))) ≡ false
+  next : ((type_at rest == 1) && not (is_next table (goto_table_at rest))) ≡ false
 
 head : (table : ℕ) (seen : List Header) (rest : List ℕ) → first_of (header_refusals table seen rest) ≡ None → Head table seen rest
 unfolding header_refusals
@@ -85,17 +85,17 @@ head table seen rest none =
     }
 
 -- a GOTO_TABLE that is not refused leads to a later table
-next_table : (table : ℕ) (seen : List Header) (rest : List ℕ) → Head table seen rest → type_at rest ≡ 1 → is_next table (table_at rest) ≡ true
+next_table : (table : ℕ) (seen : List Header) (rest : List ℕ) → Head table seen rest → type_at rest ≡ 1 → is_next table (goto_table_at rest) ≡ true
 next_table table seen rest h kind =
     let is : (type_at rest == 1) ≡ true = eq-eqb _ _ kind in
-    not-false _ (sym (ap (λ (b : Bool). b && not (is_next table (table_at rest))) is) ∙ h.next)
+    not-false _ (sym (ap (λ (b : Bool). b && not (is_next table (goto_table_at rest))) is) ∙ h.next)
 
 leads : (table : ℕ) (seen : List Header) (rest : List ℕ) (h : Header) → first_of (header_refusals table seen rest) ≡ None → header_at rest ≡ Some h → leads_on table h ≡ true
 leads table seen rest (goto to) none at =
     let kind : type_at rest ≡ 1 = sym (kind_is rest (goto to) at) in
-    let there : Some (goto (table_at rest)) ≡ Some (goto to) = sym (at_goto rest kind) ∙ at in
-    let same : table_at rest ≡ to = cc in
-    ap (ltb table) (sym same) ∙ first (ltb table (table_at rest)) (ltb (table_at rest) 16) (next_table table seen rest (head table seen rest none) kind)
+    let there : Some (goto (goto_table_at rest)) ≡ Some (goto to) = sym (at_goto rest kind) ∙ at in
+    let same : goto_table_at rest ≡ to = cc in
+    ap (ltb table) (sym same) ∙ first (ltb table (goto_table_at rest)) (ltb (goto_table_at rest) 16) (next_table table seen rest (head table seen rest none) kind)
 leads table seen rest (metadata value mask) none at = refl
 leads table seen rest (write bytes) none at = refl
 leads table seen rest (apply bytes) none at = refl
@@ -116,7 +116,7 @@ record One (i : Instruction) (rest : List ℕ) : Type 0 where
   served : is_served_body i ≡ true
 
 -- a struct of so many bytes, without actions
-plain : (i : Instruction) (rest : List ℕ) (n : ℕ) → IsBytes rest → len_at rest ≡ n → n ≤ length rest → size (instruction_cells i 0) ≡ n → Says 0 (instruction_cells i 0) rest → actions_in i ≡ [] → is_served_body i ≡ true → One i rest
+plain : (i : Instruction) (rest : List ℕ) (n : ℕ) → IsBytes rest → len_at rest ≡ n → n ≤ length rest → size (instruction_cells i 0) ≡ n → Says 0 (instruction_cells i 0) rest → actions_of_instruction i ≡ [] → is_served_body i ≡ true → One i rest
 plain i rest n fits len whole is says none served =
     let cells = instruction_cells i 0 in
     let front : Begins cells rest (drop (len_at rest) rest) = subst (λ (k : ℕ). Begins cells rest (drop k rest)) (is ∙ sym len) (front_of cells rest fits (omega (arith, is, whole)) says) in
@@ -137,10 +137,10 @@ listed rest long whole =
     }
 
 with_actions : (k : ℕ) (actions : List Action) (rest given : List ℕ) → IsBytes rest → type_at rest ≡ k → 8 ≤ len_at rest → len_at rest ≤ length rest → given ≡ actions_at rest → AreActions false [] given actions None
-    → Begins (u16 k ∷ u16 (8 + length (actions_at rest)) ∷ pad 4 ∷ []) rest (actions_at rest ++ drop (len_at rest) rest) × AreStructs actions (actions_at rest) × (are_supported false actions ≡ true)
+    → Begins (u16_cell k ∷ u16_cell (8 + length (actions_at rest)) ∷ pad 4 ∷ []) rest (actions_at rest ++ drop (len_at rest) rest) × AreStructs actions (actions_at rest) × (are_supported false actions ≡ true)
 with_actions k actions rest given fits kind long whole same encoded =
     let l = listed rest long whole in
-    let cells : List Cell = u16 k ∷ u16 (8 + length (actions_at rest)) ∷ pad 4 ∷ [] in
+    let cells : List StructCell = u16_cell k ∷ u16_cell (8 + length (actions_at rest)) ∷ pad 4 ∷ [] in
     let front : Begins cells rest (drop 8 rest) = front_of cells rest fits (omega (arith, long, whole)) (kind, (l.size_is, tt)) in
     let body = actions_found false (actions_at rest) (IsBytes-take (len_at rest - 8) (drop 8 rest) (IsBytes-drop 8 rest fits)) actions (subst (λ (b : List ℕ). AreActions false [] b actions None) same encoded) in
     (subst (λ (x : List ℕ). Begins cells rest x) l.parts front, body.0, body.1)
@@ -157,15 +157,15 @@ twenty_four k n is h = grind (arith, nat_tests)
 metadata_served : (value mask : ℕ) → value < 256 ^ 8 → mask < 256 ^ 8 → is_served_body (Metadata value mask) ≡ true
 metadata_served value mask v m = and_true (ltb value (2 ^ 64)) (ltb mask (2 ^ 64)) (lt-ltb value (2 ^ 64) (omega (arith, v))) (lt-ltb mask (2 ^ 64) (omega (arith, m)))
 
-one : (table : ℕ) (seen : List Header) (h : Header) (i : Instruction) (rest : List ℕ) → IsBytes rest → first_of (header_refusals table seen rest) ≡ None → header_at rest ≡ Some h → IsBody h i → One i rest
+one : (table : ℕ) (seen : List Header) (h : Header) (i : Instruction) (rest : List ℕ) → IsBytes rest → first_of (header_refusals table seen rest) ≡ None → header_at rest ≡ Some h → IsInstructionBody h i → One i rest
 one table seen (goto to) i rest fits none at body =
     let p = head table seen rest none in
     let kind : type_at rest ≡ 1 = sym (kind_is rest (goto to) at) in
-    let there : Some (goto (table_at rest)) ≡ Some (goto to) = sym (at_goto rest kind) ∙ at in
-    let same : table_at rest ≡ to = cc in
+    let there : Some (goto (goto_table_at rest)) ≡ Some (goto to) = sym (at_goto rest kind) ∙ at in
+    let same : goto_table_at rest ≡ to = cc in
     let len : len_at rest ≡ 8 = eight _ _ kind p.sized in
     let next = next_table table seen rest p kind in
-    let low : ltb to 16 ≡ true = let t : ltb (table_at rest) 16 ≡ true = grind (arith, nat_tests, next) in ap (λ (n : ℕ). ltb n 16) (sym same) ∙ t in
+    let low : ltb to 16 ≡ true = let t : ltb (goto_table_at rest) 16 ≡ true = grind (arith, nat_tests, next) in ap (λ (n : ℕ). ltb n 16) (sym same) ∙ t in
     subst (λ (x : Instruction). One x rest) (sym body) (plain (Goto to) rest 8 fits len (omega (arith, len, p.whole)) refl (kind, (len, (same, tt))) refl low)
 one table seen (metadata value mask) i rest fits none at body =
     let p = head table seen rest none in
@@ -197,18 +197,18 @@ one table seen clear i rest fits none at body =
     subst (λ (x : Instruction). One x rest) (sym body) (plain Clear rest 8 fits len (omega (arith, len, p.whole)) refl (kind, (len, tt)) refl refl)
 
 -- the type of an instruction is that of its header
-type_same : (i : Instruction) → type_of i ≡ instruction_type i
+type_same : (i : Instruction) → type_of_instruction i ≡ instruction_type i
 type_same (Goto table) = refl
 type_same (Metadata value mask) = refl
 type_same (Write actions) = refl
 type_same (Apply actions) = refl
 type_same Clear = refl
 
-used_same : (n : ℕ) (is : List Instruction) → is_used instruction_type n is ≡ is_used type_of n is
+used_same : (n : ℕ) (is : List Instruction) → is_used instruction_type n is ≡ is_used type_of_instruction n is
 used_same n [] = refl
 used_same n (i ∷ is) = rw (type_same i, used_same n is) refl
 
-same_once : (is : List Instruction) → is_distinct instruction_type is ≡ is_distinct type_of is
+same_once : (is : List Instruction) → is_distinct instruction_type is ≡ is_distinct type_of_instruction is
 same_once [] = refl
 same_once (i ∷ is) = rw (type_same i, used_same (instruction_type i) is, same_once is) refl
 
@@ -244,7 +244,7 @@ pub found : (table : ℕ) (bytes : List ℕ) → IsBytes bytes → (is : List In
 found table bytes fits is s =
     let f = found_items table [] s.headers s.message bytes fits s.whole s.bodies in
     let places : is_distinct run_place s.message ≡ true = places_once s.headers s.message s.bodies (f.once refl) in
-    let types : is_distinct type_of s.message ≡ true = sym (distinct_place s.message) ∙ places in
+    let types : is_distinct type_of_instruction s.message ≡ true = sym (distinct_place s.message) ∙ places in
     (record { message = s.message; structs = f.are; once = same_once s.message ∙ types; order = s.order }, order_kept s.message is places f.served s.order, encoded_for table bytes is s)
 
 -- ---- from structs to what is read
@@ -271,7 +271,7 @@ record Passes (table : ℕ) (seen : List Header) (i : Instruction) (bytes rest :
   none : first_of (header_refusals table seen bytes) ≡ None
   at : header_at bytes ≡ Some header
   behind : rest ≡ drop (len_at bytes) bytes
-  body : IsBody header i
+  body : IsInstructionBody header i
 
 -- a type that is known and not refused as such
 pub record IsServed (kind n : ℕ) : Type 0 where
@@ -282,7 +282,7 @@ pub record IsServed (kind n : ℕ) : Type 0 where
 
 -- all but the last test pass
 pub last_left : (table : ℕ) (seen : List Header) (rest : List ℕ) (n kind : ℕ) → len_at rest ≡ n → 8 ≤ n → n % 8 ≡ 0 → n ≤ length rest → type_at rest ≡ kind → IsServed kind n → is_used kind_of kind seen ≡ false
-    → first_of (header_refusals table seen rest) ≡ cond ((kind == 1) && not (is_next table (table_at rest))) (Some (refusal 3 2)) None
+    → first_of (header_refusals table seen rest) ≡ cond ((kind == 1) && not (is_next table (goto_table_at rest))) (Some (refusal 3 2)) None
 unfolding header_refusals
 last_left table seen rest n kind len low eight whole type served unused =
     let short : ltb (length rest) 4 ≡ false = le-ltb _ _ (omega arith) in
@@ -296,7 +296,7 @@ last_left table seen rest n kind len low eight whole type served unused =
     rw (short, len, low', eight', whole', type, sized, meter, experimenter, known, unused) refl
 
 none_refused : (table : ℕ) (seen : List Header) (rest : List ℕ) (n kind : ℕ) → len_at rest ≡ n → 8 ≤ n → n % 8 ≡ 0 → n ≤ length rest → type_at rest ≡ kind → IsServed kind n → is_used kind_of kind seen ≡ false
-    → ((kind == 1) && not (is_next table (table_at rest))) ≡ false → first_of (header_refusals table seen rest) ≡ None
+    → ((kind == 1) && not (is_next table (goto_table_at rest))) ≡ false → first_of (header_refusals table seen rest) ≡ None
 none_refused table seen rest n kind len low eight whole type served unused next =
     last_left table seen rest n kind len low eight whole type served unused ∙ ap (λ (b : Bool). cond b (Some (refusal 3 2)) None) next
 
@@ -307,8 +307,8 @@ served_as kind n a b c d = record { sized = a; meter = b; experimenter = c; know
 empty_actions : (bytes : List ℕ) → AreStructs [] bytes → bytes ≡ []
 empty_actions bytes h = h
 
-pass_plain : (table : ℕ) (seen : List Header) (i : Instruction) (h : Header) (bytes rest : List ℕ) (s : IsInstruction i bytes rest) (n kind : ℕ) → actions_in i ≡ [] → size (instruction_cells i (length s.actions)) ≡ n → 8 ≤ n → n % 8 ≡ 0
-    → len_at bytes ≡ n → type_at bytes ≡ kind → IsServed kind n → is_used kind_of kind seen ≡ false → ((kind == 1) && not (is_next table (table_at bytes))) ≡ false → header_at bytes ≡ Some h → IsBody h i → Passes table seen i bytes rest
+pass_plain : (table : ℕ) (seen : List Header) (i : Instruction) (h : Header) (bytes rest : List ℕ) (s : IsInstruction i bytes rest) (n kind : ℕ) → actions_of_instruction i ≡ [] → size (instruction_cells i (length s.actions)) ≡ n → 8 ≤ n → n % 8 ≡ 0
+    → len_at bytes ≡ n → type_at bytes ≡ kind → IsServed kind n → is_used kind_of kind seen ≡ false → ((kind == 1) && not (is_next table (goto_table_at bytes))) ≡ false → header_at bytes ≡ Some h → IsInstructionBody h i → Passes table seen i bytes rest
 pass_plain table seen i h bytes rest s n kind none is low eight len type served unused next at body =
     let cells = instruction_cells i (length s.actions) in
     let empty : s.actions ≡ [] = empty_actions s.actions (subst (λ (xs : List Action). AreStructs xs s.actions) none s.are) in
@@ -324,10 +324,10 @@ pass_plain table seen i h bytes rest s n kind none is low eight len type served 
     }
 
 -- the same with actions
-pass_listed : (table : ℕ) (seen : List Header) (i : Instruction) (make : List ℕ → Header) (actions : List Action) (bytes rest text : List ℕ) (kind : ℕ) → Begins (u16 kind ∷ u16 (8 + length text) ∷ pad 4 ∷ []) bytes (text ++ rest) → AreStructs actions text
-    → are_supported false actions ≡ true → IsServed kind (8 + length text) → is_used kind_of kind seen ≡ false → (kind == 1) ≡ false → header_at bytes ≡ Some (make (actions_at bytes)) → (AreActions false [] text actions None → IsBody (make text) i) → Passes table seen i bytes rest
+pass_listed : (table : ℕ) (seen : List Header) (i : Instruction) (make : List ℕ → Header) (actions : List Action) (bytes rest text : List ℕ) (kind : ℕ) → Begins (u16_cell kind ∷ u16_cell (8 + length text) ∷ pad 4 ∷ []) bytes (text ++ rest) → AreStructs actions text
+    → are_supported false actions ≡ true → IsServed kind (8 + length text) → is_used kind_of kind seen ≡ false → (kind == 1) ≡ false → header_at bytes ≡ Some (make (actions_at bytes)) → (AreActions false [] text actions None → IsInstructionBody (make text) i) → Passes table seen i bytes rest
 pass_listed table seen i make actions bytes rest text kind front are served type unused other at body =
-    let cells : List Cell = u16 kind ∷ u16 (8 + length text) ∷ pad 4 ∷ [] in
+    let cells : List StructCell = u16_cell kind ∷ u16_cell (8 + length text) ∷ pad 4 ∷ [] in
     let y = says 0 cells bytes bytes (text ++ rest) refl front in
     let len : len_at bytes ≡ 8 + length text = y.1.0 in
     let long : length bytes ≡ 8 + length (text ++ rest) = size_is cells bytes (text ++ rest) front in
@@ -335,7 +335,7 @@ pass_listed table seen i make actions bytes rest text kind front are served type
     let eights : length text % 8 ≡ 0 = structs_eights actions text are (is_served_list false actions served).all in
     let taken : actions_at bytes ≡ text = ap (λ (k : ℕ). take (k - 8) (drop 8 bytes)) len ∙ ap (take (8 + length text - 8)) (sym behind) ∙ take_at text rest (8 + length text - 8) (omega arith) in
     let past : drop (len_at bytes) bytes ≡ rest = ap (λ (k : ℕ). drop k bytes) (len ∙ omega arith) ∙ sym (drop-drop (length text) 8 bytes) ∙ ap (drop (length text)) (sym behind) ∙ drop_at text rest (length text) refl in
-    let next : ((kind == 1) && not (is_next table (table_at bytes))) ≡ false = ap (λ (b : Bool). b && not (is_next table (table_at bytes))) other in
+    let next : ((kind == 1) && not (is_next table (goto_table_at bytes))) ≡ false = ap (λ (b : Bool). b && not (is_next table (goto_table_at bytes))) other in
     record {
       header = make text;
       some = omega (arith, long);
@@ -345,13 +345,13 @@ pass_listed table seen i make actions bytes rest text kind front are served type
       body = body (actions_only false text actions are served);
     }
 
-goto_next : (table to : ℕ) (bytes : List ℕ) → table_at bytes ≡ to → ltb to 16 ≡ true → ltb table to ≡ true → ((1 == 1) && not (is_next table (table_at bytes))) ≡ false
+goto_next : (table to : ℕ) (bytes : List ℕ) → goto_table_at bytes ≡ to → ltb to 16 ≡ true → ltb table to ≡ true → ((1 == 1) && not (is_next table (goto_table_at bytes))) ≡ false
 goto_next table to bytes is low later = rw (is, later, low) refl
 
 passes : (table : ℕ) (seen : List Header) (i : Instruction) (bytes rest : List ℕ) → IsInstruction i bytes rest → is_served_body i ≡ true → is_for table i ≡ true → is_used kind_of (instruction_type i) seen ≡ false → Passes table seen i bytes rest
 passes table seen (Goto to) bytes rest s served valid unused =
     let y = says 0 (instruction_cells (Goto to) (length s.actions)) bytes bytes (s.actions ++ rest) refl s.front in
-    let to_is : table_at bytes ≡ to = y.1.1.0 in
+    let to_is : goto_table_at bytes ≡ to = y.1.1.0 in
     pass_plain table seen (Goto to) (goto to) bytes rest s 8 1 refl refl (omega arith) refl y.1.0 y.0 (served_as 1 8 refl refl refl refl) unused (goto_next table to bytes to_is served valid)
     (at_goto bytes y.0 ∙ ap (λ (n : ℕ). Some (goto n)) to_is) refl
 passes table seen (Metadata value mask) bytes rest s served valid unused =
@@ -417,7 +417,7 @@ from_order p is h =
       gotos = first (list_all p e) true h5;
     })
 
-body_type : (h : Header) (i : Instruction) → IsBody h i → kind_of h ≡ instruction_type i
+body_type : (h : Header) (i : Instruction) → IsInstructionBody h i → kind_of h ≡ instruction_type i
 body_type (goto table) i b = ap instruction_type (sym b)
 body_type (metadata value mask) i b = ap instruction_type (sym b)
 body_type (write bytes) i b = ap instruction_type (sym b.is)

@@ -4,7 +4,7 @@ use Rattle.std.specs.Prelude.{IsSome}
 use Rattle.std.proofs.lemmas.Bool.{ltb-false, not-false}
 use Rattle.std.proofs.lemmas.Bool.Decides.{nat_tests}
 use Rattle.of_wire.specs.declared.code.Code.{Code}
-use Rattle.of_wire.specs.Items.{TakesBytes, items_of}
+use Rattle.of_wire.specs.Items.{TakesBytes, items_from}
 use Rattle.of_wire.proofs.FirstLemmas.{none_applies, first_false}
 use Rattle.of_actions.specs.declared.action.Action.{Action}
 use Rattle.of_actions.specs.declared.instruction.Instruction.{Instruction}
@@ -12,8 +12,8 @@ use Rattle.of_actions.specs.declared.instruction.Instruction.TheVariants.{Apply,
 use Rattle.of_actions.specs.Actions.{actions_said}
 use Rattle.of_actions.specs.Beginnings.{type_at, len_at}
 use Rattle.of_actions.specs.Headers.{Header, goto, metadata, write, apply, clear, is_known, headers_of, header_refusals, header_at}
-use Rattle.of_actions.specs.Instructions.{HasActions, IsBody, AreBodies, EncodesInstructions}
-use Rattle.of_actions.specs.InstructionReading.{with_actions, body_of, prepended, bodies_of, then_bodies, then_ordered, instructions_of}
+use Rattle.of_actions.specs.Instructions.{HasActions, IsInstructionBody, AreBodies, EncodesInstructions}
+use Rattle.of_actions.specs.InstructionReading.{with_actions_read, instruction_of_header, instruction_prepended, bodies_of, then_bodies, then_ordered, instructions_in_bytes}
 use Rattle.of_actions.specs.RunOrder.{in_run_order}
 use Rattle.of_laws.proofs.Items.{HasValues, are_items}
 use Rattle.of_laws.proofs.ActionTails.{actions_found}
@@ -32,11 +32,11 @@ headers_have : (table : ℕ) → HasValues (headers_of table)
 unfolding header_refusals
 headers_have table seen bytes some none = some_header bytes (not-false _ (none_applies (header_refusals table seen bytes) none).1.1.1.1.1.0)
 
-list_found : (bytes : List ℕ) (make : List Action → Instruction) (i : Instruction) (r : Result (List Action) Code) → actions_said false bytes ≡ r → with_actions make r ≡ Ok i → HasActions bytes make i
+list_found : (bytes : List ℕ) (make : List Action → Instruction) (i : Instruction) (r : Result (List Action) Code) → actions_said false bytes ≡ r → with_actions_read make r ≡ Ok i → HasActions bytes make i
 list_found bytes make i (Err code) is h = absurd cc
 list_found bytes make i (Ok actions) is h = let same : make actions ≡ i = cc in record { actions = actions; encoded = actions_found false bytes actions is; is = sym same }
 
-body_found : (h : Header) (i : Instruction) → body_of h ≡ Ok i → IsBody h i
+body_found : (h : Header) (i : Instruction) → instruction_of_header h ≡ Ok i → IsInstructionBody h i
 body_found (goto table) i e = let same : Goto table ≡ i = cc in sym same
 body_found (metadata value mask) i e = let same : Metadata value mask ≡ i = cc in sym same
 body_found (write bytes) i e = list_found bytes Write i (actions_said false bytes) refl e
@@ -46,9 +46,9 @@ body_found clear i e = let same : Clear ≡ i = cc in sym same
 bodies_found : (hs : List Header) (is : List Instruction) → bodies_of hs ≡ Ok is → AreBodies hs is None
 bodies_found [] [] e = refl
 bodies_found [] (i ∷ is) e = absurd cc
-bodies_found (h ∷ hs) is e = by_parts (body_of h) refl (bodies_of hs) refl is e (bodies_found hs)
+bodies_found (h ∷ hs) is e = by_parts (instruction_of_header h) refl (bodies_of hs) refl is e (bodies_found hs)
   where
-    by_parts : (r : Result Instruction Code) → body_of h ≡ r → (s : Result (List Instruction) Code) → bodies_of hs ≡ s → (all : List Instruction) → prepended r s ≡ Ok all
+    by_parts : (r : Result Instruction Code) → instruction_of_header h ≡ r → (s : Result (List Instruction) Code) → bodies_of hs ≡ s → (all : List Instruction) → instruction_prepended r s ≡ Ok all
         → ((others : List Instruction) → bodies_of hs ≡ Ok others → AreBodies hs others None) → AreBodies (h ∷ hs) all None
     by_parts (Err code) is s are all f next = absurd cc
     by_parts (Ok i) is (Err code) are all f next = absurd cc
@@ -56,11 +56,11 @@ bodies_found (h ∷ hs) is e = by_parts (body_of h) refl (bodies_of hs) refl is 
         let same : (i ∷ others) ≡ all = cc in
         subst (λ (x : List Instruction). AreBodies (h ∷ hs) x None) same (body_found h i is, next others are)
 
-pub instructions_found : (table : ℕ) (bytes : List ℕ) (is : List Instruction) → instructions_of table bytes ≡ Ok is → EncodesInstructions table bytes is
-unfolding instructions_of
-instructions_found table bytes is e = by_headers (items_of (headers_of table) (length bytes) [] bytes) refl e
+pub instructions_found : (table : ℕ) (bytes : List ℕ) (is : List Instruction) → instructions_in_bytes table bytes ≡ Ok is → EncodesInstructions table bytes is
+unfolding instructions_in_bytes
+instructions_found table bytes is e = by_headers (items_from (headers_of table) (length bytes) [] bytes) refl e
   where
-    by_bodies : (hs : List Header) → items_of (headers_of table) (length bytes) [] bytes ≡ Ok hs → (r : Result (List Instruction) Code) → bodies_of hs ≡ r → then_ordered r ≡ Ok is → EncodesInstructions table bytes is
+    by_bodies : (hs : List Header) → items_from (headers_of table) (length bytes) [] bytes ≡ Ok hs → (r : Result (List Instruction) Code) → bodies_of hs ≡ r → then_ordered r ≡ Ok is → EncodesInstructions table bytes is
     by_bodies hs whole (Err code) bodies f = absurd cc
     by_bodies hs whole (Ok message) bodies f =
         let order : in_run_order message ≡ is = cc in
@@ -72,6 +72,6 @@ instructions_found table bytes is e = by_headers (items_of (headers_of table) (l
           order = sym order;
         }
 
-    by_headers : (r : Result (List Header) Code) → items_of (headers_of table) (length bytes) [] bytes ≡ r → then_ordered (then_bodies r) ≡ Ok is → EncodesInstructions table bytes is
+    by_headers : (r : Result (List Header) Code) → items_from (headers_of table) (length bytes) [] bytes ≡ r → then_ordered (then_bodies r) ≡ Ok is → EncodesInstructions table bytes is
     by_headers (Err code) whole f = absurd cc
     by_headers (Ok hs) whole f = by_bodies hs whole (bodies_of hs) refl f

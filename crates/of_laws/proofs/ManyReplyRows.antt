@@ -5,7 +5,7 @@ use Rattle.std.proofs.lemmas.List.Elements.{recursion_from_All, All-from_recursi
 use Rattle.of_statistics.specs.Replies.{AreReplies, most, reply, replies}
 use Rattle.of_statistics.proofs.Cutting.{cut, fit}
 use Rattle.of_laws.specs.Replied.{Reply, EncodeAll, EncodesReply, flags}
-use Rattle.of_laws.specs.ReplyRows.{AreRows}
+use Rattle.of_laws.specs.ReplyRows.{AreReplyRows}
 
 -- ---- rows that are written
 
@@ -14,7 +14,7 @@ abbrev pub AreWritten : {X Y : Type 0} → (Y → List ℕ → List ℕ → Type
 AreWritten {X} IsRow shown row Holds = (x : X) (rest : List ℕ) → Holds x → IsRow (shown x) (row x ++ rest) rest
 
 pub rows_written : {X Y : Type 0} (IsRow : Y → List ℕ → List ℕ → Type 0) (shown : X → Y) (row : X → List ℕ) (Holds : X → Type 0) → AreWritten IsRow shown row Holds
-    → (xs : List X) → ByRecursion Holds xs → AreRows IsRow (map shown xs) (concat (map row xs))
+    → (xs : List X) → ByRecursion Holds xs → AreReplyRows IsRow (map shown xs) (concat (map row xs))
 rows_written IsRow shown row Holds each [] all = refl
 rows_written IsRow shown row Holds each (x ∷ xs) all = let rest = concat (map row xs) in (rest, each x rest all.0, rows_written IsRow shown row Holds each xs all.1)
 

@@ -8,13 +8,13 @@ use Rattle.byteorder.specs.Endian.{big_number, big_bytes}
 use Rattle.byteorder.specs.Numbers.{big_number-reads_back}
 use Rattle.of_wire.specs.declared.code.Code.{Code}
 use Rattle.of_wire.specs.Refusals.{first_of}
-use Rattle.of_wire.specs.Items.{AreItems, TakesBytes, items_of}
+use Rattle.of_wire.specs.Items.{AreItems, TakesBytes, items_from}
 use Rattle.of_wire.proofs.Numbers.{IsBytes, IsBytes-drop, IsBytes-take}
 use Rattle.of_layers.specs.declared.field.Field.{Field}
 use Rattle.of_layers.specs.Fields.{field_at}
 use Rattle.of_oxm.specs.declared.match_field.MatchField.{MatchField}
 use Rattle.of_oxm.specs.MatchFieldWire.{encoding, number_at, match_field_of, field_refusals, known_field_refusals}
-use Rattle.of_oxm.specs.MatchGrammar.{encodings, AreFieldsAfter, Fields, match_len, padded, body_of, head_refusals, EncodesMatch}
+use Rattle.of_oxm.specs.MatchGrammar.{encodings, AreFieldsAfter, Fields, match_len, padded, match_body, match_head_refusals, EncodesMatch}
 use Rattle.of_oxm.specs.MatchReading.{match_fields, then_normal, match_by, match_of}
 use Rattle.of_oxm.specs.NormalForm.{normal}
 use Rattle.of_oxm.specs.Prerequisites.{prerequisites_met}
@@ -55,7 +55,7 @@ read_so seen (e ∷ es) bytes fits h =
     let others = read_so (seen ++ e ∷ []) es after (IsBytes-drop (4 + get_or bytes 3 0) bytes fits) h.3 in
     record { whole = one.text ∙ ap (λ (x : List ℕ). encoding e ++ x) others.whole; fine = (one.encoded, one.first, others.fine) }
 
-fields_found : (body : List ℕ) (fields : List MatchField) → IsBytes body → items_of match_fields (length body) [] body ≡ Ok fields → Fields [] body fields None
+fields_found : (body : List ℕ) (fields : List MatchField) → IsBytes body → items_from match_fields (length body) [] body ≡ Ok fields → Fields [] body fields None
 fields_found body fields fits h =
     let r = read_so [] fields body fits (are_items match_fields body fields fields_take fields_have h) in
     record { rest = []; whole = r.whole ∙ sym (append-nil (encodings fields)); fine = r.fine; ended = refl }
@@ -65,9 +65,9 @@ parts a c b d e = let both : (a, b) ≡ (c, d) = cc in (ap (λ (p : List MatchFi
 
 pub match_found : (bytes : List ℕ) (m : List MatchField) (n : ℕ) → IsBytes bytes → match_of bytes ≡ Ok (m, n) → EncodesMatch (take n bytes) m
 unfolding match_of
-match_found bytes m n fits h = by_head (first_of (head_refusals bytes)) refl h
+match_found bytes m n fits h = by_head (first_of (match_head_refusals bytes)) refl h
   where
-    by_met : (none : first_of (head_refusals bytes) ≡ None) (fields : List MatchField) → Fields [] (body_of bytes) fields None → (met : Bool) → prerequisites_met (normal fields) ≡ met
+    by_met : (none : first_of (match_head_refusals bytes) ≡ None) (fields : List MatchField) → Fields [] (match_body bytes) fields None → (met : Bool) → prerequisites_met (normal fields) ≡ met
         → cond {A = Result (List MatchField × ℕ) Code} met (Ok (normal fields, padded (match_len bytes))) (Err (record { kind = 4; code = 9 })) ≡ Ok (m, n) → EncodesMatch (take n bytes) m
     by_met none fields walk false met e = absurd cc
     by_met none fields walk true met e =
@@ -75,16 +75,16 @@ match_found bytes m n fits h = by_head (first_of (head_refusals bytes)) refl h
         let same = both.0 in
         let size = both.1 in
         subst (λ (k : ℕ). EncodesMatch (take k bytes) m) size
-        (whole_encoded bytes (body_of bytes) (match_len bytes) fields m fits none refl refl walk (sym same) (ap prerequisites_met (sym same) ∙ met))
+        (whole_encoded bytes (match_body bytes) (match_len bytes) fields m fits none refl refl walk (sym same) (ap prerequisites_met (sym same) ∙ met))
 
-    by_fields : (none : first_of (head_refusals bytes) ≡ None) (r : Result (List MatchField) Code) → items_of match_fields (length (body_of bytes)) [] (body_of bytes) ≡ r → then_normal (padded (match_len bytes)) r ≡ Ok (m, n) → EncodesMatch (take n bytes) m
+    by_fields : (none : first_of (match_head_refusals bytes) ≡ None) (r : Result (List MatchField) Code) → items_from match_fields (length (match_body bytes)) [] (match_body bytes) ≡ r → then_normal (padded (match_len bytes)) r ≡ Ok (m, n) → EncodesMatch (take n bytes) m
     by_fields none (Err code) is e = absurd cc
     by_fields none (Ok fields) is e =
-        by_met none fields (fields_found (body_of bytes) fields (IsBytes-take (match_len bytes - 4) (drop 4 bytes) (IsBytes-drop 4 bytes fits)) is) (prerequisites_met (normal fields)) refl e
+        by_met none fields (fields_found (match_body bytes) fields (IsBytes-take (match_len bytes - 4) (drop 4 bytes) (IsBytes-drop 4 bytes fits)) is) (prerequisites_met (normal fields)) refl e
 
-    by_head : (o : Option Code) → first_of (head_refusals bytes) ≡ o → match_by bytes o ≡ Ok (m, n) → EncodesMatch (take n bytes) m
+    by_head : (o : Option Code) → first_of (match_head_refusals bytes) ≡ o → match_by bytes o ≡ Ok (m, n) → EncodesMatch (take n bytes) m
     by_head (Some code) none e = absurd cc
-    by_head None none e = by_fields none (items_of match_fields (length (body_of bytes)) [] (body_of bytes)) refl e
+    by_head None none e = by_fields none (items_from match_fields (length (match_body bytes)) [] (match_body bytes)) refl e
 
 -- what is read as a match, and in how many bytes
 abbrev pub fields_in : Result (List MatchField × ℕ) Code → List MatchField
@@ -99,9 +99,9 @@ size_in (Err code) = 0
 
 -- what bytes are that begin with a head, with what stands for fields, and with padding
 pub record Headed (fields bytes : List ℕ) (len : ℕ) : Type 0 where
-  pub none : first_of (head_refusals bytes) ≡ None
+  pub none : first_of (match_head_refusals bytes) ≡ None
   pub len_is : match_len bytes ≡ len
-  pub body : body_of bytes ≡ fields
+  pub body : match_body bytes ≡ fields
 
 pub headed : (fields padding x : List ℕ) (len : ℕ) → len ≡ 4 + length fields → len < 2 ^ 16 → length (0 ∷ 1 ∷ (big_bytes 2 len ++ (fields ++ padding))) ≡ padded len → Headed fields ((0 ∷ 1 ∷ (big_bytes 2 len ++ (fields ++ padding))) ++ x) len
 headed fields padding x len len_is fits size =
@@ -113,18 +113,18 @@ headed fields padding x len len_is fits size =
     let le : len ≤ padded len = omega arith in
     let third : (ltb (match_len all) 4 || ltb (length all) (padded (match_len all))) ≡ false =
     ap (λ (n : ℕ). ltb n 4 || ltb (length all) (padded n)) same ∙ ap (λ (b : Bool). b || ltb (length all) (padded len)) (le-ltb _ _ low) ∙ le-ltb _ _ long in
-    let applies : NoneApplies (head_refusals all) = (le-ltb _ _ (omega (arith, long, low, le)), (refl, (third, tt))) in
+    let applies : NoneApplies (match_head_refusals all) = (le-ltb _ _ (omega (arith, long, low, le)), (refl, (third, tt))) in
     record {
-      none = none_first (head_refusals all) applies;
+      none = none_first (match_head_refusals all) applies;
       len_is = same;
       body = ap (λ (n : ℕ). take (n - 4) (drop 4 all)) same ∙ ap (take (len - 4)) (append_assoc fields padding x) ∙ take_at fields (padding ++ x) (len - 4) (omega (arith, len_is));
     }
 
 -- what bytes are that begin with an encoding
 record Begun (a bytes : List ℕ) (fields : List MatchField) (len : ℕ) : Type 0 where
-  none : first_of (head_refusals bytes) ≡ None
+  none : first_of (match_head_refusals bytes) ≡ None
   len_is : len ≡ match_len bytes
-  walk : Fields [] (body_of bytes) fields None
+  walk : Fields [] (match_body bytes) fields None
 
 begun : (a x : List ℕ) (m : List MatchField) (s : EncodesMatch a m) → Begun a (a ++ x) s.fields s.len
 begun a x m s =
@@ -141,4 +141,4 @@ begun a x m s =
 pub match_only : (a x : List ℕ) (m : List MatchField) → EncodesMatch a m → match_of (a ++ x) ≡ Ok (m, length a)
 match_only a x m s =
     let b = begun a x m s in
-    found_computed (a ++ x) (body_of (a ++ x)) s.len s.fields m b.none b.len_is refl b.walk s.normal_form s.met ∙ ap (λ (n : ℕ). Ok (m, n)) (sym s.size)
+    found_computed (a ++ x) (match_body (a ++ x)) s.len s.fields m b.none b.len_is refl b.walk s.normal_form s.met ∙ ap (λ (n : ℕ). Ok (m, n)) (sym s.size)

@@ -5,7 +5,7 @@ use Rattle.of_laws.proofs.OneReplyGroup.{group_one, group_some, described_one as
 use Rattle.of_laws.proofs.OneReplyRow.{IsOne, HasBytes, rows_one, flow_one, flow_some, table_one, table_some, port_one, port_some, described_one, described_some}
 use Rattle.of_laws.proofs.Places.{Says, says, size, rest_is}
 use Rattle.of_laws.specs.Replied.{Reply, EncodesReply, ReplyTail, aggregate, described_groups, described_ports, description, flags, flows, group_features, groups, ports, reply_cells, reply_fixed_part, reply_type, tables}
-use Rattle.of_laws.specs.ReplyRows.{AggregateStats, AreRows, IsDescribed, IsDescribedPort, IsFlow, IsGroup, IsPort, IsTable}
+use Rattle.of_laws.specs.ReplyRows.{AggregateStats, AreReplyRows, IsDescribed, IsDescribedPort, IsFlow, IsGroupRow, IsPort, IsTable}
 
 -- what is where: after the fields, which say what they say, comes the rest
 record Laid (r : Reply) (m tail : List ℕ) : Type 0 where
@@ -40,8 +40,8 @@ one_flag false true e = absurd (omega (arith, e))
 one_flag true false e = absurd (omega (arith, e))
 one_flag true true e = refl
 
-one_tail : {X : Type 0} (IsRow : X → List ℕ → List ℕ → Type 0) → IsOne IsRow → HasBytes IsRow → (xs ys : List X) (a b c : List ℕ) → a ≡ c → b ≡ c → AreRows IsRow xs a → AreRows IsRow ys b → xs ≡ ys
-one_tail IsRow one some xs ys a b c left right h k = rows_one IsRow one some xs ys a h (subst (λ (t : List ℕ). AreRows IsRow ys t) (right ∙ sym left) k)
+one_tail : {X : Type 0} (IsRow : X → List ℕ → List ℕ → Type 0) → IsOne IsRow → HasBytes IsRow → (xs ys : List X) (a b c : List ℕ) → a ≡ c → b ≡ c → AreReplyRows IsRow xs a → AreReplyRows IsRow ys b → xs ≡ ys
+one_tail IsRow one some xs ys a b c left right h k = rows_one IsRow one some xs ys a h (subst (λ (t : List ℕ). AreReplyRows IsRow ys t) (right ∙ sym left) k)
 
 one_aggregate : (s t : AggregateStats) → s.packets ≡ t.packets → s.bytes ≡ t.bytes → s.flows ≡ t.flows → s ≡ t
 one_aggregate s t p q r = λ i. record { packets = p i; bytes = q i; flows = r i }
@@ -52,7 +52,7 @@ one_kind (flows xs) (flows ys) m a b e h k = ap flows (one_tail IsFlow flow_one 
 one_kind (aggregate s) (aggregate t) m a b e h k = let x = h.fields in let y = k.fields in ap aggregate (one_aggregate s t (sym x.0 ∙ y.0) (sym x.1.0 ∙ y.1.0) (sym x.1.1.0 ∙ y.1.1.0))
 one_kind (tables xs) (tables ys) m a b e h k = ap tables (one_tail IsTable table_one table_some xs ys a b (drop 16 m) h.there k.there h.behind k.behind)
 one_kind (ports xs) (ports ys) m a b e h k = ap ports (one_tail IsPort port_one port_some xs ys a b (drop 16 m) h.there k.there h.behind k.behind)
-one_kind (groups xs) (groups ys) m a b e h k = ap groups (one_tail IsGroup group_one group_some xs ys a b (drop 16 m) h.there k.there h.behind k.behind)
+one_kind (groups xs) (groups ys) m a b e h k = ap groups (one_tail IsGroupRow group_one group_some xs ys a b (drop 16 m) h.there k.there h.behind k.behind)
 one_kind (described_groups xs) (described_groups ys) m a b e h k = ap described_groups (one_tail IsDescribed described_group_one described_group_some xs ys a b (drop 16 m) h.there k.there h.behind k.behind)
 one_kind group_features group_features m a b e h k = refl
 one_kind (described_ports xs) (described_ports ys) m a b e h k = ap described_ports (one_tail IsDescribedPort described_one described_some xs ys a b (drop 16 m) h.there k.there h.behind k.behind)

@@ -10,13 +10,13 @@ use Rattle.of_actions.proofs.ActionsComputed.{actions_are}
 use Rattle.of_groups.specs.declared.bucket.Bucket.{Bucket}
 use Rattle.of_groups.specs.declared.group.GroupKind.{GroupKind}
 use Rattle.of_groups.specs.declared.group.GroupKind.TheVariants.{All, Indirect, FastFailover}
+use Rattle.of_groups.specs.Groups.{kind_number}
 use Rattle.of_messages.specs.declared.group_mod.NewGroup.{NewGroup}
-use Rattle.of_laws.specs.Buckets.{AreBuckets, IsBucket, bucket_cells}
-use Rattle.of_laws.specs.Cells.{Begins, Cell, u16}
-use Rattle.of_laws.specs.Grammar.{kind_number}
+use Rattle.of_laws.specs.Buckets.{AreBuckets, BeginsWithBucket, bucket_cells}
+use Rattle.of_laws.specs.Cells.{Begins, StructCell, u16_cell}
 use Rattle.of_laws.proofs.OneReplyRow.{HasBytes, IsOne, rows_one}
 use Rattle.of_laws.proofs.Places.{says, rest_is, size_is}
-use Rattle.of_laws.specs.ReplyRows.{AreRows, BucketStats, GroupStats, IsGroup, bucket_stats_cells, group_stats_cells, IsDescribed, group_cells}
+use Rattle.of_laws.specs.ReplyRows.{AreReplyRows, BucketStats, GroupStats, IsGroupRow, bucket_stats_cells, group_stats_cells, IsDescribed, group_description_cells}
 
 -- what the same bytes begin with, and has the same length, is the same
 parted : (a b x y : List ℕ) (n : ℕ) → a ++ x ≡ b ++ y → length a ≡ n → length b ≡ n → (a ≡ b) × (x ≡ y)
@@ -61,9 +61,9 @@ record GroupRead (s : GroupStats) (m rest : List ℕ) : Type 0 where
   count : big_number 2 m ≡ 40 + 16 * length s.buckets
   counters : Begins (bucket_stats_cells s.buckets) (drop 40 m) rest
 
-group_read : (s : GroupStats) (m rest : List ℕ) → IsGroup s m rest → GroupRead s m rest
+group_read : (s : GroupStats) (m rest : List ℕ) → IsGroupRow s m rest → GroupRead s m rest
 group_read s m rest h =
-    let cells : List Cell = u16 (40 + 16 * length s.buckets) ∷ group_stats_cells s in
+    let cells : List StructCell = u16_cell (40 + 16 * length s.buckets) ∷ group_stats_cells s in
     let y = says 0 cells m m h.buckets refl h.front in
     let a = y.1.1.1.1 in
     record {
@@ -72,7 +72,7 @@ group_read s m rest h =
       counters = subst (λ (t : List ℕ). Begins (bucket_stats_cells s.buckets) t rest) (rest_is cells m h.buckets h.front) h.behind;
     }
 
-pub group_one : IsOne IsGroup
+pub group_one : IsOne IsGroupRow
 group_one x y m rest others h k =
     let a = group_read x m rest h in
     let b = group_read y m others k in
@@ -80,8 +80,8 @@ group_one x y m rest others h k =
     let both = counters_one x.buckets y.buckets (drop 40 m) rest others long a.counters b.counters in
     (sym a.value ∙ ap (group_at m) both.0 ∙ b.value, both.1)
 
-pub group_some : HasBytes IsGroup
-group_some s m rest h = omega (arith, size_is (u16 (40 + 16 * length s.buckets) ∷ group_stats_cells s) m h.buckets h.front)
+pub group_some : HasBytes IsGroupRow
+group_some s m rest h = omega (arith, size_is (u16_cell (40 + 16 * length s.buckets) ∷ group_stats_cells s) m h.buckets h.front)
 
 -- ---- GROUP_DESC
 
@@ -103,9 +103,9 @@ record BucketRead (b : Bucket) (m rest : List ℕ) : Type 0 where
   long : length actions ≡ big_number 2 m - 16
   whole : actions ++ rest ≡ drop 16 m
 
-bucket_read : (b : Bucket) (m rest : List ℕ) → IsBucket b m rest → BucketRead b m rest
+bucket_read : (b : Bucket) (m rest : List ℕ) → BeginsWithBucket b m rest → BucketRead b m rest
 bucket_read b m rest h =
-    let cells : List Cell = bucket_cells (16 + length h.actions) b in
+    let cells : List StructCell = bucket_cells (16 + length h.actions) b in
     let y = says 0 cells m m (h.actions ++ rest) refl h.front in
     let len : big_number 2 m ≡ 16 + length h.actions = y.0 in
     let are : actions_in (actions_said false h.actions) ≡ b.actions = ap actions_in (actions_are false h.actions b.actions None h.are) in
@@ -116,17 +116,17 @@ bucket_read b m rest h =
       whole = rest_is cells m (h.actions ++ rest) h.front;
     }
 
-bucket_one : IsOne IsBucket
+bucket_one : IsOne BeginsWithBucket
 bucket_one x y m rest others h k =
     let a = bucket_read x m rest h in
     let b = bucket_read y m others k in
     let both = parted a.actions b.actions rest others (big_number 2 m - 16) (a.whole ∙ sym b.whole) a.long b.long in
     (sym a.value ∙ ap (λ (t : List ℕ). bucket_at m (actions_in (actions_said false t))) both.0 ∙ b.value, both.1)
 
-bucket_some : HasBytes IsBucket
+bucket_some : HasBytes BeginsWithBucket
 bucket_some b m rest h = omega (arith, size_is (bucket_cells (16 + length h.actions) b) m (h.actions ++ rest) h.front)
 
-bucket_rows : (bs : List Bucket) (bytes : List ℕ) → AreBuckets bs bytes → AreRows IsBucket bs bytes
+bucket_rows : (bs : List Bucket) (bytes : List ℕ) → AreBuckets bs bytes → AreReplyRows BeginsWithBucket bs bytes
 bucket_rows [] bytes h = h
 bucket_rows (b ∷ bs) bytes h = (h.0, h.1, bucket_rows bs h.0 h.2)
 
@@ -146,14 +146,14 @@ same_described g id kind pid pkind = rw (pid, pkind) refl
 
 record DescribedRead (g : NewGroup) (m rest : List ℕ) : Type 0 where
   buckets : List ℕ
-  are : AreRows IsBucket g.buckets buckets
+  are : AreReplyRows BeginsWithBucket g.buckets buckets
   value : described_at m g.buckets ≡ g
   long : length buckets ≡ big_number 2 m - 8
   whole : buckets ++ rest ≡ drop 8 m
 
 described_read : (g : NewGroup) (m rest : List ℕ) → IsDescribed g m rest → DescribedRead g m rest
 described_read g m rest h =
-    let cells : List Cell = u16 (8 + length h.buckets) ∷ group_cells g in
+    let cells : List StructCell = u16_cell (8 + length h.buckets) ∷ group_description_cells g in
     let y = says 0 cells m m (h.buckets ++ rest) refl h.front in
     let len : big_number 2 m ≡ 8 + length h.buckets = y.0 in
     record {
@@ -169,9 +169,9 @@ described_one x y m rest others h k =
     let a = described_read x m rest h in
     let b = described_read y m others k in
     let both = parted a.buckets b.buckets rest others (big_number 2 m - 8) (a.whole ∙ sym b.whole) a.long b.long in
-    let here : AreRows IsBucket y.buckets a.buckets = subst (λ (t : List ℕ). AreRows IsBucket y.buckets t) (sym both.0) b.are in
-    let same : x.buckets ≡ y.buckets = rows_one IsBucket bucket_one bucket_some x.buckets y.buckets a.buckets a.are here in
+    let here : AreReplyRows BeginsWithBucket y.buckets a.buckets = subst (λ (t : List ℕ). AreReplyRows BeginsWithBucket y.buckets t) (sym both.0) b.are in
+    let same : x.buckets ≡ y.buckets = rows_one BeginsWithBucket bucket_one bucket_some x.buckets y.buckets a.buckets a.are here in
     (sym a.value ∙ ap (described_at m) same ∙ b.value, both.1)
 
 pub described_some : HasBytes IsDescribed
-described_some g m rest h = omega (arith, size_is (u16 (8 + length h.buckets) ∷ group_cells g) m (h.buckets ++ rest) h.front)
+described_some g m rest h = omega (arith, size_is (u16_cell (8 + length h.buckets) ∷ group_description_cells g) m (h.buckets ++ rest) h.front)

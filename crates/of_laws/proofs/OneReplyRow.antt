@@ -8,16 +8,16 @@ use Rattle.of_oxm.specs.declared.match_field.MatchField.{MatchField}
 use Rattle.of_oxm.specs.MatchGrammar.{EncodesMatch}
 use Rattle.of_oxm.specs.MatchReading.{match_of}
 use Rattle.of_actions.specs.declared.instruction.Instruction.{Instruction}
-use Rattle.of_actions.specs.InstructionReading.{instructions_of}
+use Rattle.of_actions.specs.InstructionReading.{instructions_in_bytes}
 use Rattle.of_actions.specs.Instructions.{EncodesInstructions}
 use Rattle.of_actions.proofs.Computed.{is_computed}
 use Rattle.of_messages.specs.declared.port_mod.PortDescription.{PortDescription}
 use Rattle.of_ports.specs.declared.counters.PortCounters.{PortCounters}
-use Rattle.of_laws.specs.Cells.{Cell, u16}
+use Rattle.of_laws.specs.Cells.{StructCell, u16_cell}
 use Rattle.of_laws.specs.Told.{port_cells}
 use Rattle.of_laws.proofs.MatchTails.{fields_in, match_only, size_in}
 use Rattle.of_laws.proofs.Places.{says, size, rest_is, size_is}
-use Rattle.of_laws.specs.ReplyRows.{AreRows, FlowStats, IsFlow, flow_cells, TableStats, IsTable, table_cells, PortStats, IsPort, port_stats_cells, IsDescribedPort}
+use Rattle.of_laws.specs.ReplyRows.{AreReplyRows, FlowStats, IsFlow, flow_cells, TableStats, IsTable, table_cells, PortStats, IsPort, port_stats_cells, IsDescribedPort}
 use Rattle.of_laws.proofs.OneTold.{same_description}
 
 -- ---- rows of one kind
@@ -29,14 +29,14 @@ IsOne {X} IsRow = (x y : X) (bytes rest others : List ℕ) → IsRow x bytes res
 abbrev pub HasBytes : {X : Type 0} → (X → List ℕ → List ℕ → Type 0) → Type 0
 HasBytes {X} IsRow = (x : X) (bytes rest : List ℕ) → IsRow x bytes rest → 0 < length bytes
 
-pub rows_one : {X : Type 0} (IsRow : X → List ℕ → List ℕ → Type 0) → IsOne IsRow → HasBytes IsRow → (xs ys : List X) (bytes : List ℕ) → AreRows IsRow xs bytes → AreRows IsRow ys bytes → xs ≡ ys
+pub rows_one : {X : Type 0} (IsRow : X → List ℕ → List ℕ → Type 0) → IsOne IsRow → HasBytes IsRow → (xs ys : List X) (bytes : List ℕ) → AreReplyRows IsRow xs bytes → AreReplyRows IsRow ys bytes → xs ≡ ys
 rows_one IsRow one some [] [] bytes a b = refl
 rows_one IsRow one some [] (y ∷ ys) bytes a b = let more = some y bytes b.0 b.1 in absurd (omega (arith, more, ap length a))
 rows_one IsRow one some (x ∷ xs) [] bytes a b = let more = some x bytes a.0 a.1 in absurd (omega (arith, more, ap length b))
 rows_one IsRow one some (x ∷ xs) (y ∷ ys) bytes a b =
     let both = one x y bytes a.0 b.0 a.1 b.1 in
     let first : x ≡ y = both.0 in
-    let others : xs ≡ ys = rows_one IsRow one some xs ys a.0 a.2 (subst (λ (t : List ℕ). AreRows IsRow ys t) (sym both.1) b.2) in
+    let others : xs ≡ ys = rows_one IsRow one some xs ys a.0 a.2 (subst (λ (t : List ℕ). AreReplyRows IsRow ys t) (sym both.1) b.2) in
     rw (first, others) refl
 
 -- what can be read from the bytes is one
@@ -55,7 +55,7 @@ instruction_bytes len tail = take (len - 48 - size_in (match_of tail)) (drop (si
 
 record FlowTail (table : ℕ) (fields : List MatchField) (instructions : List Instruction) (len : ℕ) (tail rest : List ℕ) : Type 0 where
   match : fields_in (match_of tail) ≡ fields
-  are : instructions_in (instructions_of table (instruction_bytes len tail)) ≡ instructions
+  are : instructions_in (instructions_in_bytes table (instruction_bytes len tail)) ≡ instructions
   behind : drop (len - 48) tail ≡ rest
 
 flow_tail : (table : ℕ) (fields : List MatchField) (instructions : List Instruction) (f i rest tail : List ℕ) (len : ℕ)
@@ -68,7 +68,7 @@ flow_tail table fields instructions f i rest tail len whole size encoded are =
     let these : instruction_bytes len tail ≡ i = ap (take (len - 48 - size_in (match_of tail))) behind ∙ take_at i rest (len - 48 - size_in (match_of tail)) (sym k) in
     record {
       match = ap fields_in said;
-      are = ap instructions_in (ap (instructions_of table) these ∙ is_computed table i (Ok instructions) are tt);
+      are = ap instructions_in (ap (instructions_in_bytes table) these ∙ is_computed table i (Ok instructions) are tt);
       behind = ap (drop (len - 48)) (sym whole ∙ sym (append_assoc f i rest)) ∙ drop_at (f ++ i) rest (len - 48) (omega (arith, length-append f i, size));
     }
 
@@ -85,7 +85,7 @@ flow_at m = record {
   packets = big_number 8 (drop 32 m);
   bytes = big_number 8 (drop 40 m);
   fields = fields_in (match_of (drop 48 m));
-  instructions = instructions_in (instructions_of (slice_index m 2) (instruction_bytes (big_number 2 m) (drop 48 m)));
+  instructions = instructions_in (instructions_in_bytes (slice_index m 2) (instruction_bytes (big_number 2 m) (drop 48 m)));
 }
 
 same_flow : (s : FlowStats) (a b c d e f g h i j : ℕ) (fields : List MatchField) (instructions : List Instruction)
@@ -99,12 +99,12 @@ record FlowRead (s : FlowStats) (m rest : List ℕ) : Type 0 where
 
 flow_read : (s : FlowStats) (m rest : List ℕ) → IsFlow s m rest → FlowRead s m rest
 flow_read s m rest h =
-    let cells : List Cell = u16 (48 + length h.fields + length h.instructions) ∷ flow_cells s in
+    let cells : List StructCell = u16_cell (48 + length h.fields + length h.instructions) ∷ flow_cells s in
     let y = says 0 cells m m (h.fields ++ (h.instructions ++ rest)) refl h.front in
     let t = flow_tail s.table s.fields s.instructions h.fields h.instructions rest (drop 48 m) (big_number 2 m) (rest_is cells m (h.fields ++ (h.instructions ++ rest)) h.front) y.0 h.encoded h.are in
     let table : slice_index m 2 ≡ s.table = y.1.0 in
     let a = y.1.1.1.1 in
-    let are = ap (λ (k : ℕ). instructions_in (instructions_of k (instruction_bytes (big_number 2 m) (drop 48 m)))) table ∙ t.are in
+    let are = ap (λ (k : ℕ). instructions_in (instructions_in_bytes k (instruction_bytes (big_number 2 m) (drop 48 m)))) table ∙ t.are in
     record {
       value = same_flow s _ _ _ _ _ _ _ _ _ _ _ _ table y.1.1.0 y.1.1.1.0 a.0 a.1.0 a.1.1.0 a.1.1.1.0 a.1.1.1.1.0 a.1.1.1.1.1.0 a.1.1.1.1.1.1.0 t.match are;
       behind = t.behind;
@@ -117,7 +117,7 @@ flow_one x y m rest others h k =
     by_reading x y (flow_at m) rest others (drop (big_number 2 m - 48) (drop 48 m)) a.value b.value a.behind b.behind
 
 pub flow_some : HasBytes IsFlow
-flow_some s m rest h = omega (arith, size_is (u16 (48 + length h.fields + length h.instructions) ∷ flow_cells s) m (h.fields ++ (h.instructions ++ rest)) h.front)
+flow_some s m rest h = omega (arith, size_is (u16_cell (48 + length h.fields + length h.instructions) ∷ flow_cells s) m (h.fields ++ (h.instructions ++ rest)) h.front)
 
 -- ---- TABLE
 

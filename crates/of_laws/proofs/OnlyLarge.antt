@@ -15,6 +15,7 @@ use Rattle.of_actions.proofs.ActionsComputed.{actions_are}
 use Rattle.of_actions.proofs.Computed.{is_computed}
 use Rattle.of_groups.specs.declared.group.GroupKind.{GroupKind}
 use Rattle.of_groups.specs.declared.group.GroupKind.TheVariants.{All, Indirect, FastFailover}
+use Rattle.of_groups.specs.Groups.{kind_number}
 use Rattle.of_messages.specs.declared.group_mod.GroupMod.{GroupMod}
 use Rattle.of_messages.specs.declared.group_mod.GroupMod.TheVariants as group
 use Rattle.of_messages.specs.declared.group_mod.NewGroup.{NewGroup}
@@ -25,14 +26,15 @@ use Rattle.of_messages.specs.declared.message.PacketData.{PacketData}
 use Rattle.of_messages.specs.declared.message.PacketData.TheVariants.{Buffered, Frame}
 use Rattle.of_messages.specs.declared.message.PacketOut.{PacketOut}
 use Rattle.of_messages.specs.Buckets.{buckets_said}
-use Rattle.of_messages.specs.GroupMods.{command_of as group_command_of, is_above, kind_of, group_of, delete_of, group_mod_of}
+use Rattle.of_messages.specs.GroupMods.{command_of_group_mod as group_command_of, is_above, group_kind_of, group_of, delete_of, group_mod_of}
 use Rattle.of_messages.specs.Heads.{actions_length}
 use Rattle.of_messages.specs.Messages.{command_of, command_said, is_bad_table, instructions_for, flow_mod_by, flow_mod_of, is_ingress, packet_in_data, packet_out_by, packet_out_of}
+use Rattle.of_messages.specs.Written.{command_number, flow_mod_numbers}
 use Rattle.of_formats.specs.Reading.{◌>>=◌}
 use Rattle.of_formats.specs.Structs.{numbers}
 use Rattle.of_formats.specs.Tables as tables
-use Rattle.of_laws.specs.Cells.{Cell, u16, pad}
-use Rattle.of_laws.specs.Grammar.{IsData, IsValidData, IsIngress, IsValidPacketOut, ActionsThenData, buffer_of, command_number, flow_mod_numbers, flow_mod_cells, deletes, HasInstructions, MatchThenInstructions, MayName, IsValidFlowMod, kind_number, group_cells, group_mod_cells, GroupTail, IsValidNumber, IsValidGroupMod}
+use Rattle.of_laws.specs.Cells.{StructCell, u16_cell, pad}
+use Rattle.of_laws.specs.Grammar.{IsData, IsValidData, IsIngress, IsValidPacketOut, ActionsThenData, buffer_of, flow_mod_cells, deletes, HasInstructions, MatchThenInstructions, MayName, IsValidFlowMod, group_cells, group_mod_cells, GroupTail, IsValidNumber, IsValidGroupMod}
 use Rattle.of_laws.specs.Requests.{NamesTable, or_all}
 use Rattle.of_laws.proofs.BucketTails.{buckets_only}
 use Rattle.of_laws.proofs.MatchTails.{match_only}
@@ -73,7 +75,7 @@ pub record Tailed (p : PacketOut) (m : List ℕ) : Type 0 where
 
 pub tailed : (p : PacketOut) (m tail : List ℕ) → 16 ≤ length m → tail ≡ drop 16 m → ActionsThenData p tail → Tailed p m
 tailed p m tail long there h =
-    let cells : List Cell = u16 (length h.actions) ∷ pad 6 ∷ [] in
+    let cells : List StructCell = u16_cell (length h.actions) ∷ pad 6 ∷ [] in
     let s = says 16 cells m tail (h.actions ++ h.packet) there h.front in
     let len : actions_length m ≡ length h.actions = s.0 in
     let behind : h.actions ++ h.packet ≡ drop 24 m = rest_is cells tail (h.actions ++ h.packet) h.front ∙ ap (drop 8) there ∙ drop-drop 8 16 m in
@@ -151,8 +153,8 @@ flow_mod_only f m tail there s h valid =
 
 -- ---- GROUP_MOD
 
-pub kind_again : (k : GroupKind) → kind_of (kind_number k) ≡ Some k
-unfolding kind_of
+pub kind_again : (k : GroupKind) → group_kind_of (kind_number k) ≡ Some k
+unfolding group_kind_of
 kind_again All = refl
 kind_again Indirect = refl
 kind_again FastFailover = refl

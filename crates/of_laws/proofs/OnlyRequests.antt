@@ -11,7 +11,7 @@ use Rattle.of_oxm.specs.MatchReading.{match_of}
 use Rattle.of_messages.specs.declared.multipart.FlowStatsRequest.{FlowStatsRequest}
 use Rattle.of_messages.specs.declared.multipart.MultipartRequest.{MultipartRequest}
 use Rattle.of_messages.specs.declared.multipart.MultipartRequest.TheVariants.{Description, Flow, Aggregate, Table, PortStats, Group, GroupDescription, GroupFeatures, PortDescription}
-use Rattle.of_messages.specs.Multiparts.{kind_of, flow_stats_by, flow_stats_of, one_or_all, number_in, multipart_of}
+use Rattle.of_messages.specs.Multiparts.{multipart_kind_of, flow_stats_by, flow_stats_of, one_or_all, requested_number, multipart_of}
 use Rattle.of_formats.specs.Reading.{◌>>=◌}
 use Rattle.of_formats.specs.Structs.{numbers}
 use Rattle.of_formats.specs.Tables as tables
@@ -36,39 +36,39 @@ pub record Asks (type : ℕ) (m : List ℕ) : Type 0 where
   pub one_part : big_number 2 (drop 10 m) % 2 ≡ 0
 
 pub asks_0 : (m : List ℕ) → Asks 0 m → length m ≡ 16 → multipart_of m ≡ Ok Description
-unfolding multipart_of kind_of
+unfolding multipart_of multipart_kind_of
 asks_0 m a size = rw (a.type_is, a.one_part, size) refl
 
 pub asks_1 : (m : List ℕ) → Asks 1 m → ltb (length m) 56 ≡ false → multipart_of m ≡ as_flow (flow_stats_of m)
-unfolding multipart_of kind_of
+unfolding multipart_of multipart_kind_of
 asks_1 m a size = rw (a.type_is, a.one_part, size) refl
 
 pub asks_2 : (m : List ℕ) → Asks 2 m → ltb (length m) 56 ≡ false → multipart_of m ≡ as_aggregate (flow_stats_of m)
-unfolding multipart_of kind_of
+unfolding multipart_of multipart_kind_of
 asks_2 m a size = rw (a.type_is, a.one_part, size) refl
 
 pub asks_3 : (m : List ℕ) → Asks 3 m → length m ≡ 16 → multipart_of m ≡ Ok Table
-unfolding multipart_of kind_of
+unfolding multipart_of multipart_kind_of
 asks_3 m a size = rw (a.type_is, a.one_part, size) refl
 
-pub asks_4 : (m : List ℕ) → Asks 4 m → length m ≡ 24 → multipart_of m ≡ Ok (PortStats (one_or_all OFPP_ANY (number_in m)))
-unfolding multipart_of kind_of
+pub asks_4 : (m : List ℕ) → Asks 4 m → length m ≡ 24 → multipart_of m ≡ Ok (PortStats (one_or_all OFPP_ANY (requested_number m)))
+unfolding multipart_of multipart_kind_of
 asks_4 m a size = rw (a.type_is, a.one_part, size) refl
 
-pub asks_6 : (m : List ℕ) → Asks 6 m → length m ≡ 24 → multipart_of m ≡ Ok (Group (one_or_all OFPG_ALL (number_in m)))
-unfolding multipart_of kind_of
+pub asks_6 : (m : List ℕ) → Asks 6 m → length m ≡ 24 → multipart_of m ≡ Ok (Group (one_or_all OFPG_ALL (requested_number m)))
+unfolding multipart_of multipart_kind_of
 asks_6 m a size = rw (a.type_is, a.one_part, size) refl
 
 pub asks_7 : (m : List ℕ) → Asks 7 m → length m ≡ 16 → multipart_of m ≡ Ok GroupDescription
-unfolding multipart_of kind_of
+unfolding multipart_of multipart_kind_of
 asks_7 m a size = rw (a.type_is, a.one_part, size) refl
 
 pub asks_8 : (m : List ℕ) → Asks 8 m → length m ≡ 16 → multipart_of m ≡ Ok GroupFeatures
-unfolding multipart_of kind_of
+unfolding multipart_of multipart_kind_of
 asks_8 m a size = rw (a.type_is, a.one_part, size) refl
 
 pub asks_13 : (m : List ℕ) → Asks 13 m → length m ≡ 16 → multipart_of m ≡ Ok PortDescription
-unfolding multipart_of kind_of
+unfolding multipart_of multipart_kind_of
 asks_13 m a size = rw (a.type_is, a.one_part, size) refl
 
 -- ---- FLOW and AGGREGATE

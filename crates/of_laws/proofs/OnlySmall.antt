@@ -18,19 +18,19 @@ use Rattle.of_messages.specs.Roles.{asked_by, role_request_of}
 use Rattle.of_formats.specs.Reading.{known}
 use Rattle.of_formats.specs.Structs.{bytes_from}
 use Rattle.of_formats.proofs.StructLaws.{bytes_taken}
-use Rattle.of_laws.specs.Cells.{byte, u16, u32, pad, plain}
+use Rattle.of_laws.specs.Cells.{byte, u16_cell, u32_cell, pad, plain}
 use Rattle.of_laws.specs.Grammar.{async_config_cells, role_cells}
 use Rattle.of_laws.specs.Requests.{NamesTable}
 use Rattle.of_laws.proofs.Places.{Says, size}
 
-pub config_only : (c : SwitchConfig) (m : List ℕ) → Says 8 (u16 0 ∷ u16 c.miss_send_len ∷ []) m → set_config_of m ≡ Ok c
+pub config_only : (c : SwitchConfig) (m : List ℕ) → Says 8 (u16_cell 0 ∷ u16_cell c.miss_send_len ∷ []) m → set_config_of m ≡ Ok c
 config_only c m h = rw (h.0, h.1.0) refl
 
 pub table_named : (t : ℕ) → NamesTable t → names_table t ≡ true
 table_named t (inl lt) = grind (arith, nat_tests)
 table_named t (inr is) = rw is refl
 
-pub table_mod_only : (t : TableMod) (m : List ℕ) → Says 8 (byte t.table ∷ pad 3 ∷ u32 t.config ∷ []) m → NamesTable t.table → table_mod_of m ≡ Ok t
+pub table_mod_only : (t : TableMod) (m : List ℕ) → Says 8 (byte t.table ∷ pad 3 ∷ u32_cell t.config ∷ []) m → NamesTable t.table → table_mod_of m ≡ Ok t
 table_mod_only t m h valid =
     let named = table_named t.table valid in
     rw (h.0, named, h.1.0) refl
@@ -44,7 +44,7 @@ six_bytes m long = sym (bytes_taken 6 16 m long)
 same_port_mod : (p : PortMod) (port config mask : ℕ) (hw : List ℕ) → port ≡ p.port → hw ≡ p.hw → config ≡ p.config → mask ≡ p.mask → record { port = port; hw = hw; config = config; mask = mask } ≡ p
 same_port_mod p port config mask hw a b c d = rw (a, b, c, d) refl
 
-pub port_mod_only : (p : PortMod) (m : List ℕ) → 22 ≤ length m → Says 8 (u32 p.port ∷ pad 4 ∷ plain 6 p.hw ∷ pad 2 ∷ u32 p.config ∷ u32 p.mask ∷ pad 4 ∷ pad 4 ∷ []) m → bit_and p.mask 101 ≡ p.mask → port_mod_of m ≡ Ok p
+pub port_mod_only : (p : PortMod) (m : List ℕ) → 22 ≤ length m → Says 8 (u32_cell p.port ∷ pad 4 ∷ plain 6 p.hw ∷ pad 2 ∷ u32_cell p.config ∷ u32_cell p.mask ∷ pad 4 ∷ pad 4 ∷ []) m → bit_and p.mask 101 ≡ p.mask → port_mod_of m ≡ Ok p
 port_mod_only p m long h valid =
     let mask : big_number 4 (drop 28 m) ≡ p.mask = h.1.1.1.0 in
     let fine : eqb (bit_and (big_number 4 (drop 28 m)) known_bits) (big_number 4 (drop 28 m)) ≡ true =

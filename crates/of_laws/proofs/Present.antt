@@ -9,7 +9,7 @@ use Rattle.std.proofs.lemmas.List.{append-nil, map-append}
 use Rattle.std.proofs.lemmas.List.Elements.{filter-append}
 use Rattle.of_actions.specs.Rising.{is_ascending}
 use Rattle.of_groups.specs.declared.group.Group.{Group}
-use Rattle.of_groups.specs.Groups.{find_group, names, number_of, with_group}
+use Rattle.of_groups.specs.Groups.{find_group, names, group_number, with_group}
 use Rattle.of_groups.specs.Chains.{is_chain, names_next}
 use Rattle.of_groups.proofs.ChainLemmas.{both_true, there_found}
 use Rattle.of_text.specs.Groups.{TextGroup, group_at, groups_at}
@@ -155,10 +155,10 @@ at_place : (p : Group → Bool) (before rest : List TextGroup) (g : TextGroup) �
 at_place p [] rest g h = (and_parts (p (group_at 0 g)) (list_all p (groups_at 0 rest)) h).0
 at_place p (x ∷ xs) rest g h = at_place p xs rest g (and_parts (p (group_at 0 x)) (list_all p (groups_at 0 (xs ++ g ∷ rest))) h).1
 
-pub rising_parts : (before rest : List TextGroup) (g : TextGroup) → is_ascending number_of (groups_at 0 (before ++ g ∷ rest)) ≡ true → AreLower g before × AreHigher g rest
-rising_parts [] rest g h = (tt, higher g rest (and_parts (list_all (λ (y : Group). ltb g.head.id y.id) (groups_at 0 rest)) (is_ascending number_of (groups_at 0 rest)) h).0)
+pub rising_parts : (before rest : List TextGroup) (g : TextGroup) → is_ascending group_number (groups_at 0 (before ++ g ∷ rest)) ≡ true → AreLower g before × AreHigher g rest
+rising_parts [] rest g h = (tt, higher g rest (and_parts (list_all (λ (y : Group). ltb g.head.id y.id) (groups_at 0 rest)) (is_ascending group_number (groups_at 0 rest)) h).0)
 rising_parts (x ∷ xs) rest g h =
-    let parts = and_parts (list_all (λ (y : Group). ltb x.head.id y.id) (groups_at 0 (xs ++ g ∷ rest))) (is_ascending number_of (groups_at 0 (xs ++ g ∷ rest))) h in
+    let parts = and_parts (list_all (λ (y : Group). ltb x.head.id y.id) (groups_at 0 (xs ++ g ∷ rest))) (is_ascending group_number (groups_at 0 (xs ++ g ∷ rest))) h in
     let others = rising_parts xs rest g parts.1 in
     ((ltb-true _ _ (at_place (λ (y : Group). ltb x.head.id y.id) xs rest g parts.0), others.0), others.1)
 

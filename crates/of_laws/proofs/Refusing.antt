@@ -6,14 +6,14 @@ use Rattle.std.specs.List.{AllByRecursion, flat_map}
 use Rattle.std.proofs.lemmas.Bool.{eqb-true, le-ltb, lt-ltb, ltb-false, ltb-true, ne_eqb, not-false}
 use Rattle.std.proofs.lemmas.List.{append-nil, drop_at, length-append, length-replicate}
 use Rattle.of_wire.specs.declared.code.Code.{Code}
-use Rattle.of_wire.specs.Items.{Items, item_then, items_of, outcome}
+use Rattle.of_wire.specs.Items.{Items, item_then, items_from, outcome}
 use Rattle.of_wire.specs.Refusals.{first_of, refusal}
 use Rattle.of_wire.proofs.FirstLemmas.{none_applies}
 use Rattle.of_layers.specs.Fields.{is_maskable, number_of, ones_of}
 use Rattle.of_layers.specs.declared.field.Field.{Field}
 use Rattle.of_oxm.specs.Canonical.{canonical, written_len}
 use Rattle.of_oxm.specs.MatchFieldWire.{is_among, match_field_of, encoding}
-use Rattle.of_oxm.specs.MatchGrammar.{body_of, head_refusals, match_len, padded, encodings}
+use Rattle.of_oxm.specs.MatchGrammar.{match_body, match_head_refusals, match_len, padded, encodings}
 use Rattle.of_oxm.specs.MatchReading.{match_by, match_fields, match_of, then_normal}
 use Rattle.of_oxm.specs.NormalForm.{IsAscending, IsKept, IsKeptMask, kept, normal, with_field, with_kept_field}
 use Rattle.of_oxm.specs.Prerequisites.{prerequisites_met}
@@ -27,7 +27,7 @@ use Rattle.of_actions.specs.Actions.{actions_of, actions_said}
 use Rattle.of_actions.specs.Actions as wire
 use Rattle.of_actions.specs.CanonicalActions.{canonical_action, canonical_actions, canonical_set_field}
 use Rattle.of_actions.proofs.ActionsAgain.{action_again}
-use Rattle.of_text.specs.Refusals.{action_refusals, field_refusals, list_refusals, match_refusals, or_else}
+use Rattle.of_text.specs.Refusals.{text_action_refusals, text_field_refusals, list_refusals, match_refusals, or_else}
 use Rattle.of_text.specs.Rows.{ActionFits, FieldFits, IsMask as RowMask}
 use Rattle.of_laws.specs.Refused.{match_outcome}
 use Rattle.of_laws.proofs.MatchTails.{headed}
@@ -61,18 +61,18 @@ abbrev pub AreSteps : {V : Type 0} → Items V → (V → List ℕ) → (List V 
 AreSteps kind text own seen [] = Unit {0}
 AreSteps kind text own seen (v ∷ vs) = ((x : List ℕ) → IsStep kind text own seen v x) × AreSteps kind text own (seen ++ v ∷ []) vs
 
-item_of : {V : Type 0} (kind : Items V) (n : ℕ) (seen : List V) (bytes : List ℕ) → 0 < length bytes → items_of kind (suc n) seen bytes ≡ item_then kind (items_of kind n) seen bytes (first_of (kind.refusals seen bytes)) (kind.value_at bytes)
-unfolding items_of
+item_of : {V : Type 0} (kind : Items V) (n : ℕ) (seen : List V) (bytes : List ℕ) → 0 < length bytes → items_from kind (suc n) seen bytes ≡ item_then kind (items_from kind n) seen bytes (first_of (kind.refusals seen bytes)) (kind.value_at bytes)
+unfolding items_from
 item_of kind n seen [] some = absurd (omega arith)
 item_of kind n seen (b ∷ bs) some = refl
 
-none_left : {V : Type 0} (kind : Items V) (n : ℕ) (seen : List V) → items_of kind n seen [] ≡ Ok seen
-unfolding items_of
+none_left : {V : Type 0} (kind : Items V) (n : ℕ) (seen : List V) → items_from kind n seen [] ≡ Ok seen
+unfolding items_from
 none_left kind zero seen = refl
 none_left kind (suc n) seen = refl
 
 pub walk : {V : Type 0} (kind : Items V) (text : V → List ℕ) (own : List V → V → List (Bool × Code)) (n : ℕ) (seen vs : List V) → length (flat_map text vs) ≤ n → AreSteps kind text own seen vs
-    → items_of kind n seen (flat_map text vs) ≡ outcome (seen ++ vs) (first_of (walked own seen vs))
+    → items_from kind n seen (flat_map text vs) ≡ outcome (seen ++ vs) (first_of (walked own seen vs))
 walk kind text own n seen [] room h = none_left kind n seen ∙ ap Ok (sym (append-nil seen))
 walk kind text own zero seen (v ∷ vs) room h =
     let some = (h.0 []).some in absurd (omega (arith, some, length-append (text v) (flat_map text vs)))
@@ -83,21 +83,21 @@ walk {V} kind text own (suc n) seen (v ∷ vs) room h =
     let some = s.some in
     let parts = length-append (text v) rest in
     item_of kind n seen bytes (omega (arith, some, parts))
-    ∙ ap (λ (o : Option Code). item_then kind (items_of kind n) seen bytes o (kind.value_at bytes)) s.first
+    ∙ ap (λ (o : Option Code). item_then kind (items_from kind n) seen bytes o (kind.value_at bytes)) s.first
     ∙ by_first (first_of (own seen v)) refl s (walk kind text own n (seen ++ v ∷ []) vs (omega (arith, some, parts, room)) h.1)
   where
     by_first : (o : Option Code) → first_of (own seen v) ≡ o → IsStep kind text own seen v (flat_map text vs)
-        → items_of kind n (seen ++ v ∷ []) (flat_map text vs) ≡ outcome ((seen ++ v ∷ []) ++ vs) (first_of (walked own (seen ++ v ∷ []) vs))
-        → item_then kind (items_of kind n) seen (text v ++ flat_map text vs) (first_of (own seen v)) (kind.value_at (text v ++ flat_map text vs)) ≡ outcome (seen ++ v ∷ vs) (first_of (own seen v ++ walked own (seen ++ v ∷ []) vs))
+        → items_from kind n (seen ++ v ∷ []) (flat_map text vs) ≡ outcome ((seen ++ v ∷ []) ++ vs) (first_of (walked own (seen ++ v ∷ []) vs))
+        → item_then kind (items_from kind n) seen (text v ++ flat_map text vs) (first_of (own seen v)) (kind.value_at (text v ++ flat_map text vs)) ≡ outcome (seen ++ v ∷ vs) (first_of (own seen v ++ walked own (seen ++ v ∷ []) vs))
     by_first (Some code) is s others =
         let first : first_of (own seen v ++ walked own (seen ++ v ∷ []) vs) ≡ Some code = first_append (own seen v) (walked own (seen ++ v ∷ []) vs) ∙ ap (λ (o : Option Code). or_else o (first_of (walked own (seen ++ v ∷ []) vs))) is in
-        ap (λ (o : Option Code). item_then kind (items_of kind n) seen (text v ++ flat_map text vs) o (kind.value_at (text v ++ flat_map text vs))) is ∙ ap (outcome (seen ++ v ∷ vs)) (sym first)
+        ap (λ (o : Option Code). item_then kind (items_from kind n) seen (text v ++ flat_map text vs) o (kind.value_at (text v ++ flat_map text vs))) is ∙ ap (outcome (seen ++ v ∷ vs)) (sym first)
     by_first None is s others =
         let first : first_of (own seen v ++ walked own (seen ++ v ∷ []) vs) ≡ first_of (walked own (seen ++ v ∷ []) vs) = first_append (own seen v) (walked own (seen ++ v ∷ []) vs) ∙ ap (λ (o : Option Code). or_else o (first_of (walked own (seen ++ v ∷ []) vs))) is in
         let behind : drop (kind.size_at (text v ++ flat_map text vs)) (text v ++ flat_map text vs) ≡ flat_map text vs = ap (λ (k : ℕ). drop k (text v ++ flat_map text vs)) (s.size is) ∙ drop_at (text v) (flat_map text vs) (length (text v)) refl in
-        ap (λ (o : Option Code). item_then kind (items_of kind n) seen (text v ++ flat_map text vs) o (kind.value_at (text v ++ flat_map text vs))) is
-        ∙ ap (λ (o : Option V). item_then kind (items_of kind n) seen (text v ++ flat_map text vs) None o) (s.at is)
-        ∙ ap (items_of kind n (seen ++ v ∷ [])) behind
+        ap (λ (o : Option Code). item_then kind (items_from kind n) seen (text v ++ flat_map text vs) o (kind.value_at (text v ++ flat_map text vs))) is
+        ∙ ap (λ (o : Option V). item_then kind (items_from kind n) seen (text v ++ flat_map text vs) None o) (s.at is)
+        ∙ ap (items_from kind n (seen ++ v ∷ [])) behind
         ∙ others
         ∙ ap (λ (all : List V). outcome all (first_of (walked own (seen ++ v ∷ []) vs))) (append_assoc seen (v ∷ []) vs)
         ∙ ap (outcome (seen ++ v ∷ vs)) (sym first)
@@ -105,15 +105,15 @@ walk {V} kind text own (suc n) seen (v ∷ vs) room h =
 -- ---- actions
 
 abbrev own_action : List Action → Action → List (Bool × Code)
-own_action seen a = (ltb 63 (length seen), refusal 2 7) ∷ action_refusals a
+own_action seen a = (ltb 63 (length seen), refusal 2 7) ∷ text_action_refusals a
 
 some_action : (a : Action) → 0 < length (canonical_action a)
 unfolding canonical_action canonical_set_field
 some_action (SetField f value) = omega arith
 some_action other = omega arith
 
-too_many : (seen : List Action) (rest : List ℕ) → ltb 63 (length seen) ≡ true → first_of (wire.action_refusals false seen rest) ≡ Some (refusal 2 7)
-unfolding wire.action_refusals
+too_many : (seen : List Action) (rest : List ℕ) → ltb 63 (length seen) ≡ true → first_of (wire.wire_action_refusals false seen rest) ≡ Some (refusal 2 7)
+unfolding wire.wire_action_refusals
 too_many seen rest many = rw many refl
 
 action_step : (seen : List Action) (a : Action) (x : List ℕ) → ActionFits a → IsStep (actions_of false) canonical_action own_action seen a x
@@ -130,7 +130,7 @@ action_step seen a x fits = by_count (ltb 63 (length seen)) refl
         }
     by_count false few =
         let low : length seen ≤ 63 = ltb-false 63 (length seen) few in
-        let own : first_of (own_action seen a) ≡ first_of (action_refusals a) = rw few refl in
+        let own : first_of (own_action seen a) ≡ first_of (text_action_refusals a) = rw few refl in
         record {
           some = some_action a;
           first = action_as_on_wire a seen x fits low ∙ sym own;
@@ -144,13 +144,13 @@ action_steps seen (a ∷ actions) fits = (λ x. action_step seen a x fits.0, act
 
 -- the refusals of a list, after so many others
 abbrev list_after : ℕ → List Action → List (Bool × Code)
-list_after n actions = flat_map action_refusals (take (64 - n) actions) ++ (ltb 64 (n + length actions), refusal 2 7) ∷ []
+list_after n actions = flat_map text_action_refusals (take (64 - n) actions) ++ (ltb 64 (n + length actions), refusal 2 7) ∷ []
 
 list_same : (seen actions : List Action) → length seen ≤ 64 → first_of (walked own_action seen actions) ≡ first_of (list_after (length seen) actions)
 list_same seen [] few =
     let none : take {A = Action} (64 - length seen) [] ≡ [] = take-nil (64 - length seen) in
     let low : ltb 64 (length seen + 0) ≡ false = le-ltb _ _ (omega (arith, few)) in
-    sym (ap (λ (xs : List Action). first_of (flat_map action_refusals xs ++ (ltb 64 (length seen + 0), refusal 2 7) ∷ [])) none ∙ rw low refl)
+    sym (ap (λ (xs : List Action). first_of (flat_map text_action_refusals xs ++ (ltb 64 (length seen + 0), refusal 2 7) ∷ [])) none ∙ rw low refl)
 list_same seen (a ∷ actions) few = by_count (ltb 63 (length seen)) refl (list_same (seen ++ a ∷ []) actions)
   where
     by_count : (b : Bool) → ltb 63 (length seen) ≡ b → (length (seen ++ a ∷ []) ≤ 64 → first_of (walked own_action (seen ++ a ∷ []) actions) ≡ first_of (list_after (length (seen ++ a ∷ [])) actions))
@@ -164,9 +164,9 @@ list_same seen (a ∷ actions) few = by_count (ltb 63 (length seen)) refl (list_
     by_count false room others =
         let low = ltb-false 63 (length seen) room in
         let more : length (seen ++ a ∷ []) ≡ length seen + 1 = length-append seen (a ∷ []) in
-        let A = action_refusals a in
+        let A = text_action_refusals a in
         let W = walked own_action (seen ++ a ∷ []) actions in
-        let F = flat_map action_refusals (take (63 - length seen) actions) in
+        let F = flat_map text_action_refusals (take (63 - length seen) actions) in
         let one_less : 64 - (length seen + 1) ≡ 63 - length seen = omega arith in
         let total : length seen + 1 + length actions ≡ length seen + suc (length actions) = omega arith in
         let one_more : 64 - length seen ≡ suc (63 - length seen) = omega (arith, low) in
@@ -174,9 +174,9 @@ list_same seen (a ∷ actions) few = by_count (ltb 63 (length seen)) refl (list_
         let left : first_of (own_action seen a ++ W) ≡ or_else (first_of A) (first_of W) = rw room (first_append A W) in
         let behind : first_of (list_after (length (seen ++ a ∷ [])) actions) ≡ first_of (F ++ last) =
         ap (λ (n : ℕ). first_of (list_after n actions)) more
-        ∙ ap (λ (k : ℕ). first_of (flat_map action_refusals (take k actions) ++ (ltb 64 (length seen + 1 + length actions), refusal 2 7) ∷ [])) one_less
+        ∙ ap (λ (k : ℕ). first_of (flat_map text_action_refusals (take k actions) ++ (ltb 64 (length seen + 1 + length actions), refusal 2 7) ∷ [])) one_less
         ∙ ap (λ (k : ℕ). first_of (F ++ (ltb 64 k, refusal 2 7) ∷ [])) total in
-        let front : first_of (list_after (length seen) (a ∷ actions)) ≡ first_of ((A ++ F) ++ last) = ap (λ (k : ℕ). first_of (flat_map action_refusals (take k (a ∷ actions)) ++ last)) one_more in
+        let front : first_of (list_after (length seen) (a ∷ actions)) ≡ first_of ((A ++ F) ++ last) = ap (λ (k : ℕ). first_of (flat_map text_action_refusals (take k (a ∷ actions)) ++ last)) one_more in
         let right : first_of ((A ++ F) ++ last) ≡ or_else (first_of A) (first_of (F ++ last)) = ap first_of (append_assoc A F last) ∙ first_append A (F ++ last) in
         left ∙ ap (or_else (first_of A)) (others (omega (arith, more, low)) ∙ behind) ∙ sym (front ∙ right)
 
@@ -184,7 +184,7 @@ pub actions_told : (actions : List Action) → AllByRecursion ActionFits actions
 unfolding actions_said list_refusals
 actions_told actions fits =
     walk (actions_of false) canonical_action own_action (length (canonical_actions actions)) [] actions (omega arith) (action_steps [] actions fits)
-    ∙ ap (outcome actions) (list_same [] actions (omega arith) ∙ ap (λ (n : ℕ). first_of (flat_map action_refusals (take 64 actions) ++ (ltb 64 n, refusal 2 7) ∷ [])) (zero-add (length actions)))
+    ∙ ap (outcome actions) (list_same [] actions (omega arith) ∙ ap (λ (n : ℕ). first_of (flat_map text_action_refusals (take 64 actions) ++ (ltb 64 n, refusal 2 7) ∷ [])) (zero-add (length actions)))
 
 -- ---- the fields of a match
 
@@ -193,10 +193,10 @@ unfolding encoding
 some_field e = omega arith
 
 -- a field that is not refused has an encoding, and its mask is kept
-mask_sound : (f : Field) (v : ℕ) (mask : Option ℕ) → IfSome mask (RowMask f) → first_of (field_refusals (record { field = f; value = v; mask = mask })) ≡ None → IfSome mask (IsKeptMask f v)
+mask_sound : (f : Field) (v : ℕ) (mask : Option ℕ) → IfSome mask (RowMask f) → first_of (text_field_refusals (record { field = f; value = v; mask = mask })) ≡ None → IfSome mask (IsKeptMask f v)
 mask_sound f v None fits none = tt
 mask_sound f v (Some m) fits none =
-    let tests = none_applies (field_refusals (record { field = f; value = v; mask = Some m })) none in
+    let tests = none_applies (text_field_refusals (record { field = f; value = v; mask = Some m })) none in
     let within : bit_and m (ones_of f) ≡ m = under_ones f m (let low = fits.not_all in omega arith) in
     let other : eqb (bit_and m (ones_of f)) (ones_of f) ≡ false = ne_eqb _ _ (λ e. let low = fits.not_all in omega (arith, e, within)) in
     let covered = not-false (eqb (bit_and v m) v) tests.1.1.0 in
@@ -206,13 +206,13 @@ mask_sound f v (Some m) fits none =
     maskable true h = refl
     maskable false h = absurd cc
 
-field_kept : (e : MatchField) → FieldFits e → first_of (field_refusals e) ≡ None → IsKept e
+field_kept : (e : MatchField) → FieldFits e → first_of (text_field_refusals e) ≡ None → IsKept e
 field_kept e fits none =
-    let tests = none_applies (field_refusals e) none in
+    let tests = none_applies (text_field_refusals e) none in
     record { value = ltb-false (ones_of e.field) e.value tests.1.0; mask = mask_sound e.field e.value e.mask fits.1 none }
 
 unfoldable own_field : List MatchField → MatchField → List (Bool × Code)
-own_field seen e = field_refusals e
+own_field seen e = text_field_refusals e
 
 field_step : (seen : List MatchField) (e : MatchField) (x : List ℕ) → FieldFits e → is_among e.field seen ≡ false → IsStep match_fields encoding own_field seen e x
 unfolding own_field
@@ -238,21 +238,21 @@ field_steps : (seen es : List MatchField) → AllByRecursion FieldFits es → Is
 field_steps seen [] fits up new = tt
 field_steps seen (e ∷ es) fits up new = (λ x. field_step seen e x fits.0 new.0, field_steps (seen ++ e ∷ []) es fits.1 up.1 (not_among e seen es new.1 up.0))
 
-fields_same : (seen es : List MatchField) → walked own_field seen es ≡ flat_map field_refusals es
+fields_same : (seen es : List MatchField) → walked own_field seen es ≡ flat_map text_field_refusals es
 unfolding own_field
 fields_same seen [] = refl
-fields_same seen (e ∷ es) = ap (λ (rs : List (Bool × Code)). field_refusals e ++ rs) (fields_same (seen ++ e ∷ []) es)
+fields_same seen (e ∷ es) = ap (λ (rs : List (Bool × Code)). text_field_refusals e ++ rs) (fields_same (seen ++ e ∷ []) es)
 
-fields_told : (es : List MatchField) → AllByRecursion FieldFits es → IsAscending es → items_of match_fields (length (encodings es)) [] (encodings es) ≡ outcome es (first_of (flat_map field_refusals es))
+fields_told : (es : List MatchField) → AllByRecursion FieldFits es → IsAscending es → items_from match_fields (length (encodings es)) [] (encodings es) ≡ outcome es (first_of (flat_map text_field_refusals es))
 fields_told es fits up =
     walk match_fields encoding own_field (length (encodings es)) [] es (omega arith) (field_steps [] es fits up (none_before es)) ∙ ap (λ (rs : List (Bool × Code)). outcome es (first_of rs)) (fields_same [] es)
 
 -- ---- fields of which none is refused are their own normal form
 
-all_kept : (es : List MatchField) → AllByRecursion FieldFits es → first_of (flat_map field_refusals es) ≡ None → AllByRecursion IsKept es
+all_kept : (es : List MatchField) → AllByRecursion FieldFits es → first_of (flat_map text_field_refusals es) ≡ None → AllByRecursion IsKept es
 all_kept [] fits none = tt
 all_kept (e ∷ es) fits none =
-    let parts = either_none (first_of (field_refusals e)) (first_of (flat_map field_refusals es)) (sym (first_append (field_refusals e) (flat_map field_refusals es)) ∙ none) in
+    let parts = either_none (first_of (text_field_refusals e)) (first_of (flat_map text_field_refusals es)) (sym (first_append (text_field_refusals e) (flat_map text_field_refusals es)) ∙ none) in
     (field_kept e fits.0 parts.0, all_kept es fits.1 parts.1)
 
 kept_by : (f : Field) (v : ℕ) (mask : Option ℕ) → IfSome mask (IsKeptMask f v) → let e : MatchField = record { field = f; value = v; mask = mask } in kept e ≡ Some e
@@ -285,8 +285,8 @@ canonical_least es =
 
 -- what bytes say that begin with such a match
 record Begun (es : List MatchField) (bytes : List ℕ) : Type 0 where
-  none : first_of (head_refusals bytes) ≡ None
-  body : body_of bytes ≡ encodings es
+  none : first_of (match_head_refusals bytes) ≡ None
+  body : match_body bytes ≡ encodings es
   size : padded (match_len bytes) ≡ length (canonical es)
 
 begun : (es : List MatchField) (x : List ℕ) → IsAscending es → Begun es (canonical es ++ x)
@@ -306,11 +306,11 @@ unfolding match_of match_refusals
 match_told es x fits up =
     let bytes = canonical es ++ x in
     let b = begun es x up in
-    let refused = flat_map field_refusals es in
+    let refused = flat_map text_field_refusals es in
     let need : List (Bool × Code) = (not (prerequisites_met es), refusal 4 9) ∷ [] in
     ap (match_by bytes) b.none
-    ∙ ap (λ (y : List ℕ). then_normal (padded (match_len bytes)) (items_of match_fields (length y) [] y)) b.body
-    ∙ ap (λ (n : ℕ). then_normal n (items_of match_fields (length (encodings es)) [] (encodings es))) b.size
+    ∙ ap (λ (y : List ℕ). then_normal (padded (match_len bytes)) (items_from match_fields (length y) [] y)) b.body
+    ∙ ap (λ (n : ℕ). then_normal n (items_from match_fields (length (encodings es)) [] (encodings es))) b.size
     ∙ ap (then_normal (length (canonical es))) (fields_told es fits up)
     ∙ by_fields (first_of refused) refl
     ∙ ap (match_outcome es) (sym (first_append refused need))
@@ -319,7 +319,7 @@ match_told es x fits up =
     by_met same true met = refl
     by_met same false met = refl
 
-    by_fields : (o : Option Code) → first_of (flat_map field_refusals es) ≡ o → then_normal (length (canonical es)) (outcome es o) ≡ match_outcome es (or_else o (first_of ((not (prerequisites_met es), refusal 4 9) ∷ [])))
+    by_fields : (o : Option Code) → first_of (flat_map text_field_refusals es) ≡ o → then_normal (length (canonical es)) (outcome es o) ≡ match_outcome es (or_else o (first_of ((not (prerequisites_met es), refusal 4 9) ∷ [])))
     by_fields (Some code) is = refl
     by_fields None is =
         let same = normal_same es (all_kept es fits is) up in

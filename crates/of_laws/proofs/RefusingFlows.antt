@@ -8,7 +8,7 @@ use Rattle.std.proofs.lemmas.List.Folds.{list_any-append}
 use Rattle.byteorder.specs.Endian.{big_bytes, big_number}
 use Rattle.byteorder.specs.Numbers.{big_number-reads_back}
 use Rattle.of_wire.specs.declared.code.Code.{Code}
-use Rattle.of_wire.specs.Items.{items_of, outcome}
+use Rattle.of_wire.specs.Items.{items_from, outcome}
 use Rattle.of_wire.specs.Numbered.{is_distinct, is_used}
 use Rattle.of_wire.specs.Refusals.{first_of, refusal}
 use Rattle.of_actions.specs.declared.instruction.Instruction.{Instruction}
@@ -17,8 +17,8 @@ use Rattle.of_actions.specs.Beginnings.{len_at}
 use Rattle.of_actions.specs.CanonicalActions.{canonical_actions}
 use Rattle.of_actions.specs.CanonicalInstructions.{after_type, canonical_instruction, canonical_instructions}
 use Rattle.of_actions.specs.Headers.{Header, goto, metadata, write, apply, clear, header_at, headers_of, is_next, kind_of}
-use Rattle.of_actions.specs.InstructionLists.{run_place, type_of}
-use Rattle.of_actions.specs.InstructionReading.{bodies_of, body_of, instructions_of, prepended, then_bodies, then_ordered, with_actions}
+use Rattle.of_actions.specs.InstructionLists.{run_place, type_of_instruction}
+use Rattle.of_actions.specs.InstructionReading.{bodies_of, instruction_of_header, instructions_in_bytes, instruction_prepended, then_bodies, then_ordered, with_actions_read}
 use Rattle.of_actions.specs.Rising.{is_ascending}
 use Rattle.of_actions.proofs.ActionsAgain.{length-canonical}
 use Rattle.of_actions.proofs.Bodies.{distinct_place}
@@ -199,17 +199,17 @@ abbrev one_outcome : Instruction → Option Code → Result Instruction Code
 one_outcome i None = Ok i
 one_outcome i (Some code) = Err code
 
-body_told : (s : Step) → StepFits s → body_of (header_of s) ≡ one_outcome (instruction_of s) (first_of (step_refusals s))
+body_told : (s : Step) → StepFits s → instruction_of_header (header_of s) ≡ one_outcome (instruction_of s) (first_of (step_refusals s))
 unfolding step_refusals
-body_told (Apply actions) fits = ap (with_actions instructions.Apply) (actions_told actions fits) ∙ by_first (first_of (list_refusals actions))
+body_told (Apply actions) fits = ap (with_actions_read instructions.Apply) (actions_told actions fits) ∙ by_first (first_of (list_refusals actions))
   where
-    by_first : (o : Option Code) → with_actions instructions.Apply (outcome actions o) ≡ one_outcome (instructions.Apply actions) o
+    by_first : (o : Option Code) → with_actions_read instructions.Apply (outcome actions o) ≡ one_outcome (instructions.Apply actions) o
     by_first None = refl
     by_first (Some code) = refl
 body_told Clear fits = refl
-body_told (Write actions) fits = ap (with_actions instructions.Write) (actions_told actions fits) ∙ by_first (first_of (list_refusals actions))
+body_told (Write actions) fits = ap (with_actions_read instructions.Write) (actions_told actions fits) ∙ by_first (first_of (list_refusals actions))
   where
-    by_first : (o : Option Code) → with_actions instructions.Write (outcome actions o) ≡ one_outcome (instructions.Write actions) o
+    by_first : (o : Option Code) → with_actions_read instructions.Write (outcome actions o) ≡ one_outcome (instructions.Write actions) o
     by_first None = refl
     by_first (Some code) = refl
 body_told (Metadata value mask) fits = refl
@@ -219,32 +219,32 @@ bodies_told : (steps : List Step) → AllByRecursion StepFits steps → bodies_o
 bodies_told [] fits = refl
 bodies_told (s ∷ steps) fits =
     let others = flat_map step_refusals steps in
-    ap (λ (r : Result Instruction Code). prepended r (bodies_of (map header_of steps))) (body_told s fits.0)
-    ∙ ap (prepended (one_outcome (instruction_of s) (first_of (step_refusals s)))) (bodies_told steps fits.1)
+    ap (λ (r : Result Instruction Code). instruction_prepended r (bodies_of (map header_of steps))) (body_told s fits.0)
+    ∙ ap (instruction_prepended (one_outcome (instruction_of s) (first_of (step_refusals s)))) (bodies_told steps fits.1)
     ∙ by_first (first_of (step_refusals s)) (first_of others)
     ∙ ap (outcome (map instruction_of (s ∷ steps))) (sym (first_append (step_refusals s) others))
   where
-    by_first : (o p : Option Code) → prepended (one_outcome (instruction_of s) o) (outcome (map instruction_of steps) p) ≡ outcome (instruction_of s ∷ map instruction_of steps) (or_else o p)
+    by_first : (o p : Option Code) → instruction_prepended (one_outcome (instruction_of s) o) (outcome (map instruction_of steps) p) ≡ outcome (instruction_of s ∷ map instruction_of steps) (or_else o p)
     by_first (Some code) p = refl
     by_first None None = refl
     by_first None (Some code) = refl
 
 -- ---- instructions
 
-kind_same : (s : Step) → kind_of (header_of s) ≡ type_of (instruction_of s)
+kind_same : (s : Step) → kind_of (header_of s) ≡ type_of_instruction (instruction_of s)
 kind_same (Apply actions) = refl
 kind_same Clear = refl
 kind_same (Write actions) = refl
 kind_same (Metadata value mask) = refl
 kind_same (Goto table) = refl
 
-used_same : (n : ℕ) (steps : List Step) → is_used kind_of n (map header_of steps) ≡ is_used type_of n (map instruction_of steps)
+used_same : (n : ℕ) (steps : List Step) → is_used kind_of n (map header_of steps) ≡ is_used type_of_instruction n (map instruction_of steps)
 used_same n [] = refl
 used_same n (s ∷ steps) = rw (kind_same s, used_same n steps) refl
 
-distinct_same : (steps : List Step) → is_distinct kind_of (map header_of steps) ≡ is_distinct type_of (map instruction_of steps)
+distinct_same : (steps : List Step) → is_distinct kind_of (map header_of steps) ≡ is_distinct type_of_instruction (map instruction_of steps)
 distinct_same [] = refl
-distinct_same (s ∷ steps) = rw (kind_same s, used_same (type_of (instruction_of s)) steps, distinct_same steps) refl
+distinct_same (s ∷ steps) = rw (kind_same s, used_same (type_of_instruction (instruction_of s)) steps, distinct_same steps) refl
 
 header_fits : (s : Step) → StepFits s → length (canonical_instruction (instruction_of s)) < 65528 → HeaderFits (header_of s)
 unfolding canonical_instruction
@@ -261,8 +261,8 @@ headers_fit (s ∷ steps) fits short =
     (header_fits s fits.0 (omega (arith, short, parts)), headers_fit steps fits.1 (omega (arith, short, parts)))
 
 pub instructions_told : (table : ℕ) (steps : List Step) → AllByRecursion StepFits steps → is_ascending run_place (map instruction_of steps) ≡ true → length (canonical_instructions (map instruction_of steps)) < 65528
-    → instructions_of table (canonical_instructions (map instruction_of steps)) ≡ outcome (map instruction_of steps) (first_of (flat_map (goto_refusals table) steps ++ flat_map step_refusals steps))
-unfolding instructions_of
+    → instructions_in_bytes table (canonical_instructions (map instruction_of steps)) ≡ outcome (map instruction_of steps) (first_of (flat_map (goto_refusals table) steps ++ flat_map step_refusals steps))
+unfolding instructions_in_bytes
 instructions_told table steps fits up short =
     let is = map instruction_of steps in
     let hs = map header_of steps in
@@ -271,8 +271,8 @@ instructions_told table steps fits up short =
     let texts = texts_same steps in
     let nexts = flat_map (goto_refusals table) steps in
     let bodies = flat_map step_refusals steps in
-    let headers : items_of (headers_of table) (length bytes) [] bytes ≡ outcome hs (first_of nexts) =
-    ap (λ (x : List ℕ). items_of (headers_of table) (length x) [] x) (sym texts)
+    let headers : items_from (headers_of table) (length bytes) [] bytes ≡ outcome hs (first_of nexts) =
+    ap (λ (x : List ℕ). items_from (headers_of table) (length x) [] x) (sym texts)
     ∙ walk (headers_of table) text_of (own_header table) (length (flat_map text_of hs)) [] hs (omega arith) (header_steps table [] hs (headers_fit steps fits short) (all_new hs) once)
     ∙ ap (λ (rs : List (Bool × Code)). outcome hs (first_of rs)) (next_same table [] steps) in
     ap (λ (r : Result (List Header) Code). then_ordered (then_bodies r)) headers ∙ by_headers (first_of nexts) ∙ ap (outcome is) (sym (first_append nexts bodies))

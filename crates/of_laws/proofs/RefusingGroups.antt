@@ -19,9 +19,9 @@ use Rattle.of_actions.specs.CanonicalActions.{canonical_actions}
 use Rattle.of_actions.proofs.ActionsAgain.{length-canonical}
 use Rattle.of_groups.specs.declared.bucket.Bucket.{Bucket}
 use Rattle.of_groups.specs.Groups.{kind_number}
-use Rattle.of_messages.specs.Buckets.{actions_in, bucket_at, bucket_with, buckets, buckets_said, fault_of, len_at}
+use Rattle.of_messages.specs.Buckets.{actions_in, bucket_of_bytes, bucket_with, buckets, buckets_said, actions_fault, bucket_len_at}
 use Rattle.of_messages.specs.CanonicalGroups.{canonical_bucket, canonical_buckets, group_add_bytes, group_add_fixed_part}
-use Rattle.of_messages.specs.GroupMods.{group_mod_of, group_of, kind_of}
+use Rattle.of_messages.specs.GroupMods.{group_mod_of, group_of, group_kind_of}
 use Rattle.of_messages.specs.Heads.{header_length, type_of, version_of}
 use Rattle.of_messages.specs.Messages.{message_of}
 use Rattle.of_messages.specs.declared.group_mod.NewGroup.{NewGroup}
@@ -42,13 +42,13 @@ use Rattle.of_laws.proofs.WrittenRequests.{kind_same}
 unfoldable own_bucket : List Bucket → Bucket → List (Bool × Code)
 own_bucket seen b = (ltb 15 (length seen), refusal 6 4) ∷ list_refusals b.actions
 
-fault_first : (actions : List Action) (o : Option Code) → first_of (fault_of (outcome actions o)) ≡ o
+fault_first : (actions : List Action) (o : Option Code) → first_of (actions_fault (outcome actions o)) ≡ o
 fault_first actions None = refl
 fault_first actions (Some code) = refl
 
 -- what the bytes of a bucket say
 record Holds (b : TextBucket) (rest : List ℕ) : Type 0 where
-  len : len_at rest ≡ 16 + length (canonical_actions b.actions)
+  len : bucket_len_at rest ≡ 16 + length (canonical_actions b.actions)
   long : 16 + length (canonical_actions b.actions) ≤ length rest
   weight : big_number 2 (drop 2 rest) ≡ b.head.weight
   port : big_number 4 (drop 4 rest) ≡ b.head.watch_port
@@ -60,14 +60,14 @@ unfolding canonical_bucket
 holds b x fits short =
     let acts = canonical_actions b.actions in
     let rest = canonical_bucket (bucket_of b) ++ x in
-    let len : len_at rest ≡ 16 + length acts = big_number-reads_back 2 (16 + length acts) (drop 2 rest) (omega (arith, short)) in
+    let len : bucket_len_at rest ≡ 16 + length acts = big_number-reads_back 2 (16 + length acts) (drop 2 rest) (omega (arith, short)) in
     record {
       len = len;
       long = omega (arith, length-append acts x);
       weight = big_number-reads_back 2 b.head.weight (drop 4 rest) (omega (arith, fits.0.0));
       port = big_number-reads_back 4 b.head.watch_port (drop 8 rest) (omega (arith, fits.0.1));
       group = big_number-reads_back 4 b.head.watch_group (drop 12 rest) (omega (arith, fits.0.2));
-      actions = take_at acts x (len_at rest - 16) (omega (arith, len));
+      actions = take_at acts x (bucket_len_at rest - 16) (omega (arith, len));
     }
 
 said_in : (b : TextBucket) (rest : List ℕ) → Holds b rest → IsSaidBucket b → actions_said false (actions_in rest) ≡ outcome b.actions (first_of (list_refusals b.actions))
@@ -81,7 +81,7 @@ same_bucket : (b : TextBucket) (rest : List ℕ) → Holds b rest → bucket_wit
 same_bucket b rest h = ap Some (λ i. record { weight = h.weight i; watch_port = h.port i; watch_group = h.group i; actions = b.actions; packets = 0; bytes = 0 })
 
 bucket_step : (seen : List Bucket) (b : TextBucket) (x : List ℕ) → IsSaidBucket b → length (canonical_actions b.actions) < 65520 → IsStep buckets canonical_bucket own_bucket seen (bucket_of b) x
-unfolding own_bucket bucket_at canonical_bucket
+unfolding own_bucket bucket_of_bytes canonical_bucket
 bucket_step seen b x fits short =
     let rest = canonical_bucket (bucket_of b) ++ x in
     let h = holds b x fits short in
@@ -92,7 +92,7 @@ bucket_step seen b x fits short =
       some = omega arith;
       first =
           bucket_left seen rest (16 + length (canonical_actions b.actions)) h.len (omega arith) (omega (arith, eights)) h.long
-          ∙ ap (λ (r : Result (List Action) Code). first_of ((ltb 15 (length seen), refusal 6 4) ∷ fault_of r)) said
+          ∙ ap (λ (r : Result (List Action) Code). first_of ((ltb 15 (length seen), refusal 6 4) ∷ actions_fault r)) said
           ∙ ap (λ (o : Option Code). cond (ltb 15 (length seen)) (Some (refusal 6 4)) o) (fault_first b.actions refused);
       at = λ none. ap (bucket_with (numbers tables.bucket 0 rest)) (said ∙ ap (outcome b.actions) (own_none (ltb 15 (length seen)) (list_refusals b.actions) none)) ∙ same_bucket b rest h;
       size = λ none. h.len ∙ omega arith;
@@ -205,7 +205,7 @@ group_there g w = by_number (ltb OFPG_MAX g.head.id) refl
     by_number : (t : Bool) → ltb OFPG_MAX g.head.id ≡ t → group_of (kind_number g.head.kind) g.head.id (canonical_buckets (buckets_of g)) ≡ new_outcome (new_of g) (first_of (said_refusals g))
     by_number true over = rw over refl
     by_number false under =
-        let kind : kind_of (kind_number g.head.kind) ≡ Some g.head.kind = ap kind_of (kind_same g.head.kind) ∙ kind_again g.head.kind in
+        let kind : group_kind_of (kind_number g.head.kind) ≡ Some g.head.kind = ap group_kind_of (kind_same g.head.kind) ∙ kind_again g.head.kind in
         let told = buckets_told g.buckets w.buckets w.short in
         rw (under, kind, told) (with_outcome g (first_of (buckets_refusals g.buckets)))
 

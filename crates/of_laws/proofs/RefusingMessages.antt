@@ -114,10 +114,10 @@ abbrev rest_of : Flow → List ℕ
 rest_of f = canonical f.fields ++ canonical_instructions (instructions_of f)
 
 instructions_there : (f : Flow) → IsSaid f
-    → reading.instructions_of f.head.table (drop (length (canonical f.fields)) (rest_of f)) ≡ outcome (instructions_of f) (first_of (flat_map (goto_refusals f.head.table) f.steps ++ flat_map step_refusals f.steps))
+    → reading.instructions_in_bytes f.head.table (drop (length (canonical f.fields)) (rest_of f)) ≡ outcome (instructions_of f) (first_of (flat_map (goto_refusals f.head.table) f.steps ++ flat_map step_refusals f.steps))
 instructions_there f w =
     let parts = length-append (canonical f.fields) (canonical_instructions (instructions_of f)) in
-    ap (reading.instructions_of f.head.table) (drop_at (canonical f.fields) (canonical_instructions (instructions_of f)) (length (canonical f.fields)) refl)
+    ap (reading.instructions_in_bytes f.head.table) (drop_at (canonical f.fields) (canonical_instructions (instructions_of f)) (length (canonical f.fields)) refl)
     ∙ instructions_told f.head.table f.steps w.steps w.in_order (omega (arith, parts, w.short))
 
 -- the match, and what follows it

@@ -10,8 +10,8 @@ use Rattle.of_messages.specs.declared.role.Role.{Role}
 use Rattle.of_messages.specs.declared.role.Role.TheVariants as role
 use Rattle.of_formats.specs.Messages.{message_row}
 use Rattle.of_messages.specs.Heads.{type_of, is_slave, is_change, head_refusals, role_refusals, xid_of}
-use Rattle.of_messages.specs.Messages.{body_of, message_by, message_from, message_of}
-use Rattle.of_laws.specs.Grammar.{type, changes, MaySend, Encodes}
+use Rattle.of_messages.specs.Messages.{message_body, message_by, message_from, message_of}
+use Rattle.of_laws.specs.Grammar.{type, changes_switch, MaySend, Encodes}
 use Rattle.of_laws.proofs.AnyMessage.{of_controller}
 use Rattle.of_laws.proofs.Found.{found}
 use Rattle.of_laws.proofs.Only.{only}
@@ -36,7 +36,7 @@ first_part (r ∷ rs) qs none = by_test r.0 none (first_part rs qs)
 
 -- ---- the type of a message
 
-change_same : (v : Message) → is_change (type v) ≡ changes v
+change_same : (v : Message) → is_change (type v) ≡ changes_switch v
 unfolding message_row
 change_same Hello = refl
 change_same Error = refl
@@ -56,7 +56,7 @@ change_same (IsRoleRequest request) = refl
 change_same GetAsyncRequest = refl
 change_same (SetAsync masks) = refl
 
-change_of : (xid : ℕ) (v : Message) (m : List ℕ) → Encodes xid v m → is_change (type_of m) ≡ changes v
+change_of : (xid : ℕ) (v : Message) (m : List ℕ) → Encodes xid v m → is_change (type_of m) ≡ changes_switch v
 change_of xid v m s = ap is_change (of_controller xid v m s).kind_is ∙ change_same v
 
 -- ---- each role
@@ -74,10 +74,10 @@ by_role : (r : Role) (m : List ℕ) → first_of (head_refusals m) ≡ None → 
 unfolding message_from
 by_role r m none = ap (message_by m) (goes_on (head_refusals m) (role_refusals r m) none)
 
-body_same : (m : List ℕ) (v : Message) → message_of m ≡ Ok v → body_of m ≡ Ok v
+body_same : (m : List ℕ) (v : Message) → message_of m ≡ Ok v → message_body m ≡ Ok v
 body_same m v h = sym (by_role role.Equal m (head_none m v h)) ∙ h
 
-allowed : (r : Role) (v : Message) → MaySend r v → (is_slave r && changes v) ≡ false
+allowed : (r : Role) (v : Message) → MaySend r v → (is_slave r && changes_switch v) ≡ false
 allowed role.Equal v may = refl
 allowed role.Master v may = refl
 allowed role.Slave v may = may
@@ -88,7 +88,7 @@ only_as r xid v m s may =
     let test : (is_slave r && is_change (type_of m)) ≡ false = ap (λ (b : Bool). is_slave r && b) (change_of xid v m s) ∙ allowed r v may in
     by_role r m (head_none m v said) ∙ ap (λ (b : Bool). message_by m (cond b (Some (refusal 1 10)) None)) test ∙ body_same m v said
 
-pub refused_as : (xid : ℕ) (v : Message) (m : List ℕ) → Encodes xid v m → changes v ≡ true → message_from role.Slave m ≡ Err (refusal 1 10)
+pub refused_as : (xid : ℕ) (v : Message) (m : List ℕ) → Encodes xid v m → changes_switch v ≡ true → message_from role.Slave m ≡ Err (refusal 1 10)
 refused_as xid v m s change =
     let test : is_change (type_of m) ≡ true = change_of xid v m s ∙ change in
     by_role role.Slave m (head_none m v (only xid v m s)) ∙ ap (λ (b : Bool). message_by m (cond b (Some (refusal 1 10)) None)) test
@@ -97,7 +97,7 @@ pub record Sent (r : Role) (v : Message) (m : List ℕ) : Type 0 where
   pub encoded : Encodes (xid_of m) v m
   pub may : MaySend r v
 
-may_send : (r : Role) (v : Message) → (is_slave r && changes v) ≡ false → MaySend r v
+may_send : (r : Role) (v : Message) → (is_slave r && changes_switch v) ≡ false → MaySend r v
 may_send role.Equal v h = tt
 may_send role.Master v h = tt
 may_send role.Slave v h = h
@@ -106,7 +106,7 @@ pub found_as : (r : Role) (m : List ℕ) (v : Message) → IsBytes m → message
 unfolding message_from
 found_as r m v fits h = by_first (first_of (head_refusals m ++ role_refusals r m)) refl h
   where
-    by_test : (b : Bool) → (is_slave r && is_change (type_of m)) ≡ b → cond b (Some (refusal 1 10)) None ≡ None → first_of (head_refusals m) ≡ None → body_of m ≡ Ok v → Sent r v m
+    by_test : (b : Bool) → (is_slave r && is_change (type_of m)) ≡ b → cond b (Some (refusal 1 10)) None ≡ None → first_of (head_refusals m) ≡ None → message_body m ≡ Ok v → Sent r v m
     by_test true is e none body = absurd cc
     by_test false is e none body =
         let encoded = found m v fits (by_role role.Equal m none ∙ body) in

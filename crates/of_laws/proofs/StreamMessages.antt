@@ -5,12 +5,12 @@ use Rattle.of_table.specs.Tables.{Tables}
 use Rattle.of_messages.specs.Heads.{header_length}
 use Rattle.of_messages.specs.Written.{message}
 use Rattle.of_messages.proofs.Lengths.{is_message}
-use Rattle.of_session.specs.Stream.{IsMessage, length_of}
+use Rattle.of_session.specs.Stream.{IsWholeMessage, length_of}
 use Rattle.of_buffers.specs.Buffers.{none_held}
 use Rattle.of_datapath.specs.Control.{new_control}
 use Rattle.of_switch.specs.State.{Core}
 
-pub one_message : (kind xid : ℕ) (body : List ℕ) → length body ≤ 65527 → IsMessage (message kind xid body)
+pub one_message : (kind xid : ℕ) (body : List ℕ) → length body ≤ 65527 → IsWholeMessage (message kind xid body)
 one_message kind xid body few =
     let parts = is_message kind xid body few in
     let same : length_of (message kind xid body) ≡ header_length (message kind xid body) = omega arith in

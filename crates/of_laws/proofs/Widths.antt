@@ -6,7 +6,7 @@ use Rattle.std.proofs.lemmas.Bool.{eqb-true}
 use Rattle.of_layers.specs.declared.transport.Transport.{Transport}
 use Rattle.of_layers.specs.Layers.{Item, Cell, Extension, Options, Fragment, Body, Plain, Arp, Ipv4, Ipv6, Carried, Layers, cells_in, byte_cells, inner_cells, tag_cells, extension_cells, carried_cells, body_cells, cells, next_before, addresses, outer_tag, inner_tag, ether_type, arp, ipv4, ipv6, options, fragment, items_of}
 use Rattle.of_layers.specs.Looking.{name_is, look_up}
-use Rattle.of_layers.specs.WellFormed.{Fits, AreTags, AreExtensions, IsBody, IsLayers}
+use Rattle.of_layers.specs.WellFormed.{FitsItems, AreTags, AreExtensions, IsBody, IsLayers}
 use Rattle.of_layers.proofs.TestLemmas.{and_true}
 use Rattle.of_headers.proofs.LookLemmas.{look-append, look_bytes}
 
@@ -43,7 +43,7 @@ here_or_behind true x w m v rest a small f e =
     subst (λ k. v < 2 ^ k) (eqb-true x w a) (subst (λ k. k < 2 ^ x) same small)
 here_or_behind false x w m v rest a small f e = f e
 
-items_within : (n w : ℕ) (is : List Item) (ns : List ℕ) → agrees n w is ≡ true → Fits is ns → IsWithin n w (cells_in is ns)
+items_within : (n w : ℕ) (is : List Item) (ns : List ℕ) → agrees n w is ≡ true → FitsItems is ns → IsWithin n w (cells_in is ns)
 items_within n w [] ns a f = none_within n w [] refl
 items_within n w (i ∷ is) [] a f = none_within n w [] refl
 items_within n w (i ∷ is) (m ∷ ns) a f =
@@ -70,7 +70,7 @@ inner_within n w [] h = none_within n w [] refl
 inner_within n w (t ∷ ts) h = both_within n w (cells_in inner_tag t) (inner_cells ts) (items_within n w inner_tag t refl h.0) (inner_within n w ts h.2)
 
 -- the outermost tag has the bits of the others
-outer_fits : (t : List ℕ) → Fits inner_tag t → Fits outer_tag t
+outer_fits : (t : List ℕ) → FitsItems inner_tag t → FitsItems outer_tag t
 outer_fits [] f = f
 outer_fits (a ∷ []) f = f
 outer_fits (a ∷ b ∷ []) f = f
@@ -82,17 +82,17 @@ tags_within : (n w : ℕ) → IsAsWide n w → (ts : List (List ℕ)) → AreTag
 tags_within n w wide [] h = none_within n w [] refl
 tags_within n w wide (t ∷ ts) h = both_within n w (cells_in outer_tag t) (inner_cells ts) (items_within n w outer_tag t wide.in_tag (outer_fits t h.0)) (inner_within n w ts h.2)
 
-carried_within : (n w : ℕ) → IsAsWide n w → (c : Carried) → Fits (items_of c.kind) c.numbers → IsWithin n w (carried_cells c)
+carried_within : (n w : ℕ) → IsAsWide n w → (c : Carried) → FitsItems (items_of c.kind) c.numbers → IsWithin n w (carried_cells c)
 carried_within n w wide c f = both_within n w (cells_in (items_of c.kind) c.numbers) (byte_cells c.rest) (items_within n w (items_of c.kind) c.numbers (wide.in_transport c.kind) f) (bytes_within n w c.rest)
 
 -- what is carried, and the bytes after the packet
-end_within : (n w : ℕ) → IsAsWide n w → (c : Carried) (rest : List ℕ) → Fits (items_of c.kind) c.numbers → IsWithin n w (carried_cells c ++ byte_cells rest)
+end_within : (n w : ℕ) → IsAsWide n w → (c : Carried) (rest : List ℕ) → FitsItems (items_of c.kind) c.numbers → IsWithin n w (carried_cells c ++ byte_cells rest)
 end_within n w wide c rest f = both_within n w (carried_cells c) (byte_cells rest) (carried_within n w wide c f) (bytes_within n w rest)
 
 -- extension headers, and the numbers of what they carry
 record AreInside (n w : ℕ) (es : List Extension) (c : Carried) : Type 0 where
   pub headers : IsWithin n w (extension_cells es)
-  pub carried : Fits (items_of c.kind) c.numbers
+  pub carried : FitsItems (items_of c.kind) c.numbers
 
 -- no extension header follows a later fragment
 chain_within : (n w : ℕ) → IsAsWide n w → (kind : ℕ) (es : List Extension) (c : Carried) → AreExtensions kind es c → AreInside n w es c

@@ -11,10 +11,10 @@ use Rattle.of_messages.proofs.BucketsWritten.{buckets_short}
 use Rattle.of_table.specs.Tables.{Tables}
 use Rattle.of_statistics.specs.Groups.{bucket_row, group_description, group_row, references, row_among}
 use Rattle.of_statistics.proofs.GroupRows.{group_row_short}
-use Rattle.of_laws.specs.Cells.{u16}
+use Rattle.of_laws.specs.Cells.{u16_cell}
 use Rattle.of_laws.proofs.Writings.{encoding, written}
 use Rattle.of_laws.proofs.WrittenRequests.{buckets_encoded, kind_fits, kind_same}
-use Rattle.of_laws.specs.ReplyRows.{BucketStats, IsGroup, group_stats_cells, bucket_stats_cells, IsDescribed, group_cells}
+use Rattle.of_laws.specs.ReplyRows.{BucketStats, IsGroupRow, group_stats_cells, bucket_stats_cells, IsDescribed, group_description_cells}
 use Rattle.of_laws.specs.Shown.{IsShownGroup, group_shown, IsDescribable, group_described}
 
 -- ---- GROUP
@@ -30,11 +30,11 @@ counters_text (b ∷ bs) rest =
     append_assoc behind (flat_map bucket_row bs) rest ∙ ap (λ (t : List ℕ). behind ++ t) (counters_text bs rest)
 
 group_text : (all : List Group) (ts : Tables) (g : Group) (rest : List ℕ)
-    → row_among all ts g ++ rest ≡ encoding (u16 (40 + 16 * length g.buckets) ∷ group_stats_cells (group_shown all ts g)) ++ (flat_map bucket_row g.buckets ++ rest)
+    → row_among all ts g ++ rest ≡ encoding (u16_cell (40 + 16 * length g.buckets) ∷ group_stats_cells (group_shown all ts g)) ++ (flat_map bucket_row g.buckets ++ rest)
 unfolding group_row
 group_text all ts g rest = refl
 
-pub group_written : (all : List Group) (ts : Tables) (g : Group) (rest : List ℕ) → IsShownGroup (group_shown all ts g) → IsGroup (group_shown all ts g) (row_among all ts g ++ rest) rest
+pub group_written : (all : List Group) (ts : Tables) (g : Group) (rest : List ℕ) → IsShownGroup (group_shown all ts g) → IsGroupRow (group_shown all ts g) (row_among all ts g ++ rest) rest
 group_written all ts g rest h =
     let s = group_shown all ts g in
     let buckets = flat_map bucket_row g.buckets ++ rest in
@@ -43,7 +43,7 @@ group_written all ts g rest h =
     let size : 40 + 16 * length g.buckets < 256 ^ 2 = omega (arith, few, same) in
     record {
       buckets = buckets;
-      front = rw (same, group_text all ts g rest) (written (u16 (40 + 16 * length g.buckets) ∷ group_stats_cells s) buckets (size, h.numbers));
+      front = rw (same, group_text all ts g rest) (written (u16_cell (40 + 16 * length g.buckets) ∷ group_stats_cells s) buckets (size, h.numbers));
       behind = rw (counters_text g.buckets rest) (written (bucket_stats_cells s.buckets) rest h.counters);
     }
 
@@ -52,7 +52,7 @@ group_short all ts g h = let few = h.few in group_row_short ts.latest (reference
 
 -- ---- GROUP_DESC
 
-described_text : (g : Group) (rest : List ℕ) → group_description g ++ rest ≡ encoding (u16 (8 + length (canonical_buckets g.buckets)) ∷ group_cells (group_described g)) ++ (canonical_buckets g.buckets ++ rest)
+described_text : (g : Group) (rest : List ℕ) → group_description g ++ rest ≡ encoding (u16_cell (8 + length (canonical_buckets g.buckets)) ∷ group_description_cells (group_described g)) ++ (canonical_buckets g.buckets ++ rest)
 unfolding group_description
 described_text g rest = rw (kind_same g.kind) refl
 
@@ -64,7 +64,7 @@ group_described_so g rest h =
     let size : 8 + length buckets < 256 ^ 2 = omega (arith, buckets_short g.buckets h.fit) in
     record {
       buckets = buckets;
-      front = rw (described_text g rest) (written (u16 (8 + length buckets) ∷ group_cells (group_described g)) (buckets ++ rest) (size, (kind_fits g.kind, (h.id, tt))));
+      front = rw (described_text g rest) (written (u16_cell (8 + length buckets) ∷ group_description_cells (group_described g)) (buckets ++ rest) (size, (kind_fits g.kind, (h.id, tt))));
       are = buckets_encoded g.buckets h.numbers all;
     }
 

@@ -12,26 +12,26 @@ use Rattle.of_messages.specs.Written.{port_bits, port_bytes, port_names}
 use Rattle.of_messages.specs.declared.port_mod.PortDescription.{PortDescription}
 use Rattle.of_ports.specs.declared.port.Port.{Port}
 use Rattle.of_table.specs.Table.{Table}
-use Rattle.of_statistics.specs.Flows.{Listed, flow_row, from_tables, table_row}
+use Rattle.of_statistics.specs.Flows.{EntryInTable, flow_row, from_tables, table_row}
 use Rattle.of_statistics.specs.Ports.{described, port_row}
 use Rattle.of_statistics.proofs.FlowRows.{row_short}
-use Rattle.of_laws.specs.Cells.{Cell, Fits, u16}
+use Rattle.of_laws.specs.Cells.{StructCell, FitsCells, u16_cell}
 use Rattle.of_laws.specs.Told.{port_cells}
 use Rattle.of_laws.proofs.Writings.{encoding, written}
-use Rattle.of_laws.specs.ReplyRows.{AreRows, IsFlow, flow_cells, TableStats, IsTable, table_cells, IsPort, port_stats_cells, IsDescribedPort}
+use Rattle.of_laws.specs.ReplyRows.{AreReplyRows, IsFlow, flow_cells, TableStats, IsTable, table_cells, IsPort, port_stats_cells, IsDescribedPort}
 use Rattle.of_laws.specs.Shown.{IsShownFlow, flow_shown, port_shown}
 use Rattle.of_laws.proofs.WrittenTold.{description_text}
 
 -- ---- FLOW
 
-abbrev row_cells : ℕ → Listed → List Cell
-row_cells now l = u16 (48 + length (canonical l.entry.flow.fields) + length (canonical_instructions l.entry.flow.instructions)) ∷ flow_cells (flow_shown now l)
+abbrev row_cells : ℕ → EntryInTable → List StructCell
+row_cells now l = u16_cell (48 + length (canonical l.entry.flow.fields) + length (canonical_instructions l.entry.flow.instructions)) ∷ flow_cells (flow_shown now l)
 
-flow_text : (now : ℕ) (l : Listed) (rest : List ℕ) → flow_row now l ++ rest ≡ encoding (row_cells now l) ++ (canonical l.entry.flow.fields ++ (canonical_instructions l.entry.flow.instructions ++ rest))
+flow_text : (now : ℕ) (l : EntryInTable) (rest : List ℕ) → flow_row now l ++ rest ≡ encoding (row_cells now l) ++ (canonical l.entry.flow.fields ++ (canonical_instructions l.entry.flow.instructions ++ rest))
 unfolding flow_row
 flow_text now l rest = ap (λ (t : List ℕ). encoding (row_cells now l) ++ t) (append_assoc (canonical l.entry.flow.fields) (canonical_instructions l.entry.flow.instructions) rest)
 
-pub flow_written : (now : ℕ) (l : Listed) (rest : List ℕ) → IsShownFlow now l → IsFlow (flow_shown now l) (flow_row now l ++ rest) rest
+pub flow_written : (now : ℕ) (l : EntryInTable) (rest : List ℕ) → IsShownFlow now l → IsFlow (flow_shown now l) (flow_row now l ++ rest) rest
 flow_written now l rest h =
     let fields = canonical l.entry.flow.fields in
     let instructions = canonical_instructions l.entry.flow.instructions in
@@ -45,7 +45,7 @@ flow_written now l rest h =
       are = instructions_encoded l.table l.entry.flow.instructions h.kept h.fit;
     }
 
-pub flow_short : (now : ℕ) (l : Listed) → IsShownFlow now l → length (flow_row now l) ≤ 65519
+pub flow_short : (now : ℕ) (l : EntryInTable) → IsShownFlow now l → length (flow_row now l) ≤ 65519
 flow_short now l h = let match = h.match in row_short now l (canonical_short l.entry.flow.fields match.rising) (instructions_short l.entry.flow.instructions h.kept)
 
 -- ---- TABLE
@@ -57,10 +57,10 @@ table_text : (k : ℕ) (t : Table) (rest : List ℕ) → table_row k t ++ rest �
 unfolding table_row
 table_text k t rest = refl
 
-table_written : (k : ℕ) (t : Table) (rest : List ℕ) → Fits (table_cells (shown k t)) → IsTable (shown k t) (table_row k t ++ rest) rest
+table_written : (k : ℕ) (t : Table) (rest : List ℕ) → FitsCells (table_cells (shown k t)) → IsTable (shown k t) (table_row k t ++ rest) rest
 table_written k t rest fits = rw (table_text k t rest) (written (table_cells (shown k t)) rest fits)
 
-pub tables_written : (k : ℕ) (ts : List Table) → ByRecursion (λ s. Fits (table_cells s)) (from_tables (λ k t. shown k t ∷ []) k ts) → AreRows IsTable (from_tables (λ k t. shown k t ∷ []) k ts) (from_tables table_row k ts)
+pub tables_written : (k : ℕ) (ts : List Table) → ByRecursion (λ s. FitsCells (table_cells s)) (from_tables (λ k t. shown k t ∷ []) k ts) → AreReplyRows IsTable (from_tables (λ k t. shown k t ∷ []) k ts) (from_tables table_row k ts)
 tables_written k [] all = refl
 tables_written k (t ∷ ts) all = let rest = from_tables table_row (suc k) ts in (rest, table_written k t rest all.0, tables_written (suc k) ts all.1)
 
@@ -70,22 +70,22 @@ port_text : (now : ℕ) (p : Port) (rest : List ℕ) → port_row now p ++ rest 
 unfolding port_row
 port_text now p rest = refl
 
-pub port_written : (now : ℕ) (p : Port) (rest : List ℕ) → Fits (port_stats_cells (port_shown now p)) → IsPort (port_shown now p) (port_row now p ++ rest) rest
+pub port_written : (now : ℕ) (p : Port) (rest : List ℕ) → FitsCells (port_stats_cells (port_shown now p)) → IsPort (port_shown now p) (port_row now p ++ rest) rest
 port_written now p rest fits = rw (port_text now p rest) (written (port_stats_cells (port_shown now p)) rest fits)
 
 -- ---- PORT_DESC
 
-pub port_described : (p : PortDescription) (rest : List ℕ) → Fits (port_cells p) → IsDescribedPort p (port_bytes p ++ rest) rest
+pub port_described : (p : PortDescription) (rest : List ℕ) → FitsCells (port_cells p) → IsDescribedPort p (port_bytes p ++ rest) rest
 port_described p rest fits = rw (description_text p) (written (port_cells p) rest fits)
 
-length_port : (p : PortDescription) → Fits (port_cells p) → length (port_bytes p) ≡ 64
+length_port : (p : PortDescription) → FitsCells (port_cells p) → length (port_bytes p) ≡ 64
 unfolding port_names port_bits
 length_port p fits =
     let hw : length p.hw ≡ 6 = fits.1.0 in
     let name : length p.name ≡ 16 = fits.1.1.0 in
     omega (arith, hw, name, length-append p.hw (replicate 2 0 ++ p.name), length-append (p.hw ++ (replicate 2 0 ++ p.name)) (port_bits p))
 
-pub length_ports : (ps : List Port) → ByRecursion (λ p. Fits (port_cells (described p))) ps → length (flat_map (λ p. port_bytes (described p)) ps) ≡ 64 * length ps
+pub length_ports : (ps : List Port) → ByRecursion (λ p. FitsCells (port_cells (described p))) ps → length (flat_map (λ p. port_bytes (described p)) ps) ≡ 64 * length ps
 length_ports [] all = refl
 length_ports (p ∷ ps) all =
     omega (arith, length_port (described p) all.0, length_ports ps all.1, length-append (port_bytes (described p)) (flat_map (λ p. port_bytes (described p)) ps))

@@ -17,9 +17,9 @@ use Rattle.of_groups.specs.Buckets.{are_fit, fresh, is_fit}
 use Rattle.of_groups.specs.declared.bucket.Bucket.{Bucket}
 use Rattle.of_groups.specs.declared.group.GroupKind.{GroupKind}
 use Rattle.of_groups.specs.declared.group.GroupKind.TheVariants.{All, Indirect, FastFailover}
-use Rattle.of_groups.specs.Groups.{kind_number as number_of}
+use Rattle.of_groups.specs.Groups.{kind_number as number_of, kind_number}
 use Rattle.of_messages.specs.CanonicalGroups.{as_written, canonical_bucket, canonical_buckets, group_add_bytes, group_add_fixed_part, has_numbers}
-use Rattle.of_messages.specs.Written.{command_number as number_of_command, flow_mod_bytes, flow_mod_fixed_part}
+use Rattle.of_messages.specs.Written.{command_number as number_of_command, flow_mod_bytes, flow_mod_fixed_part, command_number}
 use Rattle.of_messages.specs.declared.group_mod.GroupMod.TheVariants as group
 use Rattle.of_messages.specs.declared.group_mod.NewGroup.{NewGroup}
 use Rattle.of_messages.specs.declared.message.FlowMod.{FlowMod}
@@ -28,8 +28,8 @@ use Rattle.of_messages.specs.declared.message.FlowModCommand.TheVariants.{Add, M
 use Rattle.of_messages.specs.declared.message.Message.TheVariants.{FlowMod as IsFlowMod, GroupMod as IsGroupMod}
 use Rattle.of_messages.proofs.BucketsWritten.{buckets_short}
 use Rattle.of_laws.specs.Buckets.{AreBuckets, bucket_cells}
-use Rattle.of_laws.specs.Cells.{Fits}
-use Rattle.of_laws.specs.Grammar.{HasInstructions, IsValidFlowMod, MatchThenInstructions, Encodes, command_number, deletes, flow_mod_cells, group_cells, kind_number}
+use Rattle.of_laws.specs.Cells.{FitsCells}
+use Rattle.of_laws.specs.Grammar.{HasInstructions, IsValidFlowMod, MatchThenInstructions, Encodes, deletes, flow_mod_cells, group_cells}
 use Rattle.of_laws.proofs.Writings.{fronted, encoding, written}
 
 -- ---- FLOW_MOD
@@ -66,7 +66,7 @@ tail_is m match kept fit none =
 pub tail_short : (m : FlowMod) → IsMatch m.fields → are_kept m.instructions ≡ true → length (canonical m.fields ++ canonical_instructions m.instructions) ≤ 4256
 tail_short m match kept = omega (arith, length-append (canonical m.fields) (canonical_instructions m.instructions), canonical_short m.fields match.rising, instructions_short m.instructions kept)
 
-pub flow_mod_encoded : (xid : ℕ) (m : FlowMod) → xid < 256 ^ 4 → Fits (flow_mod_cells m) → IsValidFlowMod m → IsMatch m.fields → are_kept m.instructions ≡ true → are_for m.table m.instructions ≡ true
+pub flow_mod_encoded : (xid : ℕ) (m : FlowMod) → xid < 256 ^ 4 → FitsCells (flow_mod_cells m) → IsValidFlowMod m → IsMatch m.fields → are_kept m.instructions ≡ true → are_for m.table m.instructions ≡ true
     → (deletes m.command ≡ true → m.instructions ≡ []) → Encodes xid (IsFlowMod m) (flow_mod_bytes xid m)
 flow_mod_encoded xid m x fits valid match kept fit none =
     let tail = canonical m.fields ++ canonical_instructions m.instructions in
@@ -85,7 +85,7 @@ unfolding canonical_bucket
 bucket_front b rest = refl
 
 -- its numbers fit
-bucket_fits : (b : Bucket) → has_numbers b ≡ true → length (canonical_actions b.actions) ≤ 1536 → Fits (bucket_cells (16 + length (canonical_actions b.actions)) (fresh b))
+bucket_fits : (b : Bucket) → has_numbers b ≡ true → length (canonical_actions b.actions) ≤ 1536 → FitsCells (bucket_cells (16 + length (canonical_actions b.actions)) (fresh b))
 unfolding has_numbers
 bucket_fits b h short =
     let weight : b.weight < 256 ^ 2 = grind (arith, nat_tests) in
@@ -141,7 +141,7 @@ group_add_encoded xid g x most numbers fit =
     let few : length g.buckets ≤ 16 = grind (arith, nat_tests) in
     let all : list_all is_fit g.buckets ≡ true = grind (arith, nat_tests) in
     let short = buckets_short g.buckets fit in
-    let fits : Fits (group_cells 0 (as_written g)) = (omega arith, (kind_fits g.kind, (omega arith, tt))) in
+    let fits : FitsCells (group_cells 0 (as_written g)) = (omega arith, (kind_fits g.kind, (omega arith, tt))) in
     record {
       tail = tail;
       front = fronted 15 xid (group_cells 0 (as_written g)) (group_add_fixed_part g ++ tail) tail (group_fixed_part g tail) (omega arith) x fits (omega (arith, length-group g tail));

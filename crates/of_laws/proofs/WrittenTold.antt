@@ -24,7 +24,7 @@ use Rattle.of_messages.specs.declared.port_mod.PortStatusReason.TheVariants as s
 use Rattle.of_messages.specs.declared.role.Role.{Role}
 use Rattle.of_messages.specs.declared.role.Role.TheVariants as role
 use Rattle.of_messages.proofs.PacketFields.{with_metadata, without_metadata}
-use Rattle.of_laws.specs.Cells.{Fits}
+use Rattle.of_laws.specs.Cells.{FitsCells}
 use Rattle.of_laws.specs.Told.{Told, hello, error, echo_reply, features_reply, config_reply, packet_in, flow_removed, port_status, barrier_reply, role_reply, async_reply, switch_message_type, told_cells, told_fields, ToldTail, EncodesSwitchMessage, port_reason, role_value, removed_cells, packet_in_cells, port_cells}
 use Rattle.of_laws.proofs.Writings.{fronted, encoding}
 
@@ -41,13 +41,13 @@ type_fits barrier_reply = omega arith
 type_fits (role_reply r generation) = omega arith
 type_fits (async_reply masks) = omega arith
 
-told : (t : Told) (xid : ℕ) (body tail : List ℕ) → body ≡ encoding (told_cells t) ++ tail → xid < 256 ^ 4 → Fits (told_cells t) → length body ≤ 65527 → ToldTail t tail → EncodesSwitchMessage xid t (message (switch_message_type t) xid body)
+told : (t : Told) (xid : ℕ) (body tail : List ℕ) → body ≡ encoding (told_cells t) ++ tail → xid < 256 ^ 4 → FitsCells (told_cells t) → length body ≤ 65527 → ToldTail t tail → EncodesSwitchMessage xid t (message (switch_message_type t) xid body)
 told t xid body tail e x fits short behind = record { tail = tail; front = fronted (switch_message_type t) xid (told_cells t) body tail e (type_fits t) x fits short; behind = behind }
 
 pub hello_told : EncodesSwitchMessage 0 (hello 16) hello_bytes
 hello_told = told (hello 16) 0 (big_bytes 2 1 ++ (big_bytes 2 8 ++ big_bytes 4 16)) [] refl (omega arith) (omega arith, (omega arith, (omega arith, tt))) (omega arith) refl
 
-pub error_told : (xid : ℕ) (code : Code) (failed : List ℕ) → xid < 256 ^ 4 → Fits (told_cells (error code failed)) → length failed ≤ 65523 → EncodesSwitchMessage xid (error code failed) (error_bytes xid code failed)
+pub error_told : (xid : ℕ) (code : Code) (failed : List ℕ) → xid < 256 ^ 4 → FitsCells (told_cells (error code failed)) → length failed ≤ 65523 → EncodesSwitchMessage xid (error code failed) (error_bytes xid code failed)
 error_told xid code failed x fits short = told (error code failed) xid (big_bytes 2 code.kind ++ (big_bytes 2 code.code ++ failed)) failed refl x fits (omega arith) refl
 
 pub echo_told : (xid : ℕ) (echoed : List ℕ) → xid < 256 ^ 4 → length echoed ≤ 65527 → EncodesSwitchMessage xid (echo_reply echoed) (echo_reply_bytes xid echoed)
@@ -82,7 +82,7 @@ pub role_told : (xid : ℕ) (r : Role) (generation : ℕ) → xid < 256 ^ 4 → 
 role_told xid r generation x fits =
     told (role_reply r generation) xid (big_bytes 4 (role_number r) ++ (replicate 4 0 ++ big_bytes 8 generation)) [] (role_text r generation) x (role_fits r, (fits, tt)) (omega arith) refl
 
-pub async_told : (xid : ℕ) (masks : AsyncMasks) → xid < 256 ^ 4 → Fits (told_cells (async_reply masks)) → EncodesSwitchMessage xid (async_reply masks) (async_reply_bytes xid masks)
+pub async_told : (xid : ℕ) (masks : AsyncMasks) → xid < 256 ^ 4 → FitsCells (told_cells (async_reply masks)) → EncodesSwitchMessage xid (async_reply masks) (async_reply_bytes xid masks)
 async_told xid masks x fits = told (async_reply masks) xid _ [] refl x fits (omega arith) refl
 
 -- ---- FLOW_REMOVED
@@ -95,7 +95,7 @@ length-removed : (r : FlowRemoved) (tail : List ℕ) → length (flow_removed_fi
 unfolding flow_removed_fixed_part
 length-removed r tail = omega arith
 
-pub removed_told : (xid : ℕ) (r : FlowRemoved) (fields : List MatchField) → xid < 256 ^ 4 → Fits (told_cells (flow_removed r fields)) → IsMatch fields → EncodesSwitchMessage xid (flow_removed r fields) (flow_removed_bytes xid r fields)
+pub removed_told : (xid : ℕ) (r : FlowRemoved) (fields : List MatchField) → xid < 256 ^ 4 → FitsCells (told_cells (flow_removed r fields)) → IsMatch fields → EncodesSwitchMessage xid (flow_removed r fields) (flow_removed_bytes xid r fields)
 removed_told xid r fields x fits match =
     told (flow_removed r fields) xid (flow_removed_fixed_part r ++ canonical fields) (canonical fields) (removed_text r (canonical fields)) x fits (omega (arith, length-removed r (canonical fields), canonical_short fields match.rising)) (canonical_encodes fields match)
 
@@ -118,7 +118,7 @@ port_text : (r : PortStatusReason) (p : PortDescription) → (status_number r �
 port_text r p =
     ap (λ (n : ℕ). (n ∷ replicate 7 0) ++ port_bytes p) (status_same r) ∙ ap (λ (t : List ℕ). (port_reason r ∷ replicate 7 0) ++ t) (description_text p) ∙ sym (append-nil _)
 
-pub port_told : (xid : ℕ) (r : PortStatusReason) (p : PortDescription) → xid < 256 ^ 4 → Fits (told_cells (port_status r p)) → EncodesSwitchMessage xid (port_status r p) (port_status_bytes xid r p)
+pub port_told : (xid : ℕ) (r : PortStatusReason) (p : PortDescription) → xid < 256 ^ 4 → FitsCells (told_cells (port_status r p)) → EncodesSwitchMessage xid (port_status r p) (port_status_bytes xid r p)
 unfolding port_names port_bits
 port_told xid r p x fits =
     let hw : length p.hw ≡ 6 = fits.1.1.0 in
@@ -170,7 +170,7 @@ fields_match p low high = by_test (eqb p.metadata 0) refl
     by_test true is = one_match p.in_port low
     by_test false is = both_match p.in_port p.metadata low high
 
-pub packet_told : (xid : ℕ) (p : PacketIn) («data» : List ℕ) → xid < 256 ^ 4 → Fits (told_cells (packet_in p «data»)) → p.in_port < 256 ^ 4 → p.metadata < 256 ^ 8 → length «data» ≤ 65485 → EncodesSwitchMessage xid (packet_in p «data») (packet_in_bytes xid p «data»)
+pub packet_told : (xid : ℕ) (p : PacketIn) («data» : List ℕ) → xid < 256 ^ 4 → FitsCells (told_cells (packet_in p «data»)) → p.in_port < 256 ^ 4 → p.metadata < 256 ^ 8 → length «data» ≤ 65485 → EncodesSwitchMessage xid (packet_in p «data») (packet_in_bytes xid p «data»)
 packet_told xid p «data» x fits low high short =
     let match = fields_match p low high in
     let fields = canonical (told_fields p) in

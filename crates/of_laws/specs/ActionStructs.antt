@@ -8,7 +8,7 @@ use Rattle.of_actions.specs.declared.rows.TheConstants.{ACTIONS}
 use Rattle.of_actions.specs.Rows.{said}
 use Rattle.of_actions.specs.SetField.{set_len}
 use Rattle.of_formats.specs.Tables as tables
-use Rattle.of_laws.specs.Cells.{Cell, u16, Begins}
+use Rattle.of_laws.specs.Cells.{StructCell, u16_cell, Begins}
 use Rattle.of_laws.specs.StructCells.{cells_of}
 
 -- OFPAT_*
@@ -20,7 +20,7 @@ abbrev pub action_types : List ℕ
 action_types = map (λ r. r.kind) ACTIONS
 
 -- after the type the length of the action, its values, and padding; a SET_FIELD has an OXM field of class 0x8000 without a mask (7.2.3.2)
-abbrev pub said_cells : Argument → List Cell
+abbrev pub said_cells : Argument → List StructCell
 said_cells Nothing = cells_of (drop 1 tables.action_header) (8 ∷ []) []
 said_cells (Byte n) = cells_of (drop 1 tables.action_nw_ttl) (8 ∷ n ∷ []) []
 said_cells (Tag type) = cells_of (drop 1 tables.action_push) (8 ∷ type ∷ []) []
@@ -29,8 +29,8 @@ said_cells (Port port max_len) = cells_of (drop 1 tables.action_output) (16 ∷ 
 said_cells (Field f value) =
     cells_of (drop 1 (tables.action_set_field (bytes_of f) (set_len f - (8 + bytes_of f)))) (set_len f ∷ 0x8000 ∷ 2 * number_of f ∷ bytes_of f ∷ value ∷ []) []
 
-abbrev pub action_cells : Action → List Cell
-action_cells a = u16 (action_type a) ∷ said_cells (said a).1
+abbrev pub action_cells : Action → List StructCell
+action_cells a = u16_cell (action_type a) ∷ said_cells (said a).1
 
 -- bytes are the structs of these actions, one after the other, whatever their padding is
 abbrev pub AreStructs : List Action → List ℕ → Type 0

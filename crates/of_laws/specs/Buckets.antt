@@ -4,14 +4,14 @@ use Rattle.of_actions.specs.Actions.{AreActions}
 use Rattle.of_groups.specs.declared.bucket.Bucket.{Bucket}
 use Rattle.of_laws.specs.StructCells.{cells_of}
 use Rattle.of_formats.specs.Tables as tables
-use Rattle.of_laws.specs.Cells.{Cell, Begins}
+use Rattle.of_laws.specs.Cells.{StructCell, Begins}
 
 -- the length of the whole bucket, its weight, and what it watches
-abbrev pub bucket_cells : ℕ → Bucket → List Cell
+abbrev pub bucket_cells : ℕ → Bucket → List StructCell
 bucket_cells size b = cells_of tables.bucket (size ∷ b.weight ∷ b.watch_port ∷ b.watch_group ∷ []) []
 
 -- the bytes begin with the bucket, its fields and its actions, and then comes the rest; its counters are 0, and its length is a multiple of 8 (else OFPGMFC_BAD_BUCKET)
-pub record IsBucket (b : Bucket) (bytes rest : List ℕ) : Type 0 where
+pub record BeginsWithBucket (b : Bucket) (bytes rest : List ℕ) : Type 0 where
   pub actions : List ℕ
   pub front : Begins (bucket_cells (16 + length actions) b) bytes (actions ++ rest)
   pub are : AreActions false [] actions b.actions None
@@ -22,4 +22,4 @@ pub record IsBucket (b : Bucket) (bytes rest : List ℕ) : Type 0 where
 -- bytes are these buckets, one after the other
 abbrev pub AreBuckets : List Bucket → List ℕ → Type 0
 AreBuckets [] bytes = bytes ≡ []
-AreBuckets (b ∷ bs) bytes = (rest : List ℕ) × IsBucket b bytes rest × AreBuckets bs rest
+AreBuckets (b ∷ bs) bytes = (rest : List ℕ) × BeginsWithBucket b bytes rest × AreBuckets bs rest

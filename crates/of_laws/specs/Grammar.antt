@@ -1,12 +1,11 @@
 -- THE GRAMMAR: which bytes encode which message of a controller (OpenFlow 1.3.5, 7).
-use Rattle.std.specs.Prelude.{◌≡◌, ◌≤◌, ◌<◌, ℕ, bit_and, ◌⊎◌, ⊤, Bool, true, false, List, [], ◌∷◌, ◌++◌, length, take, drop, Option, Some, None, if◌then◌else◌}
+use Rattle.std.specs.Prelude.{◌≡◌, ◌≤◌, ◌<◌, ℕ, bit_and, ◌⊎◌, ⊤, Bool, true, false, List, [], ◌∷◌, ◌++◌, length, take, drop, Option, Some, None}
+use Rattle.of_groups.specs.Groups.{kind_number}
 use Rattle.of_wire.specs.declared.limits.TheConstants.{OFP_NO_BUFFER, OFPG_ALL, OFPG_MAX, OFPP_CONTROLLER, OFPP_MAX}
 use Rattle.of_oxm.specs.MatchGrammar.{EncodesMatch}
 use Rattle.of_actions.specs.Actions.{AreActions}
 use Rattle.of_actions.specs.FlowCheck.{all_go_with}
 use Rattle.of_actions.specs.Instructions.{EncodesInstructions}
-use Rattle.of_groups.specs.declared.group.GroupKind.{GroupKind}
-use Rattle.of_groups.specs.declared.group.GroupKind.TheVariants.{All, Indirect, FastFailover}
 use Rattle.of_messages.specs.Heads.{changes_by}
 use Rattle.of_messages.specs.declared.async_masks.AsyncMasks.{AsyncMasks}
 use Rattle.of_messages.specs.declared.group_mod.GroupMod.{GroupMod}
@@ -24,12 +23,13 @@ use Rattle.of_messages.specs.declared.role.Role.{Role}
 use Rattle.of_messages.specs.declared.role.Role.TheVariants as role
 use Rattle.of_messages.specs.declared.role.RoleRequest.{RoleRequest}
 use Rattle.of_messages.specs.declared.role.RoleRequest.TheVariants.{NoChange, Equal, Master, Slave}
+use Rattle.of_messages.specs.Written.{flow_mod_numbers}
 use Rattle.of_formats.specs.declared.messages.TheConstants.{BARRIER_REQUEST, ECHO_REPLY, ECHO_REQUEST, ERROR, FEATURES_REQUEST, FLOW_MOD, GET_ASYNC_REQUEST, GET_CONFIG_REQUEST, GROUP_MOD, HELLO, MULTIPART_REQUEST, PACKET_OUT, PORT_MOD, ROLE_REQUEST, SET_ASYNC, SET_CONFIG, TABLE_MOD}
 use Rattle.of_formats.specs.Messages.{message_row}
 use Rattle.of_laws.specs.Buckets.{AreBuckets}
-use Rattle.of_laws.specs.StructCells.{cells_of, without}
+use Rattle.of_laws.specs.StructCells.{cells_of, without_field}
 use Rattle.of_formats.specs.Tables as tables
-use Rattle.of_laws.specs.Cells.{Cell, byte, pad, Begins}
+use Rattle.of_laws.specs.Cells.{StructCell, byte, pad, Begins}
 use Rattle.of_laws.specs.Requests.{NamesTable, or_all, request_cells, RequestTail, IsValidRequest}
 
 -- THE HEADER (7.1, struct ofp_header)
@@ -55,7 +55,7 @@ type GetAsyncRequest = GET_ASYNC_REQUEST
 type (SetAsync masks) = SET_ASYNC
 
 -- a HELLO may be of any version (6.3.1), all others are of version 4
-abbrev pub version : Message → Cell
+abbrev pub version : Message → StructCell
 version Hello = pad 1
 version other = byte 4
 
@@ -92,17 +92,7 @@ IsValidPacketOut m = IsIngress m.in_port × IsValidData m.packet
 
 -- FLOW_MOD (7.3.4.1, struct ofp_flow_mod)
 
--- OFPFC_*
-abbrev pub command_number : FlowModCommand → ℕ
-command_number Add = 0
-command_number (Modify strict) = if strict then 2 else 1
-command_number (Delete strict) = if strict then 4 else 3
-
-abbrev pub flow_mod_numbers : FlowMod → List ℕ
-flow_mod_numbers m =
-    m.cookie ∷ m.cookie_mask ∷ m.table ∷ command_number m.command ∷ m.idle_timeout ∷ m.hard_timeout ∷ m.priority ∷ m.buffer ∷ m.out_port ∷ m.out_group ∷ m.flags ∷ []
-
-abbrev pub flow_mod_cells : FlowMod → List Cell
+abbrev pub flow_mod_cells : FlowMod → List StructCell
 flow_mod_cells m = cells_of tables.flow_mod (flow_mod_numbers m) []
 
 abbrev pub deletes : FlowModCommand → Bool
@@ -135,20 +125,14 @@ pub record IsValidFlowMod (m : FlowMod) : Type 0 where
 
 -- GROUP_MOD (7.3.4.2, struct ofp_group_mod)
 
--- OFPGT_*
-abbrev pub kind_number : GroupKind → ℕ
-kind_number All = 0
-kind_number Indirect = 2
-kind_number FastFailover = 3
-
-abbrev pub group_cells : ℕ → NewGroup → List Cell
+abbrev pub group_cells : ℕ → NewGroup → List StructCell
 group_cells command g = cells_of tables.group_mod (command ∷ kind_number g.kind ∷ g.id ∷ []) []
 
 -- OFPGC_*; of a DELETE the type and the buckets are ignored
-abbrev pub group_mod_cells : GroupMod → List Cell
+abbrev pub group_mod_cells : GroupMod → List StructCell
 group_mod_cells (group.Add g) = group_cells 0 g
 group_mod_cells (group.Modify g) = group_cells 1 g
-group_mod_cells (group.Delete which) = cells_of (without "type" tables.group_mod) (2 ∷ or_all OFPG_ALL which ∷ []) []
+group_mod_cells (group.Delete which) = cells_of (without_field "type" tables.group_mod) (2 ∷ or_all OFPG_ALL which ∷ []) []
 
 abbrev pub GroupTail : GroupMod → List ℕ → Type 0
 GroupTail (group.Add g) tail = AreBuckets g.buckets tail
@@ -171,32 +155,32 @@ IsValidGroupMod (group.Delete which) = IsValidNumber which
 -- ROLE_REQUEST (7.3.9, struct ofp_role_request)
 
 -- OFPCR_ROLE_*, padding, and the generation_id, which counts for a MASTER and a SLAVE alone
-abbrev pub role_cells : RoleRequest → List Cell
-role_cells NoChange = cells_of (without "generation_id" tables.role) (0 ∷ []) []
-role_cells Equal = cells_of (without "generation_id" tables.role) (1 ∷ []) []
+abbrev pub role_cells : RoleRequest → List StructCell
+role_cells NoChange = cells_of (without_field "generation_id" tables.role) (0 ∷ []) []
+role_cells Equal = cells_of (without_field "generation_id" tables.role) (1 ∷ []) []
 role_cells (Master generation) = cells_of tables.role (2 ∷ generation ∷ []) []
 role_cells (Slave generation) = cells_of tables.role (3 ∷ generation ∷ []) []
 
 -- SET_ASYNC (7.3.10, struct ofp_async_config): while the controller is master or equal, and while it is a slave
-abbrev pub async_config_cells : AsyncMasks → List Cell
+abbrev pub async_config_cells : AsyncMasks → List StructCell
 async_config_cells a =
     cells_of tables.async_config (a.packet_in.master ∷ a.packet_in.slave ∷ a.port_status.master ∷ a.port_status.slave ∷ a.flow_removed.master ∷ a.flow_removed.slave ∷ []) []
 
 -- EACH MESSAGE
 
 -- Its fields after the header: struct ofp_error_msg (7.4.4), whose type and code are ignored, ofp_switch_config (7.3.2), whose flags are 0 (OFPSCFC_BAD_FLAGS), ofp_port_mod (7.3.4.3), ofp_table_mod (7.3.3), and those above.
-abbrev pub cells : Message → List Cell
-cells Error = cells_of (without "type" (without "code" tables.error_msg)) [] []
-cells (SetConfig config) = cells_of tables.switch_config (0 ∷ config.miss_send_len ∷ []) []
-cells (IsPacketOut m) = cells_of (take 2 tables.packet_out) (buffer_of m.packet ∷ m.in_port ∷ []) []
-cells (IsFlowMod m) = flow_mod_cells m
-cells (IsGroupMod m) = group_mod_cells m
-cells (IsPortMod m) = cells_of tables.port_mod (m.port ∷ m.config ∷ m.mask ∷ []) (m.hw ∷ [])
-cells (IsTableMod m) = cells_of tables.table_mod (m.table ∷ m.config ∷ []) []
-cells (Multipart request) = request_cells request
-cells (IsRoleRequest request) = role_cells request
-cells (SetAsync masks) = async_config_cells masks
-cells other = []
+abbrev pub message_cells : Message → List StructCell
+message_cells Error = cells_of (without_field "type" (without_field "code" tables.error_msg)) [] []
+message_cells (SetConfig config) = cells_of tables.switch_config (0 ∷ config.miss_send_len ∷ []) []
+message_cells (IsPacketOut m) = cells_of (take 2 tables.packet_out) (buffer_of m.packet ∷ m.in_port ∷ []) []
+message_cells (IsFlowMod m) = flow_mod_cells m
+message_cells (IsGroupMod m) = group_mod_cells m
+message_cells (IsPortMod m) = cells_of tables.port_mod (m.port ∷ m.config ∷ m.mask ∷ []) (m.hw ∷ [])
+message_cells (IsTableMod m) = cells_of tables.table_mod (m.table ∷ m.config ∷ []) []
+message_cells (Multipart request) = request_cells request
+message_cells (IsRoleRequest request) = role_cells request
+message_cells (SetAsync masks) = async_config_cells masks
+message_cells other = []
 
 -- What follows these: nothing, data, or what is ignored (elements of a HELLO, data of an ERROR and of an ECHO_REPLY).
 abbrev pub Tail : Message → List ℕ → Type 0
@@ -221,8 +205,8 @@ IsValid (Multipart request) = IsValidRequest request
 IsValid other = ⊤
 
 -- version, type, length of the message, transaction id, and the fields of the message
-abbrev pub fixed_part_cells : Message → ℕ → ℕ → List Cell
-fixed_part_cells m size xid = version m ∷ cells_of (drop 1 tables.header) (type m ∷ size ∷ xid ∷ []) [] ++ cells m
+abbrev pub fixed_part_cells : Message → ℕ → ℕ → List StructCell
+fixed_part_cells m size xid = version m ∷ cells_of (drop 1 tables.header) (type m ∷ size ∷ xid ∷ []) [] ++ message_cells m
 
 -- these bytes, all of them, encode the message with this transaction id
 pub record Encodes (xid : ℕ) (m : Message) (bytes : List ℕ) : Type 0 where
@@ -232,9 +216,9 @@ pub record Encodes (xid : ℕ) (m : Message) (bytes : List ℕ) : Type 0 where
   pub valid : IsValid m
 
 -- WHO MAY SEND IT (6.3.4): a slave may not change the switch or send a packet, else OFPBRC_IS_SLAVE
-abbrev pub changes : Message → Bool
-changes m = changes_by (message_row (type m))
+abbrev pub changes_switch : Message → Bool
+changes_switch m = changes_by (message_row (type m))
 
 abbrev pub MaySend : Role → Message → Type 0
-MaySend role.Slave m = changes m ≡ false
+MaySend role.Slave m = changes_switch m ≡ false
 MaySend other m = ⊤

@@ -8,7 +8,7 @@ use Rattle.of_actions.specs.RunOrder.{in_run_order}
 use Rattle.of_laws.specs.ActionStructs.{AreStructs}
 use Rattle.of_laws.specs.StructCells.{cells_of}
 use Rattle.of_formats.specs.Tables as tables
-use Rattle.of_laws.specs.Cells.{Cell, Begins}
+use Rattle.of_laws.specs.Cells.{StructCell, Begins}
 
 -- OFPIT_*
 abbrev pub instruction_type : Instruction → ℕ
@@ -19,7 +19,7 @@ instruction_type (Apply actions) = 4
 instruction_type Clear = 5
 
 -- after the type the length of the instruction, of whose actions there are so many bytes, what it says, and padding
-abbrev pub instruction_cells : Instruction → ℕ → List Cell
+abbrev pub instruction_cells : Instruction → ℕ → List StructCell
 instruction_cells (Goto table) size = cells_of tables.instruction_goto_table (1 ∷ 8 ∷ table ∷ []) []
 instruction_cells (Metadata value mask) size = cells_of tables.instruction_write_metadata (2 ∷ 24 ∷ value ∷ mask ∷ []) []
 instruction_cells (Write actions) size = cells_of tables.instruction_actions (3 ∷ (8 + size) ∷ []) []
@@ -27,18 +27,18 @@ instruction_cells (Apply actions) size = cells_of tables.instruction_actions (4 
 instruction_cells Clear size = cells_of tables.instruction_actions (5 ∷ 8 ∷ []) []
 
 -- its actions follow
-abbrev pub actions_in : Instruction → List Action
-actions_in (Goto table) = []
-actions_in (Metadata value mask) = []
-actions_in (Write actions) = actions
-actions_in (Apply actions) = actions
-actions_in Clear = []
+abbrev pub actions_of_instruction : Instruction → List Action
+actions_of_instruction (Goto table) = []
+actions_of_instruction (Metadata value mask) = []
+actions_of_instruction (Write actions) = actions
+actions_of_instruction (Apply actions) = actions
+actions_of_instruction Clear = []
 
 -- the bytes begin with the struct of this instruction, whatever its padding is, and then comes the rest
 pub record IsInstruction (i : Instruction) (bytes rest : List ℕ) : Type 0 where
   pub actions : List ℕ
   pub front : Begins (instruction_cells i (length actions)) bytes (actions ++ rest)
-  pub are : AreStructs (actions_in i) actions
+  pub are : AreStructs (actions_of_instruction i) actions
 
 -- bytes are the structs of these instructions, one after the other
 abbrev pub AreInstructions : List Instruction → List ℕ → Type 0

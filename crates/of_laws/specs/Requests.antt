@@ -8,7 +8,7 @@ use Rattle.of_messages.specs.declared.multipart.MultipartRequest.{MultipartReque
 use Rattle.of_messages.specs.declared.multipart.MultipartRequest.TheVariants.{Description, Flow, Aggregate, Table, PortStats, Group, GroupDescription, GroupFeatures, PortDescription}
 use Rattle.of_laws.specs.StructCells.{cells_of}
 use Rattle.of_formats.specs.Tables as tables
-use Rattle.of_laws.specs.Cells.{Cell, u16, pad, even}
+use Rattle.of_laws.specs.Cells.{StructCell, u16_cell, pad, even}
 
 -- the type of the request, OFPMP_*
 abbrev pub request_type : MultipartRequest → ℕ
@@ -27,20 +27,20 @@ or_all all None = all
 or_all all (Some number) = number
 
 -- struct ofp_flow_stats_request and ofp_aggregate_stats_request, before the match (7.3.5.2 and 7.3.5.3)
-abbrev pub flows_cells : FlowStatsRequest → List Cell
+abbrev pub flows_cells : FlowStatsRequest → List StructCell
 flows_cells r = cells_of tables.flow_stats_request (r.table ∷ r.out_port ∷ r.out_group ∷ r.cookie ∷ r.cookie_mask ∷ []) []
 
 -- 7.3.5.6 and 7.3.5.8: struct ofp_port_stats_request and ofp_group_stats_request
-abbrev pub body_cells : MultipartRequest → List Cell
-body_cells (Flow r) = flows_cells r
-body_cells (Aggregate r) = flows_cells r
-body_cells (PortStats port) = cells_of tables.port_stats_request (or_all OFPP_ANY port ∷ []) []
-body_cells (Group group) = cells_of tables.group_stats_request (or_all OFPG_ALL group ∷ []) []
-body_cells other = []
+abbrev pub request_body_cells : MultipartRequest → List StructCell
+request_body_cells (Flow r) = flows_cells r
+request_body_cells (Aggregate r) = flows_cells r
+request_body_cells (PortStats port) = cells_of tables.port_stats_request (or_all OFPP_ANY port ∷ []) []
+request_body_cells (Group group) = cells_of tables.group_stats_request (or_all OFPG_ALL group ∷ []) []
+request_body_cells other = []
 
 -- the type, flags, of which OFPMPF_REQ_MORE is not set, padding, and the body
-abbrev pub request_cells : MultipartRequest → List Cell
-request_cells r = u16 (request_type r) ∷ even 2 ∷ pad 4 ∷ body_cells r
+abbrev pub request_cells : MultipartRequest → List StructCell
+request_cells r = u16_cell (request_type r) ∷ even 2 ∷ pad 4 ∷ request_body_cells r
 
 -- the match, and what follows it, which is ignored
 pub record BeginsMatch (fields : List MatchField) (bytes : List ℕ) : Type 0 where

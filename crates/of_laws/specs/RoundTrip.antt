@@ -6,21 +6,21 @@ use Rattle.of_datapath.specs.declared.effect.Effect.TheVariants.{Answer}
 use Rattle.of_switch.specs.State.{start}
 use Rattle.of_switch.specs.Runs.{Gives, Run, run}
 use Rattle.of_switch.specs.Loading.{config_of, loaded}
-use Rattle.of_replay.specs.Lexing.{lines_of}
-use Rattle.of_replay.specs.Rows.{rows_of}
+use Rattle.of_replay.specs.Lexing.{lines_of_file}
+use Rattle.of_replay.specs.Rows.{rows_of_lines}
 
 -- the run of a file's events on a new switch with that datapath_id
-abbrev pub run_of : ℕ → List ℕ → Run
-run_of dpid file = run (rows_of (lines_of file)).events (start dpid)
+abbrev pub run_of_file : ℕ → List ℕ → Run
+run_of_file dpid file = run (rows_of_lines (lines_of_file file)).events (start dpid)
 
 -- THE FILE GIVES THE CONFIGURATION to a new switch
 pub record ComesBack (dpid : ℕ) (file : List ℕ) (config : Configuration) : Type 0 where
   -- no row is bad
-  pub good : (rows_of (lines_of file)).bad ≡ None
+  pub good : (rows_of_lines (lines_of_file file)).bad ≡ None
   -- the switch says its HELLO, and has nothing to say to what follows: no event is refused, and no message is answered by an ERROR
   pub others : ℕ
-  pub quiet : (run_of dpid file).reports ≡ Gives (Answer hello_bytes ∷ []) ∷ replicate others (Gives [])
+  pub quiet : (run_of_file dpid file).reports ≡ Gives (Answer hello_bytes ∷ []) ∷ replicate others (Gives [])
   -- but for its connection the switch is a new one that the configuration was loaded into
-  pub core_is : (run_of dpid file).state.core ≡ (loaded config (start dpid)).core
+  pub core_is : (run_of_file dpid file).state.core ≡ (loaded config (start dpid)).core
   -- so it has the configuration
-  pub config_is : config_of (run_of dpid file).state ≡ config
+  pub config_is : config_of (run_of_file dpid file).state ≡ config

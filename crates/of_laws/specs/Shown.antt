@@ -11,13 +11,13 @@ use Rattle.of_ports.specs.declared.port.Port.{Port}
 use Rattle.of_table.specs.Selecting.{seconds_since, nanoseconds_since}
 use Rattle.of_table.specs.Table.{FlowEntry, flags_number}
 use Rattle.of_table.specs.Tables.{Tables}
-use Rattle.of_statistics.specs.Flows.{Listed, from_tables, totals}
+use Rattle.of_statistics.specs.Flows.{EntryInTable, from_tables, totals}
 use Rattle.of_statistics.specs.Groups.{references}
-use Rattle.of_laws.specs.Cells.{Fits}
+use Rattle.of_laws.specs.Cells.{FitsCells}
 use Rattle.of_laws.specs.ReplyRows.{FlowStats, flow_cells, AggregateStats, TableStats, PortStats, GroupStats, group_stats_cells, bucket_stats_cells}
 
 -- an entry at a moment
-abbrev pub flow_shown : ℕ → Listed → FlowStats
+abbrev pub flow_shown : ℕ → EntryInTable → FlowStats
 flow_shown now l = record {
   table = l.table;
   duration_sec = seconds_since now l.entry.created % 2 ^ 32;
@@ -34,8 +34,8 @@ flow_shown now l = record {
 }
 
 -- its numbers fit their bytes, its match is in its normal form, and its instructions are such as an entry of the table has
-pub record IsShownFlow (now : ℕ) (l : Listed) : Type 0 where
-  pub numbers : Fits (flow_cells (flow_shown now l))
+pub record IsShownFlow (now : ℕ) (l : EntryInTable) : Type 0 where
+  pub numbers : FitsCells (flow_cells (flow_shown now l))
   pub match : IsMatch l.entry.flow.fields
   pub kept : are_kept l.entry.flow.instructions ≡ true
   pub fit : are_for l.table l.entry.flow.instructions ≡ true
@@ -65,8 +65,8 @@ group_shown groups ts g = record {
 
 -- its numbers fit their bytes, and it has at most as many buckets as this switch takes
 pub record IsShownGroup (s : GroupStats) : Type 0 where
-  pub numbers : Fits (group_stats_cells s)
-  pub counters : Fits (bucket_stats_cells s.buckets)
+  pub numbers : FitsCells (group_stats_cells s)
+  pub counters : FitsCells (bucket_stats_cells s.buckets)
   pub few : length s.buckets ≤ 16
 
 -- what is described of a group: all but what it counts

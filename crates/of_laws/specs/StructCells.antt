@@ -2,11 +2,11 @@
 use Prim.Native.String.{String}
 use Rattle.std.specs.Prelude.{ℕ, Bool, List, [], ◌∷◌, codes, bytes_eq, if◌then◌else◌}
 use Rattle.of_laws.specs.Cells as cells
-use Rattle.of_laws.specs.Cells.{Cell}
+use Rattle.of_laws.specs.Cells.{StructCell}
 use Rattle.of_formats.specs.Structs.{Struct, byte, number, plain, pad}
 
 -- the fields of a struct with these numbers
-abbrev pub cells_of : Struct → List ℕ → List (List ℕ) → List Cell
+abbrev pub cells_of : Struct → List ℕ → List (List ℕ) → List StructCell
 cells_of [] ns xs = []
 cells_of (byte name ∷ s) [] xs = []
 cells_of (byte name ∷ s) (n ∷ ns) xs = cells.byte n ∷ cells_of s ns xs
@@ -16,13 +16,13 @@ cells_of (plain name w ∷ s) ns [] = []
 cells_of (plain name w ∷ s) ns (x ∷ xs) = cells.plain w x ∷ cells_of s ns xs
 cells_of (pad w ∷ s) ns xs = cells.pad w ∷ cells_of s ns xs
 
-abbrev pub same : String → String → Bool
-same a b = bytes_eq (codes a) (codes b)
+abbrev pub same_name : String → String → Bool
+same_name a b = bytes_eq (codes a) (codes b)
 
 -- the field of that name is ignored
-abbrev pub without : String → Struct → Struct
-without name [] = []
-without name (byte other ∷ s) = (if same name other then pad 1 else byte other) ∷ without name s
-without name (number other w ∷ s) = (if same name other then pad w else number other w) ∷ without name s
-without name (plain other w ∷ s) = plain other w ∷ without name s
-without name (pad w ∷ s) = pad w ∷ without name s
+abbrev pub without_field : String → Struct → Struct
+without_field name [] = []
+without_field name (byte other ∷ s) = (if same_name name other then pad 1 else byte other) ∷ without_field name s
+without_field name (number other w ∷ s) = (if same_name name other then pad w else number other w) ∷ without_field name s
+without_field name (plain other w ∷ s) = plain other w ∷ without_field name s
+without_field name (pad w ∷ s) = pad w ∷ without_field name s

@@ -17,7 +17,7 @@ use Rattle.of_messages.specs.declared.role.Role.TheVariants as role
 use Rattle.of_formats.specs.declared.messages.TheConstants.{BARRIER_REPLY, ECHO_REPLY, ERROR, FEATURES_REPLY, FLOW_REMOVED, GET_ASYNC_REPLY, GET_CONFIG_REPLY, HELLO, PACKET_IN, PORT_STATUS, ROLE_REPLY}
 use Rattle.of_laws.specs.StructCells.{cells_of}
 use Rattle.of_formats.specs.Tables as tables
-use Rattle.of_laws.specs.Cells.{Cell, pad, Begins}
+use Rattle.of_laws.specs.Cells.{StructCell, pad, Begins}
 use Rattle.of_laws.specs.Grammar.{async_config_cells}
 
 -- HELLO with a bitmap of versions, ERROR with its data, ECHO_REPLY with its data, FEATURES_REPLY with the datapath id, GET_CONFIG_REPLY, PACKET_IN with its data, FLOW_REMOVED with its match, PORT_STATUS, BARRIER_REPLY, ROLE_REPLY with its generation, and GET_ASYNC_REPLY
@@ -60,15 +60,15 @@ role_value role.Master = 2
 role_value role.Slave = 3
 
 -- struct ofp_switch_features (7.3.1): 256 buffers, 16 tables, no auxiliary connection, OFPC_FLOW_STATS, TABLE_STATS, PORT_STATS and GROUP_STATS
-abbrev pub features_cells : ℕ → List Cell
+abbrev pub features_cells : ℕ → List StructCell
 features_cells dpid = cells_of tables.switch_features (dpid ∷ 256 ∷ 16 ∷ 0 ∷ 15 ∷ []) []
 
 -- struct ofp_packet_in (7.4.1), before the match
-abbrev pub packet_in_cells : PacketIn → List Cell
+abbrev pub packet_in_cells : PacketIn → List StructCell
 packet_in_cells p = cells_of tables.packet_in (p.buffer ∷ p.total_len ∷ packet_in_number p.reason ∷ p.table ∷ p.cookie ∷ []) []
 
 -- struct ofp_flow_removed (7.4.2), before the match
-abbrev pub removed_cells : FlowRemoved → List Cell
+abbrev pub removed_cells : FlowRemoved → List StructCell
 removed_cells r =
     cells_of tables.flow_removed
     (r.cookie ∷ r.priority ∷ flow_removed_number r.reason ∷ r.table ∷ r.duration_sec ∷ r.duration_nsec ∷ r.idle_timeout ∷ r.hard_timeout ∷ r.packets ∷ r.bytes ∷ []) []
@@ -77,11 +77,11 @@ removed_cells r =
 abbrev pub port_numbers : PortDescription → List ℕ
 port_numbers p = p.number ∷ p.config ∷ p.state ∷ 0 ∷ 0 ∷ 0 ∷ 0 ∷ 0 ∷ 0 ∷ []
 
-abbrev pub port_cells : PortDescription → List Cell
+abbrev pub port_cells : PortDescription → List StructCell
 port_cells p = cells_of tables.port (port_numbers p) (p.hw ∷ p.name ∷ [])
 
 -- the fields after the header; of a HELLO one element, OFPHET_VERSIONBITMAP, of 8 bytes (7.5.1)
-abbrev pub told_cells : Told → List Cell
+abbrev pub told_cells : Told → List StructCell
 told_cells (hello bitmap) = cells_of tables.hello_elem_versionbitmap (1 ∷ 8 ∷ bitmap ∷ []) []
 told_cells (error code failed) = cells_of tables.error_msg (code.kind ∷ code.code ∷ []) []
 told_cells (echo_reply echoed) = []
@@ -121,7 +121,7 @@ ToldTail barrier_reply tail = tail ≡ []
 ToldTail (role_reply role generation) tail = tail ≡ []
 ToldTail (async_reply masks) tail = tail ≡ []
 
-abbrev pub switch_message_fixed_part : Told → ℕ → ℕ → List Cell
+abbrev pub switch_message_fixed_part : Told → ℕ → ℕ → List StructCell
 switch_message_fixed_part t size xid = cells_of tables.header (4 ∷ switch_message_type t ∷ size ∷ xid ∷ []) [] ++ told_cells t
 
 -- these bytes, all of them, encode this message with this transaction id

@@ -13,7 +13,7 @@ ghost use Rattle.of_messages.specs.Messages.{message_from, message_of, xid_of};
 ghost use Rattle.of_messages.specs.declared.message.Message.{Message};
 ghost use Rattle.of_messages.specs.declared.role.Role.TheVariants.{Slave};
 ghost use Rattle.of_laws.specs.ActionStructs.{action_type, action_types, AreStructs};
-ghost use Rattle.of_laws.specs.Grammar.{changes, MaySend, Encodes};
+ghost use Rattle.of_laws.specs.Grammar.{changes_switch, MaySend, Encodes};
 ghost use Rattle.of_laws.specs.InstructionStructs.{AreInAnyOrder};
 ghost use Rattle.of_laws.specs.Told.{EncodesSwitchMessage, Told};
 
@@ -34,7 +34,7 @@ pub fn read_exactly(bytes: &[u8])
 pub fn read_as_exactly(role: Role, bytes: &[u8])
     ensures found { (m : Message) → message_from role bytes.now ≡ Ok m → Encodes (xid_of bytes.now) m bytes.now × MaySend role m }
     ensures only { (xid : ℕ) (m : Message) → Encodes xid m bytes.now → MaySend role m → message_from role bytes.now ≡ Ok m }
-    ensures slave { (xid : ℕ) (m : Message) → Encodes xid m bytes.now → changes m ≡ true → message_from Slave bytes.now ≡ Err OFPBRC_IS_SLAVE }
+    ensures slave { (xid : ℕ) (m : Message) → Encodes xid m bytes.now → changes_switch m ≡ true → message_from Slave bytes.now ≡ Err OFPBRC_IS_SLAVE }
 {}
 
 /// No bytes encode two messages of a controller or of this switch, or have two transaction ids.

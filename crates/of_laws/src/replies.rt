@@ -7,10 +7,10 @@ ghost use Rattle.of_ports.specs.declared.port.Port.{Port};
 ghost use Rattle.of_table.specs.declared.selection.Selector.{Selector};
 ghost use Rattle.of_table.specs.Tables.{Tables};
 ghost use Rattle.of_statistics.specs.Descriptions.{description_bytes};
-ghost use Rattle.of_statistics.specs.Flows.{aggregate_bytes, asked, flow_bytes, listed, table_bytes};
+ghost use Rattle.of_statistics.specs.Flows.{aggregate_bytes, asked, flow_bytes, entries_with_tables, table_bytes};
 ghost use Rattle.of_statistics.specs.Groups.{asked_groups, group_bytes, group_description_bytes, group_features_bytes};
 ghost use Rattle.of_statistics.specs.Ports.{asked_ports, described, port_description_bytes, port_stats_bytes};
-ghost use Rattle.of_laws.specs.Cells.{Fits};
+ghost use Rattle.of_laws.specs.Cells.{FitsCells};
 ghost use Rattle.of_laws.specs.Grammar.{Encodes};
 ghost use Rattle.of_laws.specs.Told.{port_cells, EncodesSwitchMessage, Told};
 ghost use Rattle.of_messages.specs.declared.message.Message.{Message};
@@ -46,14 +46,14 @@ pub fn no_message_begins_another()
 /// rows, in their order.
 pub fn written_replies_are_encoded()
     ensures description { (xid : ℕ) → xid < 256 ^ 4 → EncodesReply xid false description (description_bytes xid) }
-    ensures flow { (xid : ℕ) (which : Selector) (ts : Tables) → xid < 256 ^ 4 → All (IsShownFlow ts.latest) (listed which ts) →
-        EncodeAll xid (λ part. flows (map (flow_shown ts.latest) part)) (listed which ts) (flow_bytes xid which ts) }
-    ensures aggregate { (xid : ℕ) (which : Selector) (ts : Tables) → xid < 256 ^ 4 → Fits (reply_cells (aggregate (aggregate_shown (asked which ts)))) →
+    ensures flow { (xid : ℕ) (which : Selector) (ts : Tables) → xid < 256 ^ 4 → All (IsShownFlow ts.latest) (entries_with_tables which ts) →
+        EncodeAll xid (λ part. flows (map (flow_shown ts.latest) part)) (entries_with_tables which ts) (flow_bytes xid which ts) }
+    ensures aggregate { (xid : ℕ) (which : Selector) (ts : Tables) → xid < 256 ^ 4 → FitsCells (reply_cells (aggregate (aggregate_shown (asked which ts)))) →
         EncodesReply xid false (aggregate (aggregate_shown (asked which ts))) (aggregate_bytes xid which ts) }
-    ensures table { (xid : ℕ) (ts : Tables) → xid < 256 ^ 4 → length ts.tables ≤ 16 → All (λ s. Fits (table_cells s)) (tables_shown ts) →
+    ensures table { (xid : ℕ) (ts : Tables) → xid < 256 ^ 4 → length ts.tables ≤ 16 → All (λ s. FitsCells (table_cells s)) (tables_shown ts) →
         EncodesReply xid false (tables (tables_shown ts)) (table_bytes xid ts) }
     ensures port_stats { (xid now : ℕ) (which : Option ℕ) (all : List Port) → xid < 256 ^ 4 → length all ≤ 64 →
-        All (λ p. Fits (port_stats_cells (port_shown now p))) (asked_ports which all) →
+        All (λ p. FitsCells (port_stats_cells (port_shown now p))) (asked_ports which all) →
         EncodesReply xid false (ports (map (port_shown now) (asked_ports which all))) (port_stats_bytes xid now which all) }
     ensures group { (xid : ℕ) (which : Option ℕ) (all : List Group) (ts : Tables) → xid < 256 ^ 4 →
         All (λ g. IsShownGroup (group_shown all ts g)) (asked_groups which all) →
@@ -61,6 +61,6 @@ pub fn written_replies_are_encoded()
     ensures group_description { (xid : ℕ) (all : List Group) → xid < 256 ^ 4 → All IsDescribable all →
         EncodeAll xid (λ part. described_groups (map group_described part)) all (group_description_bytes xid all) }
     ensures group_features { (xid : ℕ) → xid < 256 ^ 4 → EncodesReply xid false group_features (group_features_bytes xid) }
-    ensures port_description { (xid : ℕ) (all : List Port) → xid < 256 ^ 4 → length all ≤ 64 → All (λ p. Fits (port_cells (described p))) all →
+    ensures port_description { (xid : ℕ) (all : List Port) → xid < 256 ^ 4 → length all ≤ 64 → All (λ p. FitsCells (port_cells (described p))) all →
         EncodesReply xid false (described_ports (map described all)) (port_description_bytes xid all) }
 {}

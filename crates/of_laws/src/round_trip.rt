@@ -12,7 +12,7 @@ ghost use Rattle.of_actions.specs.Actions.{actions_said};
 ghost use Rattle.of_actions.specs.CanonicalActions.{canonical_actions};
 ghost use Rattle.of_actions.specs.CanonicalInstructions.{canonical_instructions};
 ghost use Rattle.of_actions.specs.InstructionLists.{run_place};
-ghost use Rattle.of_actions.specs.InstructionReading.{instructions_of};
+ghost use Rattle.of_actions.specs.InstructionReading.{instructions_in_bytes};
 ghost use Rattle.of_actions.specs.Rising.{is_ascending};
 ghost use Rattle.of_messages.specs.CanonicalGroups.{group_add_bytes};
 ghost use Rattle.of_messages.specs.Messages.{message_of};
@@ -26,11 +26,11 @@ ghost use Rattle.of_build.specs.Building.{BuildsOf, build_text};
 ghost use Rattle.of_build.specs.Listing.{add_of, new_of};
 ghost use Rattle.of_text.specs.Configs.{Configuration, EncodeConfig, config_text};
 ghost use Rattle.of_text.specs.Lines.{lines_of as text_lines};
-ghost use Rattle.of_replay.specs.Lexing.{lines_of};
-ghost use Rattle.of_replay.specs.FileRuns.{after, switch_text};
+ghost use Rattle.of_replay.specs.Lexing.{lines_of_file};
+ghost use Rattle.of_replay.specs.FileRuns.{state_after_rows, switch_text};
 ghost use Rattle.of_replay.specs.Play.{lines_read};
 ghost use Rattle.of_switch.specs.declared.event.Event.{Event};
-ghost use Rattle.of_replay.specs.Rows.{events_in, row_of, rows_of};
+ghost use Rattle.of_replay.specs.Rows.{events_in, row_of_line, rows_of_lines};
 ghost use Rattle.of_laws.specs.RoundTrip.{ComesBack};
 ghost use Rattle.of_laws.specs.Refused.{IsSaid, IsSaidGroup, StepFits, group_outcome, match_outcome, message_outcome, said_refusals};
 ghost use Rattle.of_laws.specs.RowText.{HasLine, file_text, row_text};
@@ -45,17 +45,17 @@ pub fn text_comes_back()
 
 /// What `dis` writes of the file that `asm` wrote for a flow text is the canonical text of the configuration that the text encodes.
 pub fn dis_undoes_asm()
-    ensures good { (text file : List ℕ) → BuildsOf text file → (rows_of (lines_read true file)).bad ≡ None }
+    ensures good { (text file : List ℕ) → BuildsOf text file → (rows_of_lines (lines_read true file)).bad ≡ None }
     ensures canonical { (text file : List ℕ) (config : Configuration) → BuildsOf text file → EncodeConfig (text_lines text) config →
-        switch_text (after (rows_of (lines_read true file))) ≡ config_text config }
+        switch_text (state_after_rows (rows_of_lines (lines_read true file))) ≡ config_text config }
 {}
 
 /// The text of each row of an event file is read as that row, if it is no longer than a line may be; and the text of a file of
 /// such rows as their events, in their order.
 pub fn written_rows_are_read()
-    ensures row { (row : Option Event) → HasLine row → row_of (row_text row) ≡ Some row }
+    ensures row { (row : Option Event) → HasLine row → row_of_line (row_text row) ≡ Some row }
     ensures file { (rows : List (Option Event)) → AllByRecursion HasLine rows →
-        rows_of (lines_of (file_text rows)) ≡ record { events = flat_map events_in rows; bad = None } }
+        rows_of_lines (lines_of_file (file_text rows)) ≡ record { events = flat_map events_in rows; bad = None } }
 {}
 
 /// What is written of a flow text is refused for the text's first refusal, and else read: lists of actions, matches and
@@ -69,7 +69,7 @@ pub fn texts_are_refused_as_messages()
         match_of (canonical fields ++ rest) ≡ match_outcome fields (first_of (match_refusals fields)) }
     ensures instructions { (table : ℕ) (steps : List Step) → AllByRecursion StepFits steps → is_ascending run_place (map instruction_of steps) ≡ true
         → length (canonical_instructions (map instruction_of steps)) < 65528
-        → instructions_of table (canonical_instructions (map instruction_of steps))
+        → instructions_in_bytes table (canonical_instructions (map instruction_of steps))
         ≡ outcome (map instruction_of steps) (first_of (flat_map (goto_refusals table) steps ++ flat_map step_refusals steps)) }
     ensures flow { (xid : ℕ) (f : Flow) → IsSaid f → message_of (flow_mod_bytes xid (add_of f)) ≡ message_outcome (add_of f) (first_of (flow_refusals f)) }
     ensures group { (xid : ℕ) (g : TextGroup) → IsSaidGroup g → message_of (group_add_bytes xid (new_of g)) ≡

@@ -23,16 +23,18 @@ ghost use Rattle.of_messages.specs.declared.message.PacketIn.{PacketIn};
 ghost use Rattle.of_messages.specs.declared.port_mod.PortDescription.{PortDescription};
 ghost use Rattle.of_messages.specs.declared.port_mod.PortStatusReason.{PortStatusReason};
 ghost use Rattle.of_messages.specs.declared.role.Role.{Role};
-ghost use Rattle.of_laws.specs.Cells.{Fits};
+ghost use Rattle.of_laws.specs.Cells.{FitsCells};
 ghost use Rattle.of_laws.specs.Grammar.{deletes, flow_mod_cells, IsValidFlowMod, Encodes};
 ghost use Rattle.of_laws.specs.Told.{EncodesSwitchMessage, told_cells, hello, error, echo_reply, features_reply, config_reply, packet_in, flow_removed, port_status, barrier_reply, role_reply, async_reply};
 
 /// The FLOW_MOD that `of_messages::write_flow_mod` writes encodes what was written, and is read as that; of a FLOW_MOD that a
 /// controller may send, whose DELETE commands have no instructions (OpenFlow 1.3.5, 7.3.4.1).
 pub fn written_flow_mod_is_encoded()
-    ensures encoded { (xid : ℕ) (m : FlowMod) → xid < 256 ^ 4 → Fits (flow_mod_cells m) → IsValidFlowMod m → IsMatch m.fields → are_kept m.instructions ≡ true →
+    ensures encoded { (xid : ℕ) (m : FlowMod) → xid < 256 ^ 4 → FitsCells (flow_mod_cells m) → IsValidFlowMod m → IsMatch m.fields →
+        are_kept m.instructions ≡ true →
         are_for m.table m.instructions ≡ true → (deletes m.command ≡ true → m.instructions ≡ []) → Encodes xid (IsFlowMod m) (flow_mod_bytes xid m) }
-    ensures read { (xid : ℕ) (m : FlowMod) → xid < 256 ^ 4 → Fits (flow_mod_cells m) → IsValidFlowMod m → IsMatch m.fields → are_kept m.instructions ≡ true →
+    ensures read { (xid : ℕ) (m : FlowMod) → xid < 256 ^ 4 → FitsCells (flow_mod_cells m) → IsValidFlowMod m → IsMatch m.fields →
+        are_kept m.instructions ≡ true →
         are_for m.table m.instructions ≡ true → (deletes m.command ≡ true → m.instructions ≡ []) → message_of (flow_mod_bytes xid m) ≡ Ok (IsFlowMod m) }
 {}
 
@@ -47,22 +49,23 @@ pub fn written_group_mod_is_encoded()
 /// PACKET_IN, FLOW_REMOVED, PORT_STATUS, BARRIER_REPLY, ROLE_REPLY and GET_ASYNC_REPLY.
 pub fn written_is_told()
     ensures hello { EncodesSwitchMessage 0 (hello 16) hello_bytes }
-    ensures error { (xid : ℕ) (code : Code) (failed : List ℕ) → xid < 256 ^ 4 → Fits (told_cells (error code failed)) → length failed ≤ 65523 →
+    ensures error { (xid : ℕ) (code : Code) (failed : List ℕ) → xid < 256 ^ 4 → FitsCells (told_cells (error code failed)) → length failed ≤ 65523 →
         EncodesSwitchMessage xid (error code failed) (error_bytes xid code failed) }
     ensures echo_reply { (xid : ℕ) (echoed : List ℕ) → xid < 256 ^ 4 → length echoed ≤ 65527 →
         EncodesSwitchMessage xid (echo_reply echoed) (echo_reply_bytes xid echoed) }
     ensures features_reply { (xid dpid : ℕ) → xid < 256 ^ 4 → dpid < 256 ^ 8 → EncodesSwitchMessage xid (features_reply dpid) (features_reply_bytes xid dpid) }
     ensures config_reply { (xid : ℕ) (config : SwitchConfig) → xid < 256 ^ 4 → config.miss_send_len < 256 ^ 2 →
         EncodesSwitchMessage xid (config_reply config) (config_reply_bytes xid config) }
-    ensures packet_in { (xid : ℕ) (p : PacketIn) («data» : List ℕ) → xid < 256 ^ 4 → Fits (told_cells (packet_in p «data»)) → p.in_port < 256 ^ 4 →
+    ensures packet_in { (xid : ℕ) (p : PacketIn) («data» : List ℕ) → xid < 256 ^ 4 → FitsCells (told_cells (packet_in p «data»)) → p.in_port < 256 ^ 4 →
         p.metadata < 256 ^ 8 → length «data» ≤ 65485 → EncodesSwitchMessage xid (packet_in p «data») (packet_in_bytes xid p «data») }
-    ensures flow_removed { (xid : ℕ) (r : FlowRemoved) (fields : List MatchField) → xid < 256 ^ 4 → Fits (told_cells (flow_removed r fields)) → IsMatch fields →
+    ensures flow_removed { (xid : ℕ) (r : FlowRemoved) (fields : List MatchField) → xid < 256 ^ 4 → FitsCells (told_cells (flow_removed r fields)) →
+        IsMatch fields →
         EncodesSwitchMessage xid (flow_removed r fields) (flow_removed_bytes xid r fields) }
-    ensures port_status { (xid : ℕ) (reason : PortStatusReason) (port : PortDescription) → xid < 256 ^ 4 → Fits (told_cells (port_status reason port)) →
+    ensures port_status { (xid : ℕ) (reason : PortStatusReason) (port : PortDescription) → xid < 256 ^ 4 → FitsCells (told_cells (port_status reason port)) →
         EncodesSwitchMessage xid (port_status reason port) (port_status_bytes xid reason port) }
     ensures barrier_reply { (xid : ℕ) → xid < 256 ^ 4 → EncodesSwitchMessage xid barrier_reply (barrier_reply_bytes xid) }
     ensures role_reply { (xid : ℕ) (role : Role) (generation : Option ℕ) → xid < 256 ^ 4 → generation_number generation < 256 ^ 8 →
         EncodesSwitchMessage xid (role_reply role (generation_number generation)) (role_reply_bytes xid role generation) }
-    ensures async_reply { (xid : ℕ) (masks : AsyncMasks) → xid < 256 ^ 4 → Fits (told_cells (async_reply masks)) →
+    ensures async_reply { (xid : ℕ) (masks : AsyncMasks) → xid < 256 ^ 4 → FitsCells (told_cells (async_reply masks)) →
         EncodesSwitchMessage xid (async_reply masks) (async_reply_bytes xid masks) }
 {}

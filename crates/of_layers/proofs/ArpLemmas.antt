@@ -6,7 +6,7 @@ use Rattle.std.proofs.lemmas.List.{length-append}
 use Rattle.of_layers.specs.Bits.{bits, bits_of}
 use Rattle.of_layers.specs.Layers.{Arp, arp, cells_in, byte_cells, body_cells, encoded}
 use Rattle.of_layers.specs.Reading.{word, double, six, is_arp, arp_numbers, arp_of}
-use Rattle.of_layers.specs.WellFormed.{AreBytes, Fits, IsArp}
+use Rattle.of_layers.specs.WellFormed.{AreBytes, FitsItems, IsArp}
 use Rattle.of_layers.proofs.BitLemmas.{length-bits_of}
 use Rattle.of_layers.proofs.EncodingLemmas.{AreBytes-drop, then_bits, byte_from, word_from, double_from, six_from, word_small, double_small, six_small, encoded-append, encoded_bytes}
 use Rattle.of_layers.proofs.FrontLemmas.{front_same, bytes_same, length_fits}
@@ -45,7 +45,7 @@ numbers_encoded p b h = simp append_assoc
     (then_bits (bits 48 (six p 18)) (six_from p 18 b (omega arith))
     (double_from p 24 b (omega arith))))))))))
 
-numbers_fit : (p : List ℕ) → AreBytes p → Fits arp (arp_numbers p)
+numbers_fit : (p : List ℕ) → AreBytes p → FitsItems arp (arp_numbers p)
 numbers_fit p b = (word_small p 0 b, (word_small p 2 b, (b 4, (b 5, (word_small p 6 b, (six_small p 8 b, (double_small p 14 b, (six_small p 18 b, (double_small p 24 b, tt)))))))))
 
 pub arp_encoded : (p : List ℕ) → AreBytes p → is_arp p ≡ true → bits_of p ≡ encoded (body_cells (arp_of p))

@@ -8,7 +8,7 @@ use Rattle.of_layers.specs.declared.transport.Transport.TheVariants.{Nothing, Tc
 use Rattle.of_layers.specs.Bits.{bits, bits_of}
 use Rattle.of_layers.specs.Layers.{Carried, items_of, size_of, cells_in, byte_cells, carried_cells, encoded}
 use Rattle.of_layers.specs.Reading.{word, double, whole_in, numbers_of, carried_as, carried_of}
-use Rattle.of_layers.specs.WellFormed.{AreBytes, Fits, IsCarried, bytes_in}
+use Rattle.of_layers.specs.WellFormed.{AreBytes, FitsItems, IsCarried, carried_size}
 use Rattle.of_layers.proofs.BitLemmas.{length-bits_of}
 use Rattle.of_layers.proofs.EncodingLemmas.{AreBytes-drop, then_bits, byte_from, word_from, double_from, word_small, double_small, encoded-append, encoded_bytes}
 use Rattle.of_layers.proofs.FrontLemmas.{front_same, bytes_same, total, length_fits}
@@ -41,7 +41,7 @@ numbers_encoded Icmpv6 s b h = simp append_assoc
     (then_bits (bits 8 (get_or s 1 0)) (byte_from s 1 (omega arith))
     (word_from s 2 b (omega arith))))
 
-numbers_fit : (kind : Transport) (s : List ℕ) → AreBytes s → Fits (items_of kind) (numbers_of kind s)
+numbers_fit : (kind : Transport) (s : List ℕ) → AreBytes s → FitsItems (items_of kind) (numbers_of kind s)
 unfolding numbers_of
 numbers_fit Nothing s b = tt
 numbers_fit Tcp s b = (word_small s 0 b, (word_small s 2 b, (double_small s 4 b, (double_small s 8 b, (word_small s 12 b, (word_small s 14 b, (word_small s 16 b, (word_small s 18 b, tt))))))))
@@ -75,10 +75,10 @@ as_encoded kind s b h =
 pub carried_encoded : (kind : Transport) (s : List ℕ) → AreBytes s → bits_of s ≡ encoded (carried_cells (carried_of kind s))
 carried_encoded kind s b = as_encoded (whole_in kind (length s)) s b (room kind (length s))
 
-as_bytes : (kind : Transport) (s : List ℕ) → size_of kind ≤ length s → bytes_in (carried_as kind s) ≡ length s
+as_bytes : (kind : Transport) (s : List ℕ) → size_of kind ≤ length s → carried_size (carried_as kind s) ≡ length s
 as_bytes kind s h = omega (arith, length-drop (size_of kind) s)
 
-pub carried_bytes : (kind : Transport) (s : List ℕ) → bytes_in (carried_of kind s) ≡ length s
+pub carried_bytes : (kind : Transport) (s : List ℕ) → carried_size (carried_of kind s) ≡ length s
 carried_bytes kind s = as_bytes (whole_in kind (length s)) s (room kind (length s))
 
 pub carries : (kind : Transport) (s : List ℕ) → AreBytes s → IsCarried kind (carried_of kind s)
@@ -90,7 +90,7 @@ carries kind s b = record {
 
 -- ---- nothing else
 
-pub length_carried : (kind : Transport) (c : Carried) → IsCarried kind c → length (encoded (carried_cells c)) ≡ 8 * bytes_in c
+pub length_carried : (kind : Transport) (c : Carried) → IsCarried kind c → length (encoded (carried_cells c)) ≡ 8 * carried_size c
 length_carried kind c h =
     omega (
       arith,
@@ -104,7 +104,7 @@ length_carried kind c h =
 
 pub carried_is : (kind : Transport) (c : Carried) (s : List ℕ) → IsCarried kind c → AreBytes s → bits_of s ≡ encoded (carried_cells c) → c ≡ carried_of kind s
 carried_is kind c s h b e =
-    let size : bytes_in c ≡ length s = omega (arith, length_carried kind c h, ap length e, length-bits_of s) in
+    let size : carried_size c ≡ length s = omega (arith, length_carried kind c h, ap length e, length-bits_of s) in
     let parts : bits_of s ≡ encoded (cells_in (items_of c.kind) c.numbers) ++ bits_of c.rest =
     e ∙ encoded-append (cells_in (items_of c.kind) c.numbers) (byte_cells c.rest) ∙ ap (λ (t : List ℕ). encoded (cells_in (items_of c.kind) c.numbers) ++ t) (encoded_bytes c.rest) in
     let r = front_same (items_of c.kind) c.numbers (numbers_of c.kind s) (bits_of c.rest) (bits_of (drop (size_of c.kind) s)) h.numbers (numbers_fit c.kind s b) (sym parts ∙ numbers_encoded c.kind s b (omega arith)) in

@@ -7,8 +7,8 @@ use Rattle.of_layers.specs.declared.transport.Transport.{Transport}
 use Rattle.of_layers.specs.declared.transport.Transport.TheVariants.{Nothing}
 use Rattle.of_layers.specs.Bits.{bits, bits_of}
 use Rattle.of_layers.specs.Layers.{Cell, Carried, Extension, Options, Fragment, plain, options, fragment, size_of, cells_in, byte_cells, next_before, all_bytes, extension_cells, carried_cells, encoded}
-use Rattle.of_layers.specs.Reading.{word, over_ipv6, carried_of, has_options, is_fragment, extension_size, has_extension, is_later, options_numbers, fragment_numbers, extension_of, Chain, behind, ends_as, chain_of}
-use Rattle.of_layers.specs.WellFormed.{AreBytes, Fits, IsCarried, AreExtensions, bytes_in}
+use Rattle.of_layers.specs.Reading.{word, over_ipv6, carried_of, has_options, is_fragment, extension_size, has_extension, is_later, options_numbers, fragment_numbers, extension_of, Chain, behind_extension, ends_as, chain_of}
+use Rattle.of_layers.specs.WellFormed.{AreBytes, FitsItems, IsCarried, AreExtensions, carried_size}
 use Rattle.of_layers.proofs.BitLemmas.{bits_cut, length-bits_of, bits_of-append}
 use Rattle.of_layers.proofs.EncodingLemmas.{AreBytes-drop, AreBytes-take, then_bits, byte_from, word_from, double_from, word_small, double_small, encoded-append, encoded_bytes}
 use Rattle.of_layers.proofs.FrontLemmas.{front_same, take_front, drop_parts, length_fits}
@@ -24,11 +24,11 @@ options_encoded : (es : List Extension) (s : List ℕ) → 2 ≤ length s → bi
 options_encoded [] s h = plain_options s h
 options_encoded (e ∷ es) s h = plain_options s h
 
-options_fit : (es : List Extension) (s : List ℕ) → AreBytes s → Fits (options (next_before es)) (options_numbers s)
+options_fit : (es : List Extension) (s : List ℕ) → AreBytes s → FitsItems (options (next_before es)) (options_numbers s)
 options_fit [] s b = (b 0, (b 1, tt))
 options_fit (e ∷ es) s b = (b 0, (b 1, tt))
 
-length_options : (es : List Extension) (ns : List ℕ) → Fits (options (next_before es)) ns → length (encoded (cells_in (options (next_before es)) ns)) ≡ 16
+length_options : (es : List Extension) (ns : List ℕ) → FitsItems (options (next_before es)) ns → length (encoded (cells_in (options (next_before es)) ns)) ≡ 16
 length_options [] ns f = length_fits (options (next_before [])) ns f
 length_options (e ∷ es) ns f = length_fits (options (plain 8)) ns f
 
@@ -49,14 +49,14 @@ fragment_encoded : (es : List Extension) (s : List ℕ) → AreBytes s → 8 ≤
 fragment_encoded [] s b h = plain_fragment s b h
 fragment_encoded (e ∷ es) s b h = plain_fragment s b h
 
-plain_fits : (s : List ℕ) → AreBytes s → Fits (fragment (plain 8)) (fragment_numbers s)
+plain_fits : (s : List ℕ) → AreBytes s → FitsItems (fragment (plain 8)) (fragment_numbers s)
 plain_fits s b = (b 0, (b 1, (omega (arith, word_small s 2 b), (omega arith, (omega arith, (double_small s 4 b, tt))))))
 
-fragment_fits : (es : List Extension) (s : List ℕ) → AreBytes s → Fits (fragment (next_before es)) (fragment_numbers s)
+fragment_fits : (es : List Extension) (s : List ℕ) → AreBytes s → FitsItems (fragment (next_before es)) (fragment_numbers s)
 fragment_fits [] s b = plain_fits s b
 fragment_fits (e ∷ es) s b = plain_fits s b
 
-length_fragment : (es : List Extension) (ns : List ℕ) → Fits (fragment (next_before es)) ns → length (encoded (cells_in (fragment (next_before es)) ns)) ≡ 64
+length_fragment : (es : List Extension) (ns : List ℕ) → FitsItems (fragment (next_before es)) ns → length (encoded (cells_in (fragment (next_before es)) ns)) ≡ 64
 length_fragment [] ns f = length_fits (fragment (next_before [])) ns f
 length_fragment (e ∷ es) ns f = length_fits (fragment (plain 8)) ns f
 
@@ -116,13 +116,13 @@ front_encoded : (a b c : List Cell) → encoded ((a ++ b) ++ c) ≡ encoded a ++
 front_encoded a b c = ap encoded (append_assoc a b c) ∙ encoded-append a (b ++ c)
 
 -- the three ways to go on
-by_chain : (P : Chain → Type 0) (h l : Bool) (e : Extension) (x y z : Chain) → (h ≡ true → l ≡ true → P (behind e x)) → (h ≡ true → l ≡ false → P (behind e y)) → (h ≡ false → P z) → P (cond h (behind e (cond l x y)) z)
+by_chain : (P : Chain → Type 0) (h l : Bool) (e : Extension) (x y z : Chain) → (h ≡ true → l ≡ true → P (behind_extension e x)) → (h ≡ true → l ≡ false → P (behind_extension e y)) → (h ≡ false → P z) → P (cond h (behind_extension e (cond l x y)) z)
 by_chain P true true e x y z f g k = f refl refl
 by_chain P true false e x y z f g k = g refl refl
 by_chain P false l e x y z f g k = k refl
 
 extension_by : (f : Bool) (s : List ℕ) (c : Chain) → AreBytes s → 8 ≤ length s → cond f 8 (8 * (get_or s 1 0 + 1)) ≤ length s → bits_of (drop (cond f 8 (8 * (get_or s 1 0 + 1))) s) ≡ encoded (chain_cells c) →
-    bits_of s ≡ encoded (chain_cells (behind (cond f (Fragment (fragment_numbers s)) (Options (options_numbers s) (drop 2 (take (cond f 8 (8 * (get_or s 1 0 + 1))) s)))) c))
+    bits_of s ≡ encoded (chain_cells (behind_extension (cond f (Fragment (fragment_numbers s)) (Options (options_numbers s) (drop 2 (take (cond f 8 (8 * (get_or s 1 0 + 1))) s)))) c))
 extension_by true s c b h k e =
     fragment_encoded c.extensions s b h ∙ ap (λ (t : List ℕ). encoded (cells_in (fragment (next_before c.extensions)) (fragment_numbers s)) ++ t) e
     ∙ sym (front_encoded (cells_in (fragment (next_before c.extensions)) (fragment_numbers s)) (extension_cells c.extensions) (carried_cells c.carried))
@@ -136,7 +136,7 @@ extension_by false s c b h k e =
     options_encoded c.extensions s (omega arith) ∙ ap (λ (t : List ℕ). encoded header ++ t) tail
     ∙ sym (front_encoded header (byte_cells bytes ++ extension_cells c.extensions) (carried_cells c.carried))
 
-extension_encoded : (kind : ℕ) (s : List ℕ) (c : Chain) → AreBytes s → has_extension kind s ≡ true → bits_of (drop (extension_size kind s) s) ≡ encoded (chain_cells c) → bits_of s ≡ encoded (chain_cells (behind (extension_of kind s) c))
+extension_encoded : (kind : ℕ) (s : List ℕ) (c : Chain) → AreBytes s → has_extension kind s ≡ true → bits_of (drop (extension_size kind s) s) ≡ encoded (chain_cells c) → bits_of s ≡ encoded (chain_cells (behind_extension (extension_of kind s) c))
 extension_encoded kind s c b h e = let x : HasExtension kind s = extension_there kind s h in extension_by (is_fragment kind) s c b x.least x.whole e
 
 later_size : (kind : ℕ) (s : List ℕ) → is_later kind s ≡ true → extension_size kind s ≡ 8
@@ -197,7 +197,7 @@ chain_fits (suc most) kind s l b =
     (λ h. end_fits kind s b h)
 
 -- how many bits well-formed ones have
-pub length_chain : (kind : ℕ) (es : List Extension) (c : Carried) → AreExtensions kind es c → length (encoded (extension_cells es ++ carried_cells c)) ≡ 8 * (all_bytes es + bytes_in c)
+pub length_chain : (kind : ℕ) (es : List Extension) (c : Carried) → AreExtensions kind es c → length (encoded (extension_cells es ++ carried_cells c)) ≡ 8 * (all_bytes es + carried_size c)
 length_chain kind [] c h = omega (arith, length_carried (over_ipv6 kind) c h.0)
 length_chain kind (Options ns bytes ∷ es) c h =
     let header : List Cell = cells_in (options (next_before es)) ns in
@@ -214,10 +214,10 @@ length_chain kind (Options ns bytes ∷ es) c h =
     )
 length_chain kind (Fragment ns ∷ es) c h =
     let header : List Cell = cells_in (fragment (next_before es)) ns in
-    let tail : length (encoded (extension_cells es ++ carried_cells c)) ≡ 8 * (all_bytes es + bytes_in c) =
-    elim (get_or ns 2 0 == 0) as (λ t. (get_or ns 2 0 == 0) ≡ t → length (encoded (extension_cells es ++ carried_cells c)) ≡ 8 * (all_bytes es + bytes_in c)) [
+    let tail : length (encoded (extension_cells es ++ carried_cells c)) ≡ 8 * (all_bytes es + carried_size c) =
+    elim (get_or ns 2 0 == 0) as (λ t. (get_or ns 2 0 == 0) ≡ t → length (encoded (extension_cells es ++ carried_cells c)) ≡ 8 * (all_bytes es + carried_size c)) [
       | true ↦ λ z. length_chain (get_or ns 0 0) es c (h.2 z)
-      | false ↦ λ z. let r = h.3 z in subst (λ x. length (encoded (extension_cells x ++ carried_cells c)) ≡ 8 * (all_bytes x + bytes_in c)) (sym r.0) (omega (arith, length_carried Nothing c r.1))
+      | false ↦ λ z. let r = h.3 z in subst (λ x. length (encoded (extension_cells x ++ carried_cells c)) ≡ 8 * (all_bytes x + carried_size c)) (sym r.0) (omega (arith, length_carried Nothing c r.1))
     ] refl in
     omega (
       arith,
@@ -227,7 +227,7 @@ length_chain kind (Fragment ns ∷ es) c h =
       tail,
     )
 
-pub chain_bytes : (most kind : ℕ) (s : List ℕ) → length s ≤ most → AreBytes s → all_bytes (chain_of most kind s).extensions + bytes_in (chain_of most kind s).carried ≡ length s
+pub chain_bytes : (most kind : ℕ) (s : List ℕ) → length s ≤ most → AreBytes s → all_bytes (chain_of most kind s).extensions + carried_size (chain_of most kind s).carried ≡ length s
 chain_bytes most kind s l b =
     let c : Chain = chain_of most kind s in
     omega (arith, length_chain kind c.extensions c.carried (chain_fits most kind s l b), ap length (chain_encoded most kind s b), length-bits_of s)
@@ -239,11 +239,11 @@ unfolding chain_of
 chain_end zero kind s h = refl
 chain_end (suc most) kind s h = rw h refl
 
-chain_later : (most kind : ℕ) (s : List ℕ) → has_extension kind s ≡ true → is_later kind s ≡ true → chain_of (suc most) kind s ≡ behind (extension_of kind s) (ends_as Nothing (drop 8 s))
+chain_later : (most kind : ℕ) (s : List ℕ) → has_extension kind s ≡ true → is_later kind s ≡ true → chain_of (suc most) kind s ≡ behind_extension (extension_of kind s) (ends_as Nothing (drop 8 s))
 unfolding chain_of
 chain_later most kind s h l = rw (h, l) refl
 
-chain_next : (most kind : ℕ) (s : List ℕ) → has_extension kind s ≡ true → is_later kind s ≡ false → chain_of (suc most) kind s ≡ behind (extension_of kind s) (chain_of most (get_or s 0 0) (drop (extension_size kind s) s))
+chain_next : (most kind : ℕ) (s : List ℕ) → has_extension kind s ≡ true → is_later kind s ≡ false → chain_of (suc most) kind s ≡ behind_extension (extension_of kind s) (chain_of most (get_or s 0 0) (drop (extension_size kind s) s))
 unfolding chain_of
 chain_next most kind s h l = rw (h, l) refl
 
@@ -258,7 +258,7 @@ record ExtensionIs (kind : ℕ) (ns : List ℕ) (x : Extension) (rest s : List �
 le_of : (a b c : ℕ) → a ≡ b → a ≤ c → b ≤ c
 le_of a b c e h = omega arith
 
-options_is : (kind : ℕ) (ns bytes : List ℕ) (es : List Extension) (rest s : List ℕ) → has_options kind ≡ true → Fits (options (next_before es)) ns → 2 + length bytes ≡ 8 * (get_or ns 1 0 + 1) → AreBytes bytes → AreBytes s →
+options_is : (kind : ℕ) (ns bytes : List ℕ) (es : List Extension) (rest s : List ℕ) → has_options kind ≡ true → FitsItems (options (next_before es)) ns → 2 + length bytes ≡ 8 * (get_or ns 1 0 + 1) → AreBytes bytes → AreBytes s →
     bits_of s ≡ encoded (cells_in (options (next_before es)) ns) ++ (bits_of bytes ++ rest) → ExtensionIs kind ns (Options ns bytes) rest s
 options_is kind ns bytes es rest s o f l g b e =
     let none : is_fragment kind ≡ false = no_fragment kind o in
@@ -282,7 +282,7 @@ record FragmentIs (kind : ℕ) (ns rest s : List ℕ) : Type 0 where
   front : ExtensionIs kind ns (Fragment ns) rest s
   offset : get_or ns 2 0 ≡ word s 2 / 8
 
-fragment_is : (kind : ℕ) (ns : List ℕ) (es : List Extension) (rest s : List ℕ) → is_fragment kind ≡ true → Fits (fragment (next_before es)) ns → AreBytes s →
+fragment_is : (kind : ℕ) (ns : List ℕ) (es : List Extension) (rest s : List ℕ) → is_fragment kind ≡ true → FitsItems (fragment (next_before es)) ns → AreBytes s →
     bits_of s ≡ encoded (cells_in (fragment (next_before es)) ns) ++ rest → FragmentIs kind ns rest s
 fragment_is kind ns es rest s o f b e =
     let long : 64 + length rest ≡ 8 * length s = omega (arith, ap length e, length-bits_of s, length-append (encoded (cells_in (fragment (next_before es)) ns)) rest, length_fragment es ns f) in
@@ -300,8 +300,8 @@ fragment_is kind ns es rest s o f b e =
       offset = ap (λ (x : List ℕ). get_or x 2 0) r.0;
     }
 
-same_behind : (x y : Extension) (es : List Extension) (c : Carried) (d : Chain) → x ≡ y → ◌≡◌ {A = Chain} (record { extensions = es; carried = c }) d → ◌≡◌ {A = Chain} (record { extensions = x ∷ es; carried = c }) (behind y d)
-same_behind x y es c d p q = λ j. behind (p j) (q j)
+same_behind : (x y : Extension) (es : List Extension) (c : Carried) (d : Chain) → x ≡ y → ◌≡◌ {A = Chain} (record { extensions = es; carried = c }) d → ◌≡◌ {A = Chain} (record { extensions = x ∷ es; carried = c }) (behind_extension y d)
+same_behind x y es c d p q = λ j. behind_extension (p j) (q j)
 
 later_is : (kind : ℕ) (s ns : List ℕ) (t : Bool) → is_fragment kind ≡ true → get_or ns 2 0 ≡ word s 2 / 8 → (get_or ns 2 0 == 0) ≡ t → is_later kind s ≡ not t
 later_is kind s ns t f o z = ap (λ (x : Bool). x && not ((word s 2 / 8) == 0)) f ∙ ap (λ (n : ℕ). not (n == 0)) (sym o) ∙ ap not z

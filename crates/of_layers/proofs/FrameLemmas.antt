@@ -2,7 +2,7 @@
 use Rattle.std.proofs.Common.{◌≡◌, ℕ, zero, suc, ◌+◌, ◌*◌, ◌^◌, ◌<◌, ◌≤◌, true, false, List, [], ◌∷◌, ◌++◌, length, get_or, drop, refl, sym, ap, ◌∙◌, arith, append_assoc}
 use Rattle.std.proofs.lemmas.List.{drop-drop, length-drop, length-append}
 use Rattle.of_layers.specs.Bits.{bits, bits_of}
-use Rattle.of_layers.specs.Layers.{Layers, cells_in, inner_cells, tag_cells, body_cells, addresses, outer_tag, inner_tag, ether_type, Body, encoded, Encodes}
+use Rattle.of_layers.specs.Layers.{Layers, cells_in, inner_cells, tag_cells, body_cells, addresses, outer_tag, inner_tag, ether_type, Body, encoded, EncodesLayers}
 use Rattle.of_layers.specs.Reading.{word, six, tag_count, tags_of, tag_numbers, is_tag_type, body_of, layers_of}
 use Rattle.of_layers.specs.WellFormed.{AreBytes, AreTags, IsLayers}
 use Rattle.of_layers.proofs.BitLemmas.{bits_front, length-bits, length-bits_of}
@@ -13,7 +13,7 @@ use Rattle.of_layers.proofs.BodyLemmas.{body_encoded, body_fits, body_is}
 
 -- ---- they encode it
 
-pub frame_encoded : (frame : List ℕ) → AreBytes frame → 14 ≤ length frame → Encodes (layers_of frame) frame
+pub frame_encoded : (frame : List ℕ) → AreBytes frame → 14 ≤ length frame → EncodesLayers (layers_of frame) frame
 unfolding layers_of
 frame_encoded frame b h =
     let n : ℕ = tag_count (drop 12 frame) in
@@ -117,7 +117,7 @@ tags_encoded : (ts : List (List ℕ)) → encoded (tag_cells ts) ≡ encoded (in
 tags_encoded [] = refl
 tags_encoded (t ∷ ts) = encoded-append (cells_in outer_tag t) (inner_cells ts) ∙ ap (λ (x : List ℕ). x ++ encoded (inner_cells ts)) (outer_inner t) ∙ sym (encoded-append (cells_in inner_tag t) (inner_cells ts))
 
-pub only_layers : (l : Layers) (frame : List ℕ) → IsLayers l → AreBytes frame → Encodes l frame → l ≡ layers_of frame
+pub only_layers : (l : Layers) (frame : List ℕ) → IsLayers l → AreBytes frame → EncodesLayers l frame → l ≡ layers_of frame
 unfolding layers_of
 only_layers l frame h b e =
     let body : List ℕ = encoded (body_cells l.body) in

@@ -4,11 +4,11 @@ use Rattle.std.proofs.lemmas.List.{get_or-drop, length-append, append-nil, take_
 use Rattle.of_layers.specs.Bits.{bits, bits_of}
 use Rattle.of_layers.specs.Layers.{Item, cells_in, addresses, inner_tag, encoded}
 use Rattle.of_layers.specs.Reading.{word, six, tag_numbers}
-use Rattle.of_layers.specs.WellFormed.{AreBytes, Fits}
+use Rattle.of_layers.specs.WellFormed.{AreBytes, FitsItems}
 use Rattle.of_layers.proofs.BitLemmas.{bits_front, append_same, length-bits, length-bits_of, bits_of-append}
 use Rattle.of_layers.proofs.EncodingLemmas.{AreBytes-drop}
 
-pub front_same : (is : List Item) (ns ms : List ℕ) (x y : List ℕ) → Fits is ns → Fits is ms → encoded (cells_in is ns) ++ x ≡ encoded (cells_in is ms) ++ y → (ns ≡ ms) × (x ≡ y)
+pub front_same : (is : List Item) (ns ms : List ℕ) (x y : List ℕ) → FitsItems is ns → FitsItems is ms → encoded (cells_in is ns) ++ x ≡ encoded (cells_in is ms) ++ y → (ns ≡ ms) × (x ≡ y)
 front_same [] [] [] x y f g e = (refl, e)
 front_same [] [] (m ∷ ms) x y f g e = absurd g
 front_same [] (n ∷ ns) ms x y f g e = absurd f
@@ -34,7 +34,7 @@ abbrev pub total : List Item → ℕ
 total [] = 0
 total (i ∷ is) = i.width + total is
 
-pub length_fits : (is : List Item) (ns : List ℕ) → Fits is ns → length (encoded (cells_in is ns)) ≡ total is
+pub length_fits : (is : List Item) (ns : List ℕ) → FitsItems is ns → length (encoded (cells_in is ns)) ≡ total is
 length_fits [] [] f = refl
 length_fits [] (n ∷ ns) f = absurd f
 length_fits (i ∷ is) [] f = absurd f
@@ -66,8 +66,8 @@ word_behind s m i =
     let e : m + (i + 1) ≡ m + i + 1 = omega arith in
     rw (a, b, e) refl
 
-pub tag_fits : (s : List ℕ) → AreBytes s → Fits inner_tag (tag_numbers s)
+pub tag_fits : (s : List ℕ) → AreBytes s → FitsItems inner_tag (tag_numbers s)
 tag_fits s b = (omega (arith, b 0, b 1), (omega (arith, b 2, b 3), (omega arith, (omega arith, tt))))
 
-pub ends_fit : (frame : List ℕ) → AreBytes frame → Fits addresses (six frame 0 ∷ six frame 6 ∷ [])
+pub ends_fit : (frame : List ℕ) → AreBytes frame → FitsItems addresses (six frame 0 ∷ six frame 6 ∷ [])
 ends_fit frame b = (omega (arith, b 0, b 1, b 2, b 3, b 4, b 5), (omega (arith, b 6, b 7, b 8, b 9, b 10, b 11), tt))

@@ -6,7 +6,7 @@ use Rattle.std.proofs.lemmas.List.{length-append, length-drop, length-take, drop
 use Rattle.of_layers.specs.Bits.{bits, bits_of}
 use Rattle.of_layers.specs.Layers.{Cell, Carried, Ipv4, ipv4, cells_in, byte_cells, carried_cells, body_cells, encoded}
 use Rattle.of_layers.specs.Reading.{word, double, carried_of, header_size, is_ipv4, ipv4_numbers, over_ipv4, kind_behind, ipv4_inside, ipv4_kind, ipv4_of}
-use Rattle.of_layers.specs.WellFormed.{AreBytes, Fits, IsIpv4, bytes_in}
+use Rattle.of_layers.specs.WellFormed.{AreBytes, FitsItems, IsIpv4, carried_size}
 use Rattle.of_layers.proofs.BitLemmas.{length-bits_of, bits_of-append}
 use Rattle.of_layers.proofs.EncodingLemmas.{AreBytes-drop, AreBytes-take, then_bits, byte_from, word_from, double_from, cut_byte, cut_word, word_small, double_small, encoded-append, encoded_bytes}
 use Rattle.of_layers.proofs.FrontLemmas.{front_same, take_front, cut_bits, drop_parts, length_fits}
@@ -47,7 +47,7 @@ numbers_encoded p b h = simp append_assoc
     (then_bits (bits 32 (double p 12)) (double_from p 12 b (omega arith))
     (double_from p 16 b (omega arith))))))))))))))
 
-numbers_fit : (p : List ℕ) → AreBytes p → Fits ipv4 (ipv4_numbers p)
+numbers_fit : (p : List ℕ) → AreBytes p → FitsItems ipv4 (ipv4_numbers p)
 numbers_fit p b =
     (omega (arith, b 0), (omega arith, (omega (arith, b 1), (omega arith, (word_small p 2 b, (word_small p 4 b, (omega (arith, word_small p 6 b), (omega arith, (b 8, (b 9, (word_small p 10 b, (double_small p 12 b, (double_small p 16 b, tt)))))))))))))
 
@@ -74,7 +74,7 @@ ipv4_fits p b e =
     let h : HasIpv4 p = has_ipv4 p e in
     let inside_fits : AreBytes (ipv4_inside p) = AreBytes-drop (header_size p) (take (word p 2) p) (AreBytes-take (word p 2) p b) in
     let o : 20 + length (drop 20 (take (header_size p) p)) ≡ header_size p = omega (arith, h.size, h.inside, length-drop 20 (take (header_size p) p), length-take (header_size p) p) in
-    let z : bytes_in (carried_of (ipv4_kind p) (ipv4_inside p)) ≡ length (ipv4_inside p) = carried_bytes (ipv4_kind p) (ipv4_inside p) in
+    let z : carried_size (carried_of (ipv4_kind p) (ipv4_inside p)) ≡ length (ipv4_inside p) = carried_bytes (ipv4_kind p) (ipv4_inside p) in
     record {
       numbers = numbers_fit p b;
       version = h.version;
@@ -102,8 +102,8 @@ ipv4_is ns o t rest p h b e =
     ∙ ap (λ (x : List ℕ). encoded (cells_in ipv4 ns) ++ x) (encoded-append (byte_cells o) (carried_cells t ++ byte_cells rest)
     ∙ ap (λ (x : List ℕ). x ++ encoded (carried_cells t ++ byte_cells rest)) (encoded_bytes o)
     ∙ ap (λ (x : List ℕ). bits_of o ++ x) (encoded-append (carried_cells t) (byte_cells rest) ∙ ap (λ (x : List ℕ). encoded (carried_cells t) ++ x) (encoded_bytes rest))) in
-    let size : length (encoded (carried_cells t)) ≡ 8 * bytes_in t = length_carried kind t h.carries in
-    let all : length p ≡ 20 + length o + bytes_in t + length rest =
+    let size : length (encoded (carried_cells t)) ≡ 8 * carried_size t = length_carried kind t h.carries in
+    let all : length p ≡ 20 + length o + carried_size t + length rest =
     omega (
       arith,
       ap length parts,
@@ -121,11 +121,11 @@ ipv4_is ns o t rest p h b e =
     let version : get_or p 0 0 / 16 ≡ 4 = ap (λ (x : List ℕ). get_or x 0 0) (sym r.0) ∙ h.version in
     let total : get_or ns 4 0 ≡ word p 2 = ap (λ (x : List ℕ). get_or x 4 0) r.0 in
     let f = take_front o (drop 20 p) (encoded (carried_cells t) ++ bits_of rest) h.options_fit (AreBytes-drop 20 p b) r.1 in
-    let cut = cut_bits (encoded (carried_cells t)) rest (drop (20 + length o) p) (bytes_in t) size h.rest_fits (AreBytes-drop (20 + length o) p b) (f.1 ∙ ap bits_of (drop-drop (length o) 20 p)) in
-    let least : 20 + length o + bytes_in t ≡ min (word p 2) (length p) = h.inside ∙ min_of (get_or ns 4 0) (word p 2) (20 + length o + bytes_in t + length rest) (length p) total (sym all) in
-    let inside : take (bytes_in t) (drop (20 + length o) p) ≡ ipv4_inside p =
-    sym (drop-take (20 + length o) (bytes_in t) p) ∙ ap (λ (x : ℕ). drop (20 + length o) (take x p)) least ∙ ap (drop (20 + length o)) (take_min (word p 2) p) ∙ ap (λ (x : ℕ). drop x (take (word p 2) p)) at in
-    let after : rest ≡ drop (word p 2) p = cut.1 ∙ drop-drop (bytes_in t) (20 + length o) p ∙ ap (λ (x : ℕ). drop x p) least ∙ drop_min (word p 2) p in
+    let cut = cut_bits (encoded (carried_cells t)) rest (drop (20 + length o) p) (carried_size t) size h.rest_fits (AreBytes-drop (20 + length o) p b) (f.1 ∙ ap bits_of (drop-drop (length o) 20 p)) in
+    let least : 20 + length o + carried_size t ≡ min (word p 2) (length p) = h.inside ∙ min_of (get_or ns 4 0) (word p 2) (20 + length o + carried_size t + length rest) (length p) total (sym all) in
+    let inside : take (carried_size t) (drop (20 + length o) p) ≡ ipv4_inside p =
+    sym (drop-take (20 + length o) (carried_size t) p) ∙ ap (λ (x : ℕ). drop (20 + length o) (take x p)) least ∙ ap (drop (20 + length o)) (take_min (word p 2) p) ∙ ap (λ (x : ℕ). drop x (take (word p 2) p)) at in
+    let after : rest ≡ drop (word p 2) p = cut.1 ∙ drop-drop (carried_size t) (20 + length o) p ∙ ap (λ (x : ℕ). drop x p) least ∙ drop_min (word p 2) p in
     let opts : o ≡ drop 20 (take (header_size p) p) = f.0 ∙ sym (drop-take 20 (length o) p) ∙ ap (λ (x : ℕ). drop 20 (take x p)) at in
     let named : kind_behind (get_or ns 7 0) (over_ipv4 (get_or ns 9 0)) ≡ ipv4_kind p = ap (λ (x : List ℕ). kind_behind (get_or x 7 0) (over_ipv4 (get_or x 9 0))) r.0 in
     let inside_fits : AreBytes (ipv4_inside p) = AreBytes-drop (header_size p) (take (word p 2) p) (AreBytes-take (word p 2) p b) in

@@ -6,7 +6,7 @@ use Rattle.std.proofs.lemmas.List.{length-append, length-drop, length-take, drop
 use Rattle.of_layers.specs.Bits.{bits, bits_of}
 use Rattle.of_layers.specs.Layers.{Cell, Carried, Extension, Ipv6, plain, ipv6, cells_in, byte_cells, next_before, all_bytes, extension_cells, carried_cells, body_cells, encoded}
 use Rattle.of_layers.specs.Reading.{word, double, sixteen, Chain, chain_of, is_ipv6, ipv6_numbers, ipv6_inside, ipv6_chain, ipv6_of}
-use Rattle.of_layers.specs.WellFormed.{AreBytes, Fits, IsIpv6, bytes_in}
+use Rattle.of_layers.specs.WellFormed.{AreBytes, FitsItems, IsIpv6, carried_size}
 use Rattle.of_layers.proofs.BitLemmas.{bits_cut, length-bits_of, bits_of-append}
 use Rattle.of_layers.proofs.EncodingLemmas.{AreBytes-drop, AreBytes-take, then_bits, byte_from, word_from, double_from, sixteen_from, word_small, sixteen_small, encoded-append, encoded_bytes}
 use Rattle.of_layers.proofs.FrontLemmas.{front_same, cut_bits, drop_parts, length_fits}
@@ -58,14 +58,14 @@ numbers_encoded : (es : List Extension) (p : List ℕ) → AreBytes p → 40 ≤
 numbers_encoded [] p b h = plain_encoded p b h
 numbers_encoded (e ∷ es) p b h = plain_encoded p b h
 
-plain_fits : (p : List ℕ) → AreBytes p → Fits (ipv6 (plain 8)) (ipv6_numbers p)
+plain_fits : (p : List ℕ) → AreBytes p → FitsItems (ipv6 (plain 8)) (ipv6_numbers p)
 plain_fits p b = (omega (arith, b 0), (omega arith, (omega arith, (omega arith, (word_small p 4 b, (b 6, (b 7, (sixteen_small p 8 b, (sixteen_small p 24 b, tt)))))))))
 
-numbers_fit : (es : List Extension) (p : List ℕ) → AreBytes p → Fits (ipv6 (next_before es)) (ipv6_numbers p)
+numbers_fit : (es : List Extension) (p : List ℕ) → AreBytes p → FitsItems (ipv6 (next_before es)) (ipv6_numbers p)
 numbers_fit [] p b = plain_fits p b
 numbers_fit (e ∷ es) p b = plain_fits p b
 
-length_numbers : (es : List Extension) (ns : List ℕ) → Fits (ipv6 (next_before es)) ns → length (encoded (cells_in (ipv6 (next_before es)) ns)) ≡ 320
+length_numbers : (es : List Extension) (ns : List ℕ) → FitsItems (ipv6 (next_before es)) ns → length (encoded (cells_in (ipv6 (next_before es)) ns)) ≡ 320
 length_numbers [] ns f = length_fits (ipv6 (next_before [])) ns f
 length_numbers (e ∷ es) ns f = length_fits (ipv6 (plain 8)) ns f
 
@@ -96,7 +96,7 @@ pub ipv6_fits : (p : List ℕ) → AreBytes p → is_ipv6 p ≡ true → IsIpv6 
 ipv6_fits p b e =
     let h : HasIpv6 p = has_ipv6 p e in
     let chain : Chain = ipv6_chain p in
-    let n : all_bytes (ipv6_chain p).extensions + bytes_in (ipv6_chain p).carried ≡ length (ipv6_inside p) = chain_bytes (length (ipv6_inside p)) (get_or p 6 0) (ipv6_inside p) (omega arith) (inside_fits p b) in
+    let n : all_bytes (ipv6_chain p).extensions + carried_size (ipv6_chain p).carried ≡ length (ipv6_inside p) = chain_bytes (length (ipv6_inside p)) (get_or p 6 0) (ipv6_inside p) (omega arith) (inside_fits p b) in
     let sizes : length (ipv6_inside p) ≡ min (word p 4) (length (ipv6_inside p) + length (drop (40 + word p 4) p)) =
     omega (arith, h.whole, length-drop 40 (take (40 + word p 4) p), length-take (40 + word p 4) p, length-drop (40 + word p 4) p) in
     record {
@@ -115,19 +115,19 @@ unfolding ipv6_of
 ipv6_is ns es c rest p h b e =
     let header : List Cell = cells_in (ipv6 (next_before es)) ns in
     let inner : List Cell = extension_cells es ++ carried_cells c in
-    let n : ℕ = all_bytes es + bytes_in c in
+    let n : ℕ = all_bytes es + carried_size c in
     let parts : bits_of p ≡ encoded header ++ (encoded inner ++ bits_of rest) =
     e ∙ encoded-append header (extension_cells es ++ (carried_cells c ++ byte_cells rest))
     ∙ ap (λ (x : List ℕ). encoded header ++ x) (back_encoded (extension_cells es) (carried_cells c) (byte_cells rest) ∙ ap (λ (x : List ℕ). encoded inner ++ x) (encoded_bytes rest)) in
-    let size : length (encoded inner) ≡ 8 * (all_bytes es + bytes_in c) = length_chain (get_or ns 5 0) es c h.chain in
-    let all : length p ≡ 40 + (all_bytes es + bytes_in c + length rest) =
+    let size : length (encoded inner) ≡ 8 * (all_bytes es + carried_size c) = length_chain (get_or ns 5 0) es c h.chain in
+    let all : length p ≡ 40 + (all_bytes es + carried_size c + length rest) =
     omega (arith, ap length parts, length-bits_of p, length-append (encoded header) (encoded inner ++ bits_of rest), length_numbers es ns h.numbers, length-append (encoded inner) (bits_of rest), size, length-bits_of rest) in
     let whole : 40 ≤ length p = omega arith in
     let r = front_same (ipv6 (next_before es)) ns (ipv6_numbers p) (encoded inner ++ bits_of rest) (bits_of (drop 40 p)) h.numbers (numbers_fit es p b) (sym parts ∙ numbers_encoded es p b whole) in
     let cut = cut_bits (encoded inner) rest (drop 40 p) n size h.rest_fits (AreBytes-drop 40 p b) r.1 in
-    let left : all_bytes es + bytes_in c + length rest ≡ length (drop 40 p) = omega (arith, all, length-drop 40 p) in
-    let least : all_bytes es + bytes_in c ≡ min (word p 4) (length (drop 40 p)) =
-    h.inside ∙ min_of (get_or ns 4 0) (word p 4) (all_bytes es + bytes_in c + length rest) (length (drop 40 p)) (ap (λ (x : List ℕ). get_or x 4 0) r.0) left in
+    let left : all_bytes es + carried_size c + length rest ≡ length (drop 40 p) = omega (arith, all, length-drop 40 p) in
+    let least : all_bytes es + carried_size c ≡ min (word p 4) (length (drop 40 p)) =
+    h.inside ∙ min_of (get_or ns 4 0) (word p 4) (all_bytes es + carried_size c + length rest) (length (drop 40 p)) (ap (λ (x : List ℕ). get_or x 4 0) r.0) left in
     let inside : take n (drop 40 p) ≡ ipv6_inside p = ap (λ (x : ℕ). take x (drop 40 p)) least ∙ take_min (word p 4) (drop 40 p) ∙ sym (drop-take 40 (word p 4) p) in
     let after : rest ≡ drop (40 + word p 4) p = cut.1 ∙ ap (λ (x : ℕ). drop x (drop 40 p)) least ∙ drop_min (word p 4) (drop 40 p) ∙ drop-drop (word p 4) 40 p in
     let next : get_or ns 5 0 ≡ get_or p 6 0 = ap (λ (x : List ℕ). get_or x 5 0) r.0 in

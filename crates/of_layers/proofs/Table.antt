@@ -5,7 +5,7 @@ use Rattle.std.proofs.lemmas.Bool.{eqb-true, ltb-true}
 use Rattle.of_layers.specs.declared.field.Field.{Field}
 use Rattle.of_layers.specs.declared.field.Field.TheVariants.{InPort}
 use Rattle.of_layers.specs.declared.field.TheConstants.Field as constants
-use Rattle.of_layers.specs.Fields.{row_of, number_of, bits_of, bytes_of, ones_of, field_at}
+use Rattle.of_layers.specs.Fields.{row_of, number_of, bit_count, bytes_of, ones_of, field_at}
 
 -- ---- numbers
 
@@ -62,9 +62,9 @@ bytes_most f = omega (arith, ltb-true _ _ (bytes_small f))
 
 -- ---- the largest value
 
-pub ones_is : (f : Field) → ones_of f ≡ 2 ^ bits_of f - 1
+pub ones_is : (f : Field) → ones_of f ≡ 2 ^ bit_count f - 1
 unfolding row_of
-ones_is f = elim f as (λ f. ones_of f ≡ 2 ^ bits_of f - 1) [ InPort ↦ refl | _ ↦ refl ]
+ones_is f = elim f as (λ f. ones_of f ≡ 2 ^ bit_count f - 1) [ InPort ↦ refl | _ ↦ refl ]
 
 -- it fits the bytes of a value
 pub ones_fit : (f : Field) → ltb (ones_of f) (256 ^ bytes_of f) ≡ true

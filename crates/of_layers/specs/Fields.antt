@@ -9,11 +9,11 @@ use Rattle.of_layers.specs.declared.field.FieldRow.{FieldRow}
 use Rattle.of_layers.specs.declared.field.TheConstants.Field as constants
 
 -- words for the two columns of yes and no
-abbrev pub plain : Bool
-plain = false
+abbrev pub takes_no_mask : Bool
+takes_no_mask = false
 
-abbrev pub masks : Bool
-masks = true
+abbrev pub takes_mask : Bool
+takes_mask = true
 
 abbrev pub fixed : Bool
 fixed = false
@@ -22,39 +22,39 @@ abbrev pub sets : Bool
 sets = true
 
 -- a value is at most a one in each bit
-abbrev pub row : ℕ → ℕ → ℕ → Bool → Bool → Prerequisite → FieldRow
-row number bits bytes maskable settable need = record { number = number; bits = bits; bytes = bytes; ones = 2 ^ bits - 1; maskable = maskable; settable = settable; need = need }
+abbrev pub field_row : ℕ → ℕ → ℕ → Bool → Bool → Prerequisite → FieldRow
+field_row number bits bytes maskable settable need = record { number = number; bits = bits; bytes = bytes; ones = 2 ^ bits - 1; maskable = maskable; settable = settable; need = need }
 
 -- the table: number, bits, bytes, mask, set-field, prerequisite
 unfoldable pub row_of : Field → FieldRow
-row_of InPort = row 0 32 4 plain fixed Nothing
-row_of Metadata = row 2 64 8 masks fixed Nothing
-row_of EthDst = row 3 48 6 masks sets Nothing
-row_of EthSrc = row 4 48 6 masks sets Nothing
-row_of EthType = row 5 16 2 plain fixed Nothing
-row_of VlanVid = row 6 13 2 masks sets Nothing
-row_of VlanPcp = row 7 3 1 plain sets Tag
-row_of IpDscp = row 8 6 1 plain sets Ip
-row_of IpEcn = row 9 2 1 plain sets Ip
-row_of IpProto = row 10 8 1 plain fixed Ip
-row_of Ipv4Src = row 11 32 4 masks sets Ipv4
-row_of Ipv4Dst = row 12 32 4 masks sets Ipv4
-row_of TcpSrc = row 13 16 2 plain sets Tcp
-row_of TcpDst = row 14 16 2 plain sets Tcp
-row_of UdpSrc = row 15 16 2 plain sets Udp
-row_of UdpDst = row 16 16 2 plain sets Udp
-row_of Icmpv4Type = row 19 8 1 plain sets Icmpv4
-row_of Icmpv4Code = row 20 8 1 plain sets Icmpv4
-row_of ArpOp = row 21 16 2 plain sets Arp
-row_of ArpSpa = row 22 32 4 masks sets Arp
-row_of ArpTpa = row 23 32 4 masks sets Arp
-row_of ArpSha = row 24 48 6 masks sets Arp
-row_of ArpTha = row 25 48 6 masks sets Arp
-row_of Ipv6Src = row 26 128 16 masks sets Ipv6
-row_of Ipv6Dst = row 27 128 16 masks sets Ipv6
-row_of Ipv6Flabel = row 28 20 4 masks sets Ipv6
-row_of Icmpv6Type = row 29 8 1 plain sets Icmpv6
-row_of Icmpv6Code = row 30 8 1 plain sets Icmpv6
+row_of InPort = field_row 0 32 4 takes_no_mask fixed Nothing
+row_of Metadata = field_row 2 64 8 takes_mask fixed Nothing
+row_of EthDst = field_row 3 48 6 takes_mask sets Nothing
+row_of EthSrc = field_row 4 48 6 takes_mask sets Nothing
+row_of EthType = field_row 5 16 2 takes_no_mask fixed Nothing
+row_of VlanVid = field_row 6 13 2 takes_mask sets Nothing
+row_of VlanPcp = field_row 7 3 1 takes_no_mask sets Tag
+row_of IpDscp = field_row 8 6 1 takes_no_mask sets Ip
+row_of IpEcn = field_row 9 2 1 takes_no_mask sets Ip
+row_of IpProto = field_row 10 8 1 takes_no_mask fixed Ip
+row_of Ipv4Src = field_row 11 32 4 takes_mask sets Ipv4
+row_of Ipv4Dst = field_row 12 32 4 takes_mask sets Ipv4
+row_of TcpSrc = field_row 13 16 2 takes_no_mask sets Tcp
+row_of TcpDst = field_row 14 16 2 takes_no_mask sets Tcp
+row_of UdpSrc = field_row 15 16 2 takes_no_mask sets Udp
+row_of UdpDst = field_row 16 16 2 takes_no_mask sets Udp
+row_of Icmpv4Type = field_row 19 8 1 takes_no_mask sets Icmpv4
+row_of Icmpv4Code = field_row 20 8 1 takes_no_mask sets Icmpv4
+row_of ArpOp = field_row 21 16 2 takes_no_mask sets Arp
+row_of ArpSpa = field_row 22 32 4 takes_mask sets Arp
+row_of ArpTpa = field_row 23 32 4 takes_mask sets Arp
+row_of ArpSha = field_row 24 48 6 takes_mask sets Arp
+row_of ArpTha = field_row 25 48 6 takes_mask sets Arp
+row_of Ipv6Src = field_row 26 128 16 takes_mask sets Ipv6
+row_of Ipv6Dst = field_row 27 128 16 takes_mask sets Ipv6
+row_of Ipv6Flabel = field_row 28 20 4 takes_mask sets Ipv6
+row_of Icmpv6Type = field_row 29 8 1 takes_no_mask sets Icmpv6
+row_of Icmpv6Code = field_row 30 8 1 takes_no_mask sets Icmpv6
 
 -- their names in lower case
 unfoldable pub name_of : Field → List ℕ
@@ -90,8 +90,8 @@ name_of Icmpv6Code = codes "icmpv6_code"
 abbrev pub number_of : Field → ℕ
 number_of f = (row_of f).number
 
-abbrev pub bits_of : Field → ℕ
-bits_of f = (row_of f).bits
+abbrev pub bit_count : Field → ℕ
+bit_count f = (row_of f).bits
 
 abbrev pub bytes_of : Field → ℕ
 bytes_of f = (row_of f).bytes

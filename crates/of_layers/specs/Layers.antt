@@ -170,5 +170,5 @@ encoded [] = []
 encoded (c ∷ cs) = bits c.width c.value ++ encoded cs
 
 -- the frame is the encoding of the layers
-abbrev pub Encodes : Layers → List ℕ → Type 0
-Encodes l frame = bits_of frame ≡ encoded (cells l)
+abbrev pub EncodesLayers : Layers → List ℕ → Type 0
+EncodesLayers l frame = bits_of frame ≡ encoded (cells l)

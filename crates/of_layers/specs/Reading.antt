@@ -146,8 +146,8 @@ pub record Chain : Type 0 where
   pub extensions : List Extension
   pub carried : Carried
 
-abbrev pub behind : Extension → Chain → Chain
-behind e c = record { extensions = e ∷ c.extensions; carried = c.carried }
+abbrev pub behind_extension : Extension → Chain → Chain
+behind_extension e c = record { extensions = e ∷ c.extensions; carried = c.carried }
 
 -- no extension header: bytes of this kind
 abbrev pub ends_as : Transport → List ℕ → Chain
@@ -158,7 +158,7 @@ unfoldable pub chain_of : ℕ → ℕ → List ℕ → Chain
 chain_of zero kind s = ends_as (over_ipv6 kind) s
 chain_of (suc most) kind s =
     if has_extension kind s then
-    behind (extension_of kind s)
+    behind_extension (extension_of kind s)
     (if is_later kind s then ends_as Nothing (drop 8 s) else chain_of most (slice_index s 0) (drop (extension_size kind s) s))
     else ends_as (over_ipv6 kind) s
 

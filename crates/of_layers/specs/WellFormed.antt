@@ -9,33 +9,33 @@ abbrev pub AreBytes : List ℕ → Type 0
 AreBytes s = (i : ℕ) → slice_index s i < 256
 
 -- one number for each item, within its bits
-abbrev pub Fits : List Item → List ℕ → Type 0
-Fits [] [] = Unit {0}
-Fits [] (n ∷ ns) = ⊥
-Fits (i ∷ is) [] = ⊥
-Fits (i ∷ is) (n ∷ ns) = (n < 2 ^ i.width) × Fits is ns
+abbrev pub FitsItems : List Item → List ℕ → Type 0
+FitsItems [] [] = Unit {0}
+FitsItems [] (n ∷ ns) = ⊥
+FitsItems (i ∷ is) [] = ⊥
+FitsItems (i ∷ is) (n ∷ ns) = (n < 2 ^ i.width) × FitsItems is ns
 
 -- each begins with the type of a tag
 abbrev pub AreTags : List (List ℕ) → Type 0
 AreTags [] = Unit {0}
-AreTags (t ∷ ts) = Fits inner_tag t × (is_tag_type (slice_index t 0) ≡ true) × AreTags ts
+AreTags (t ∷ ts) = FitsItems inner_tag t × (is_tag_type (slice_index t 0) ≡ true) × AreTags ts
 
 -- ---- what an IP packet carries
 
-abbrev pub bytes_in : Carried → ℕ
-bytes_in c = size_of c.kind + length c.rest
+abbrev pub carried_size : Carried → ℕ
+carried_size c = size_of c.kind + length c.rest
 
 -- where this kind is named: its header, if there are bytes enough for it
 pub record IsCarried (kind : Transport) (c : Carried) : Type 0 where
-  pub there : c.kind ≡ whole_in kind (bytes_in c)
-  pub numbers : Fits (items_of c.kind) c.numbers
+  pub there : c.kind ≡ whole_in kind (carried_size c)
+  pub numbers : FitsItems (items_of c.kind) c.numbers
   pub rest : AreBytes c.rest
 
 -- ---- ARP and IPv4
 
 -- for Ethernet and IPv4
 pub record IsArp (ns rest : List ℕ) : Type 0 where
-  pub numbers : Fits arp ns
+  pub numbers : FitsItems arp ns
   pub hardware : slice_index ns 0 ≡ 1
   pub protocol : slice_index ns 1 ≡ 0x0800
   pub hardware_length : slice_index ns 2 ≡ 6
@@ -44,11 +44,11 @@ pub record IsArp (ns rest : List ℕ) : Type 0 where
 
 -- in the numbers: 0 is the version, 1 the header length in words, 4 the total length, 7 the offset, 9 the protocol
 pub record IsIpv4 (ns opts : List ℕ) (carried : Carried) (rest : List ℕ) : Type 0 where
-  pub numbers : Fits ipv4 ns
+  pub numbers : FitsItems ipv4 ns
   pub version : slice_index ns 0 ≡ 4
   pub words : 20 + length opts ≡ 4 * slice_index ns 1
   pub total : 20 + length opts ≤ slice_index ns 4
-  pub inside : 20 + length opts + bytes_in carried ≡ min (slice_index ns 4) (20 + length opts + bytes_in carried + length rest)
+  pub inside : 20 + length opts + carried_size carried ≡ min (slice_index ns 4) (20 + length opts + carried_size carried + length rest)
   pub options_fit : AreBytes opts
   pub carries : IsCarried (kind_behind (slice_index ns 7) (over_ipv4 (slice_index ns 9))) carried
   pub rest_fits : AreBytes rest
@@ -59,18 +59,18 @@ pub record IsIpv4 (ns opts : List ℕ) (carried : Carried) (rest : List ℕ) : T
 abbrev pub AreExtensions : ℕ → List Extension → Carried → Type 0
 AreExtensions kind [] c = IsCarried (over_ipv6 kind) c × (has_extension kind c.rest ≡ false)
 AreExtensions kind (Options ns bytes ∷ es) c =
-    (has_options kind ≡ true) × Fits (options (next_before es)) ns × (2 + length bytes ≡ 8 * (slice_index ns 1 + 1)) × AreBytes bytes
+    (has_options kind ≡ true) × FitsItems (options (next_before es)) ns × (2 + length bytes ≡ 8 * (slice_index ns 1 + 1)) × AreBytes bytes
     × AreExtensions (slice_index ns 0) es c
 AreExtensions kind (Fragment ns ∷ es) c =
-    (is_fragment kind ≡ true) × Fits (fragment (next_before es)) ns
+    (is_fragment kind ≡ true) × FitsItems (fragment (next_before es)) ns
     × ((slice_index ns 2 == 0) ≡ true → AreExtensions (slice_index ns 0) es c)
     × ((slice_index ns 2 == 0) ≡ false → (es ≡ []) × IsCarried Nothing c)
 
 -- in the numbers: 0 is the version, 4 the payload length, 5 the next kind
 pub record IsIpv6 (ns : List ℕ) (extensions : List Extension) (carried : Carried) (rest : List ℕ) : Type 0 where
-  pub numbers : Fits (ipv6 (next_before extensions)) ns
+  pub numbers : FitsItems (ipv6 (next_before extensions)) ns
   pub version : slice_index ns 0 ≡ 6
-  pub inside : all_bytes extensions + bytes_in carried ≡ min (slice_index ns 4) (all_bytes extensions + bytes_in carried + length rest)
+  pub inside : all_bytes extensions + carried_size carried ≡ min (slice_index ns 4) (all_bytes extensions + carried_size carried + length rest)
   pub chain : AreExtensions (slice_index ns 5) extensions carried
   pub rest_fits : AreBytes rest
 
@@ -88,7 +88,7 @@ IsBody type (Ipv6 ns extensions carried rest) = (type ≡ 0x86dd) × IsIpv6 ns e
 
 -- a tag's type that fewer than four bytes follow is the frame's type
 pub record IsLayers (l : Layers) : Type 0 where
-  pub ends : Fits addresses l.ends
+  pub ends : FitsItems addresses l.ends
   pub tags : AreTags l.tags
   pub type : l.type < 2 ^ 16
   pub last : is_tag_type l.type ≡ true → length (encoded (body_cells l.body)) < 32

@@ -3,7 +3,7 @@
 ghost use Rattle.std.specs.Prelude.{◌≡◌, ◌≤◌, List, ℕ, Some, length};
 ghost use Rattle.of_layers.specs.declared.field.Field.{Field};
 ghost use Rattle.of_layers.specs.Fields.{number_of, field_at};
-ghost use Rattle.of_layers.specs.Layers.{Layers, Encodes};
+ghost use Rattle.of_layers.specs.Layers.{Layers, EncodesLayers};
 ghost use Rattle.of_layers.specs.Reading.{layers_of};
 ghost use Rattle.of_layers.specs.WellFormed.{AreBytes, IsLayers};
 
@@ -11,9 +11,9 @@ ghost use Rattle.of_layers.specs.WellFormed.{AreBytes, IsLayers};
 ///
 /// `encodes`: they encode it. `layered`: they are well formed. `only`: no other well-formed layers encode it.
 pub fn encoded_by_one()
-    ensures encodes { (frame : List ℕ) → AreBytes frame → 14 ≤ length frame → Encodes (layers_of frame) frame }
+    ensures encodes { (frame : List ℕ) → AreBytes frame → 14 ≤ length frame → EncodesLayers (layers_of frame) frame }
     ensures layered { (frame : List ℕ) → AreBytes frame → 14 ≤ length frame → IsLayers (layers_of frame) }
-    ensures only { (l : Layers) (frame : List ℕ) → IsLayers l → AreBytes frame → Encodes l frame → l ≡ layers_of frame }
+    ensures only { (l : Layers) (frame : List ℕ) → IsLayers l → AreBytes frame → EncodesLayers l frame → l ≡ layers_of frame }
 {}
 
 /// The number of a field names that field, and no number names two (OpenFlow 1.3.5, 7.2.3.7).

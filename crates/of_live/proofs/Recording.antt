@@ -4,22 +4,22 @@ use Rattle.std.specs.Prelude.{map, nat_lt, if◌then◌else◌}
 use Rattle.std.specs.List.{flat_map, AllByRecursion}
 use Rattle.std.proofs.lemmas.List.{append-nil, map-append}
 use Rattle.std.proofs.lemmas.List.Concat.{flat_map-append}
-use Rattle.of_vxlan.specs.Header.{Encapsulated, carried, header_of}
+use Rattle.of_vxlan.specs.Header.{Encapsulated, carried, sent_header}
 use Rattle.of_datapath.specs.declared.effect.Effect.{Effect}
 use Rattle.of_datapath.specs.declared.effect.Effect.TheVariants as effect
 use Rattle.of_switch.specs.declared.event.Event.{Event}
 use Rattle.of_switch.specs.State.{State}
 use Rattle.of_switch.specs.Steps.{lost}
 use Rattle.of_switch.specs.Runs.{Report, Gives, IsRefused, Run, run, effects_in}
-use Rattle.of_replay.specs.Lexing.{lines_of}
-use Rattle.of_replay.specs.Rows.{Rows, rows_of, events_in as row_events}
+use Rattle.of_replay.specs.Lexing.{lines_of_file}
+use Rattle.of_replay.specs.Rows.{Rows, rows_of_lines, events_in as row_events}
 use Rattle.of_laws.specs.RowText.{HasLine, file_text, row_text}
-use Rattle.of_live.specs.Live.{Live, Came, Time, Datagram, begun, events_in, events_of, is_lost_first, loss, peer_of, peers_of, received}
+use Rattle.of_live.specs.Live.{Live, Came, Time, Datagram, begun, coming_events, events_of, is_lost_first, loss, peer_of, peers_of, received_datagram}
 use Rattle.of_live.specs.declared.network.Dropped.{Dropped}
 use Rattle.of_live.specs.declared.network.Dropped.TheVariants as dropped
 use Rattle.of_live.specs.declared.peers.Peer.{Peer}
-use Rattle.of_live.specs.Turns.{Act, Logs, Drops, Sends, Writes, Turn, Turns, None, Then, acts, closes, dropped_in, dropped_of, drops, effects_of, is_closed, is_written, logs, offered, passed, ran, rows_text, sends, sent_in, sent_to, stand, writes}
-use Rattle.of_live.specs.Recorded.{effects, events, log_of, rows_in}
+use Rattle.of_live.specs.Turns.{Act, Logs, Drops, Sends, Writes, LiveTurn, LiveTurns, None, Then, turn_acts, closes, dropped_in, dropped_of, drops, live_effects, is_closed, is_written, logs, offered, passed, ran, rows_text, sent_acts, sent_in, sent_to, after_live_turns, writes}
+use Rattle.of_live.specs.Recorded.{effects, events, log_of, logged_rows}
 use Rattle.of_live.proofs.Doing.{run_then}
 
 -- A LOSS FIRST, which gives nothing
@@ -28,12 +28,12 @@ use Rattle.of_live.proofs.Doing.{run_then}
 gone : Bool → Live → Live
 gone x l = if x then record l { state = lost l.state; waiting = []; over = false } else l
 
-lost_state : (x : Bool) (came : Came) (l : Live) → (run (loss x ++ events_in came (gone x l)) l.state).state ≡ (run (events_in came (gone x l)) (gone x l).state).state
+lost_state : (x : Bool) (came : Came) (l : Live) → (run (loss x ++ coming_events came (gone x l)) l.state).state ≡ (run (coming_events came (gone x l)) (gone x l).state).state
 unfolding gone
 lost_state true came l = refl
 lost_state false came l = refl
 
-lost_effects : (x : Bool) (came : Came) (l : Live) → effects_in (run (loss x ++ events_in came (gone x l)) l.state).reports ≡ effects_in (run (events_in came (gone x l)) (gone x l).state).reports
+lost_effects : (x : Bool) (came : Came) (l : Live) → effects_in (run (loss x ++ coming_events came (gone x l)) l.state).reports ≡ effects_in (run (coming_events came (gone x l)) (gone x l).state).reports
 unfolding gone
 lost_effects true came l = refl
 lost_effects false came l = refl
@@ -42,7 +42,7 @@ turn_state : (came : Came) (l : Live) → (run (events_of came l) l.state).state
 unfolding gone
 turn_state came l = lost_state (is_lost_first came l) came l
 
-turn_effects : (came : Came) (l : Live) → effects_in (run (events_of came l) l.state).reports ≡ effects_of came l
+turn_effects : (came : Came) (l : Live) → effects_in (run (events_of came l) l.state).reports ≡ live_effects came l
 unfolding gone
 turn_effects came l = lost_effects (is_lost_first came l) came l
 
@@ -53,21 +53,21 @@ effects_then [] ys = refl
 effects_then (Gives es ∷ xs) ys = ap (λ zs. es ++ zs) (effects_then xs ys) ∙ sym (append_assoc es (effects_in xs) (effects_in ys))
 effects_then (IsRefused refusal ∷ xs) ys = effects_then xs ys
 
-pub state_is : (l : Live) (ts : Turns) → (stand l ts).state ≡ (run (events l ts) l.state).state
+pub state_is : (l : Live) (ts : LiveTurns) → (after_live_turns l ts).state ≡ (run (events l ts) l.state).state
 state_is l None = refl
 state_is l (Then ts t) =
-    sym (turn_state t.came (stand l ts))
-    ∙ (ap (λ (s : State). (run (events_of t.came (stand l ts)) s).state) (state_is l ts)
-    ∙ ap (λ (r : Run). r.state) (sym (run_then (events l ts) (events_of t.came (stand l ts)) l.state)))
+    sym (turn_state t.came (after_live_turns l ts))
+    ∙ (ap (λ (s : State). (run (events_of t.came (after_live_turns l ts)) s).state) (state_is l ts)
+    ∙ ap (λ (r : Run). r.state) (sym (run_then (events l ts) (events_of t.came (after_live_turns l ts)) l.state)))
 
-pub effects_are : (l : Live) (ts : Turns) → effects l ts ≡ effects_in (run (events l ts) l.state).reports
+pub effects_are : (l : Live) (ts : LiveTurns) → effects l ts ≡ effects_in (run (events l ts) l.state).reports
 effects_are l None = refl
 effects_are l (Then ts t) =
-    let more = events_of t.came (stand l ts) in
+    let more = events_of t.came (after_live_turns l ts) in
     let first = run (events l ts) l.state in
-    ap (λ (es : List Effect). es ++ effects_of t.came (stand l ts)) (effects_are l ts)
+    ap (λ (es : List Effect). es ++ live_effects t.came (after_live_turns l ts)) (effects_are l ts)
     ∙ (ap (λ (es : List Effect). effects_in first.reports ++ es)
-    (sym (turn_effects t.came (stand l ts)) ∙ ap (λ (s : State). effects_in (run more s).reports) (state_is l ts))
+    (sym (turn_effects t.came (after_live_turns l ts)) ∙ ap (λ (s : State). effects_in (run more s).reports) (state_is l ts))
     ∙ (sym (effects_then first.reports (run more first.state).reports)
     ∙ ap (λ (r : Run). effects_in r.reports) (sym (run_then (events l ts) more l.state))))
 
@@ -75,7 +75,7 @@ effects_are l (Then ts t) =
 
 -- of other acts it has nothing
 joined : (xs ys : List Act) → log_of (xs ++ ys) ≡ log_of xs ++ log_of ys
-joined xs ys = flat_map-append rows_in xs ys
+joined xs ys = flat_map-append logged_rows xs ys
 
 none_more : (xs ys : List Act) → log_of ys ≡ [] → log_of (xs ++ ys) ≡ log_of xs
 none_more xs ys e = joined xs ys ∙ (ap (λ bs. log_of xs ++ bs) e ∙ append-nil (log_of xs))
@@ -85,14 +85,14 @@ none_dropped (Ok d) = refl
 none_dropped (Err why) = refl
 
 none_drops : (came : Came) (l : Live) → log_of (dropped_of came l) ≡ []
-none_drops (Datagram from bytes) l = none_dropped (received l from (carried bytes))
+none_drops (Datagram from bytes) l = none_dropped (received_datagram l from (carried bytes))
 none_drops (Time now) l = refl
 none_drops other l = refl
 
 none_sent : (peers : List Peer) (e : Effect) → log_of (sent_in peers e) ≡ []
 none_sent peers (effect.Sent port frame) = none_to port frame (peer_of port peers)
   where
-    none_if : (port : ℕ) (frame : List ℕ) (p : Peer) (x : Bool) → log_of ((if x then Sends p.endpoint (header_of port ++ frame) else Drops dropped.NoPeer) ∷ []) ≡ []
+    none_if : (port : ℕ) (frame : List ℕ) (p : Peer) (x : Bool) → log_of ((if x then Sends p.endpoint (sent_header port ++ frame) else Drops dropped.NoPeer) ∷ []) ≡ []
     none_if port frame p true = refl
     none_if port frame p false = refl
 
@@ -118,12 +118,12 @@ logged : (es : List Event) → log_of (logs true es) ≡ rows_text es
 logged [] = refl
 logged (e ∷ es) = append-nil (rows_text (e ∷ es))
 
-turn_rows : (t : Turn) (l : Live) → log_of (acts true t l) ≡ rows_text (events_of t.came l)
+turn_rows : (t : LiveTurn) (l : Live) → log_of (turn_acts true t l) ≡ rows_text (events_of t.came l)
 turn_rows t l =
     let front = drops t.came l ++ logs true (events_of t.came l) in
-    none_more (front ++ sends t.came l ++ writes t l) (closes (is_closed t l)) (none_closed (is_closed t l))
-    ∙ (none_more (front ++ sends t.came l) (writes t l) (none_if_written (is_written t.came l) (offered t.came l) t.taken t.failed)
-    ∙ (none_more front (sends t.came l) (none_sends (peers_of t.came (begun t.came l)) (effects_of t.came l))
+    none_more (front ++ sent_acts t.came l ++ writes t l) (closes (is_closed t l)) (none_closed (is_closed t l))
+    ∙ (none_more (front ++ sent_acts t.came l) (writes t l) (none_if_written (is_written t.came l) (offered t.came l) t.taken t.failed)
+    ∙ (none_more front (sent_acts t.came l) (none_sends (peers_of t.came (begun t.came l)) (live_effects t.came l))
     ∙ (joined (drops t.came l) (logs true (events_of t.came l))
     ∙ (ap (λ bs. bs ++ log_of (logs true (events_of t.came l))) (none_drops t.came (begun t.came l)) ∙ logged (events_of t.came l)))))
 
@@ -131,20 +131,20 @@ rows_then : (es fs : List Event) → rows_text (es ++ fs) ≡ rows_text es ++ ro
 rows_then es fs =
     ap (flat_map (λ row. row_text row ++ 10 ∷ [])) (map-append Some es fs) ∙ flat_map-append (λ row. row_text row ++ 10 ∷ []) (map Some es) (map Some fs)
 
-pub rows_are : (l : Live) (ts : Turns) → log_of (passed true l ts) ≡ rows_text (events l ts)
+pub rows_are : (l : Live) (ts : LiveTurns) → log_of (passed true l ts) ≡ rows_text (events l ts)
 rows_are l None = refl
 rows_are l (Then ts t) =
-    joined (passed true l ts) (acts true t (stand l ts))
-    ∙ (ap (λ bs. bs ++ log_of (acts true t (stand l ts))) (rows_are l ts)
-    ∙ (ap (λ bs. rows_text (events l ts) ++ bs) (turn_rows t (stand l ts))
-    ∙ sym (rows_then (events l ts) (events_of t.came (stand l ts)))))
+    joined (passed true l ts) (turn_acts true t (after_live_turns l ts))
+    ∙ (ap (λ bs. bs ++ log_of (turn_acts true t (after_live_turns l ts))) (rows_are l ts)
+    ∙ (ap (λ bs. rows_text (events l ts) ++ bs) (turn_rows t (after_live_turns l ts))
+    ∙ sym (rows_then (events l ts) (events_of t.came (after_live_turns l ts)))))
 
 all_events : (es : List Event) → flat_map row_events (map Some es) ≡ es
 all_events [] = refl
 all_events (e ∷ es) = ap (λ (fs : List Event). e ∷ fs) (all_events es)
 
-pub read_are : ((rows : List (Option Event)) → AllByRecursion HasLine rows → rows_of (lines_of (file_text rows)) ≡ record { events = flat_map row_events rows; bad = Nobody })
-    → (l : Live) (ts : Turns) → AllByRecursion HasLine (map Some (events l ts)) → rows_of (lines_of (log_of (passed true l ts))) ≡ record { events = events l ts; bad = Nobody }
+pub read_are : ((rows : List (Option Event)) → AllByRecursion HasLine rows → rows_of_lines (lines_of_file (file_text rows)) ≡ record { events = flat_map row_events rows; bad = Nobody })
+    → (l : Live) (ts : LiveTurns) → AllByRecursion HasLine (map Some (events l ts)) → rows_of_lines (lines_of_file (log_of (passed true l ts))) ≡ record { events = events l ts; bad = Nobody }
 read_are again l ts h =
-    ap (λ bs. rows_of (lines_of bs)) (rows_are l ts)
+    ap (λ bs. rows_of_lines (lines_of_file bs)) (rows_are l ts)
     ∙ (again (map Some (events l ts)) h ∙ ap (λ (es : List Event). record { events = es; bad = Nobody }) (all_events (events l ts)))

@@ -12,8 +12,8 @@ use Rattle.of_switch.specs.declared.event.Event.{Event}
 use Rattle.of_laws.specs.RowText.{row_text}
 use Rattle.of_live.specs.declared.state.Asks.{Asks}
 use Rattle.of_live.specs.Live.{Live, Came, Fault, Time, events_of}
-use Rattle.of_live.specs.Turns.{Act, Records, Told, Logs, Turn, acts, after, closes, drops, is_closed, is_fault, logs, offered, results, rows_text, sends, sent_in, writes}
-use Rattle.of_live.specs.Working.{Goes, Hears, Passes, Settles, Work, asks_of, closed, closing, heard, logged, offered_acts, offered_to, offers, text_of}
+use Rattle.of_live.specs.Turns.{Act, Records, Told, Logs, LiveTurn, turn_acts, after_live_turn, closes, drops, is_closed, is_fault, logs, offered, results, rows_text, sent_acts, sent_in, writes}
+use Rattle.of_live.specs.Working.{Goes, Hears, Passes, Settles, LiveWork, asks_of, after_closing, is_closing, after_hearing, logged, offered_acts, offered_to, offers, logged_text}
 use Rattle.of_live.proofs.Passing.{records_as, records_more}
 
 -- THE ROWS
@@ -25,7 +25,7 @@ some_text e es = some_bytes (row_text (Some e)) (rows_text es)
     some_bytes [] ys = grind (arith, nat_tests)
     some_bytes (x ∷ xs) ys = grind (arith, nat_tests)
 
-logs_are : (keeps : Bool) (events : List Event) (text : List ℕ) → text ≡ text_of keeps events → logged text true ≡ logs keeps events
+logs_are : (keeps : Bool) (events : List Event) (text : List ℕ) → text ≡ logged_text keeps events → logged text true ≡ logs keeps events
 logs_are true [] text e = rw e refl
 logs_are true (x ∷ xs) text e = rw (e, some_text x xs) refl
 logs_are false [] text e = rw e refl
@@ -38,7 +38,7 @@ empty_or [] whole h e = let t : true ≡ false = sym (h refl) ∙ e in absurd_bo
     absurd_bool t = cc
 empty_or (x ∷ xs) whole h e = grind (arith, nat_tests)
 
-keeps_if : (keeps : Bool) (events : List Event) (text : List ℕ) → text ≡ text_of keeps events → (length text == 0) ≡ false → (keeps ≡ true) × (text ≡ rows_text events)
+keeps_if : (keeps : Bool) (events : List Event) (text : List ℕ) → text ≡ logged_text keeps events → (length text == 0) ≡ false → (keeps ≡ true) × (text ≡ rows_text events)
 keeps_if true events text e some = (refl, e)
 keeps_if false events text e some = let t : true ≡ false = sym (ap (λ bs. length bs == 0) e) ∙ some in cc
 
@@ -47,7 +47,7 @@ keeps_if false events text e some = let t : true ≡ false = sym (ap (λ bs. len
 pub no_memory : (came : Came) (l : Live) (keeps : Bool) (l' : Live) (a b : Option (List Act)) (some : Bool) → Records a (if some then drops came l else []) b → Passes (Err Memory) keeps came l l' a b
 no_memory came l keeps l' a b some r = (some, r)
 
-pub no_log : (came : Came) (keeps : Bool) (asks : Asks) (l l1 : Live) (w : Work) (a b c : Option (List Act)) (some : Bool)
+pub no_log : (came : Came) (keeps : Bool) (asks : Asks) (l l1 : Live) (w : LiveWork) (a b c : Option (List Act)) (some : Bool)
     → Records a (if some then drops came l else []) b → some ≡ true → Hears came keeps asks l l1 w → (length w.text ≡ 0 → false ≡ true) → Records b (logged w.text false) c
     → Passes (Err Write) keeps came l l1 a c
 no_log came keeps asks l l1 w a b c some r is h empty log_is =
@@ -60,18 +60,18 @@ no_log came keeps asks l l1 w a b c some r is h empty log_is =
 
 -- ALL GOES OUT
 
-pub passes_on : (came : Came) (keeps : Bool) (asks : Asks) (l l1 l2 : Live) (w : Work) (peers : List Peer) (a b c d e : Option (List Act)) (some : Bool)
+pub passes_on : (came : Came) (keeps : Bool) (asks : Asks) (l l1 l2 : Live) (w : LiveWork) (peers : List Peer) (a b c d e : Option (List Act)) (some : Bool)
     → Records a (if some then drops came l else []) b → some ≡ true → Hears came keeps asks l l1 w → Records b (logged w.text true) c
     → peers ≡ l1.peers → Records c (flat_map (sent_in peers) (effects_in w.reports)) d → Settles asks l1 l2 d e → Passes (Ok tt) keeps came l l2 a e
 passes_on came keeps asks l l1 l2 w peers a b c d e some r is h log_is to sent settled =
     let here : Records a (drops came l) b = subst (λ (s : Bool). Records a (if s then drops came l else []) b) is r in
     let rows : Records b (logs keeps (events_of came l)) c = records_as b c _ _ (logs_are keeps (events_of came l) w.text h.text_is) log_is in
-    let same_peers : peers ≡ (heard came l).peers = to ∙ ap (λ (x : Live). x.peers) h.live_is in
-    let frames : Records c (sends came l) d = records_as c d _ _
-    (ap (λ ps. flat_map (sent_in ps) (effects_in w.reports)) same_peers ∙ ap (flat_map (sent_in (heard came l).peers)) h.reports_are) sent in
-    let s : Settles (asks_of came l) (heard came l) l2 d e = subst (λ (x : Live). Settles (asks_of came l) x l2 d e) h.live_is (subst (λ (x : Asks). Settles x l1 l2 d e) h.asks_are settled) in
-    let t : Turn = record { came = came; taken = s.taken; failed = s.failed } in
-    let front = drops came l ++ logs keeps (events_of came l) ++ sends came l in
+    let same_peers : peers ≡ (after_hearing came l).peers = to ∙ ap (λ (x : Live). x.peers) h.live_is in
+    let frames : Records c (sent_acts came l) d = records_as c d _ _
+    (ap (λ ps. flat_map (sent_in ps) (effects_in w.reports)) same_peers ∙ ap (flat_map (sent_in (after_hearing came l).peers)) h.reports_are) sent in
+    let s : Settles (asks_of came l) (after_hearing came l) l2 d e = subst (λ (x : Live). Settles (asks_of came l) x l2 d e) h.live_is (subst (λ (x : Asks). Settles x l1 l2 d e) h.asks_are settled) in
+    let t : LiveTurn = record { came = came; taken = s.taken; failed = s.failed } in
+    let front = drops came l ++ logs keeps (events_of came l) ++ sent_acts came l in
     let all : Records a (front ++ (writes t l ++ closes (is_closed t l))) e =
     records_more a d e front _ (records_more a c d _ _ (records_more a b c _ _ here rows) frames) s.told_is in
     (s.taken, s.failed, s.fits, s.live_is, records_as a e _ _ (sym (append_assoc front (writes t l) (closes (is_closed t l)))) all)

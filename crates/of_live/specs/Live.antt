@@ -55,29 +55,29 @@ abbrev pub peer_of : ℕ → List Peer → Option Peer
 peer_of number peers = find (λ p. p.port == number) peers
 
 -- whether a datagram from there may be a frame of this port: any may, unless another address was set
-abbrev pub may_send : Endpoint → Option Peer → Bool
-may_send from None = true
-may_send from (Some p) = not p.is_set || p.endpoint.address == from.address
+abbrev pub may_be_from : Endpoint → Option Peer → Bool
+may_be_from from None = true
+may_be_from from (Some p) = not p.is_set || p.endpoint.address == from.address
 
 -- to where its last datagram came from, unless that was set
-abbrev pub moved : ℕ → Endpoint → Peer → Peer
-moved number from p = if p.port == number && not p.is_set then record p { endpoint = from } else p
+abbrev pub peer_moved : ℕ → Endpoint → Peer → Peer
+peer_moved number from p = if p.port == number && not p.is_set then record p { endpoint = from } else p
 
 abbrev pub heard_from : ℕ → Endpoint → List Peer → List Peer
 heard_from number from peers = if list_any (λ p. p.port == number) peers
-    then map (moved number from) peers
+    then map (peer_moved number from) peers
     else peers ++ record { port = number; endpoint = from; is_set = false } ∷ []
 
 -- A DATAGRAM is a frame of the port of its network, or it is dropped
-abbrev pub received : Live → Endpoint → Option Encapsulated → Result Encapsulated Dropped
-received l from None = Err dropped.NoNetwork
-received l from (Some d) = if not (has_port d.vni l.state.core.forwarding.ports)
+abbrev pub received_datagram : Live → Endpoint → Option Encapsulated → Result Encapsulated Dropped
+received_datagram l from None = Err dropped.NoNetwork
+received_datagram l from (Some d) = if not (has_port d.vni l.state.core.forwarding.ports)
     then Err dropped.NoSuchPort
-    else if not (may_send from (peer_of d.vni l.peers)) then Err dropped.OtherPeer else Ok d
+    else if not (may_be_from from (peer_of d.vni l.peers)) then Err dropped.OtherPeer else Ok d
 
-abbrev pub frame_of : Result Encapsulated Dropped → List Event
-frame_of (Ok d) = Frame d.vni d.frame ∷ []
-frame_of (Err why) = []
+abbrev pub frame_event : Result Encapsulated Dropped → List Event
+frame_event (Ok d) = Frame d.vni d.frame ∷ []
+frame_event (Err why) = []
 
 abbrev pub peers_after : Endpoint → Result Encapsulated Dropped → List Peer → List Peer
 peers_after from (Ok d) peers = heard_from d.vni from peers
@@ -105,30 +105,30 @@ abbrev pub begun : Came → Live → Live
 begun came l = if is_lost_first came l then record l { state = lost l.state; waiting = []; over = false } else l
 
 -- of rows that are written while the switch runs only frames and changes of ports are events
-abbrev pub asked : Event → List Event
-asked (Frame port frame) = Frame port frame ∷ []
-asked (Ports change) = Ports change ∷ []
-asked other = []
+abbrev pub running_row_events : Event → List Event
+running_row_events (Frame port frame) = Frame port frame ∷ []
+running_row_events (Ports change) = Ports change ∷ []
+running_row_events other = []
 
 -- then those of what came. Without a connection there is nobody to hear or to lose.
-abbrev pub events_in : Came → Live → List Event
-events_in (Time now) l = Moment now ∷ due now l.rows
-events_in (Datagram from bytes) l = frame_of (received l from (carried bytes))
-events_in Opened l = Connect ∷ []
-events_in (Heard bytes) l = if is_connected l then Chunk bytes ∷ [] else []
-events_in Ended l = loss (is_connected l)
-events_in (Row event) l = asked event
-events_in other l = []
+abbrev pub coming_events : Came → Live → List Event
+coming_events (Time now) l = Moment now ∷ due now l.rows
+coming_events (Datagram from bytes) l = frame_event (received_datagram l from (carried bytes))
+coming_events Opened l = Connect ∷ []
+coming_events (Heard bytes) l = if is_connected l then Chunk bytes ∷ [] else []
+coming_events Ended l = loss (is_connected l)
+coming_events (Row event) l = running_row_events event
+coming_events other l = []
 
 abbrev pub events_of : Came → Live → List Event
-events_of came l = loss (is_lost_first came l) ++ events_in came (begun came l)
+events_of came l = loss (is_lost_first came l) ++ coming_events came (begun came l)
 
 abbrev pub rows_after : Came → Live → List Event
 rows_after (Time now) l = left now l.rows
 rows_after other l = l.rows
 
 abbrev pub peers_of : Came → Live → List Peer
-peers_of (Datagram from bytes) l = peers_after from (received l from (carried bytes)) l.peers
+peers_of (Datagram from bytes) l = peers_after from (received_datagram l from (carried bytes)) l.peers
 peers_of other l = l.peers
 
 abbrev pub time_of : Came → Live → ℕ

@@ -24,5 +24,5 @@ act_of (passed.Written bytes taken failed) = Writes bytes taken failed
 act_of passed.Closed = Closes
 
 -- all that passed; nothing is known once memory ran out for it
-abbrev pub told : MemoryNetwork → Option (List Act)
-told n = if n.is_whole then Some (map act_of n.passed.items) else None
+abbrev pub passed_acts : MemoryNetwork → Option (List Act)
+passed_acts n = if n.is_whole then Some (map act_of n.passed.items) else None

@@ -1,7 +1,7 @@
 -- TURNS of a switch on a network: something comes, its events happen, what they give goes out.
 use Rattle.std.specs.Prelude.{◌≡◌, ℕ, ◌+◌, ◌-◌, ◌≤◌, nat_lt, nat_le, not, ◌&&◌, ◌||◌, ◌==◌, Bool, true, false, List, [], ◌∷◌, ◌++◌, length, drop, map, Option, Some, None as Nobody, Result, Ok, Err, if◌then◌else◌}
 use Rattle.std.specs.List.{flat_map}
-use Rattle.of_vxlan.specs.Header.{Encapsulated, carried, header_of}
+use Rattle.of_vxlan.specs.Header.{Encapsulated, carried, sent_header}
 use Rattle.of_session.specs.Session.{is_disconnected}
 use Rattle.of_datapath.specs.declared.effect.Effect.{Effect}
 use Rattle.of_datapath.specs.declared.effect.Effect.TheVariants.{Answer, Sent, Closed}
@@ -14,7 +14,7 @@ use Rattle.of_live.specs.declared.network.Endpoint.{Endpoint}
 use Rattle.of_live.specs.declared.network.Dropped.{Dropped}
 use Rattle.of_live.specs.declared.network.Dropped.TheVariants as dropped
 use Rattle.of_live.specs.declared.peers.Peer.{Peer}
-use Rattle.of_live.specs.Live.{Live, Came, Datagram, Opened, Ended, Ready, Fault, peer_of, received, is_connected, begun, events_in, events_of, rows_after, peers_of, time_of}
+use Rattle.of_live.specs.Live.{Live, Came, Datagram, Opened, Ended, Ready, Fault, peer_of, received_datagram, is_connected, begun, coming_events, events_of, rows_after, peers_of, time_of}
 
 -- WHAT PASSES between the switch and the network, in order
 pub data Act : Type 0 where
@@ -38,17 +38,17 @@ Records (Some before) passed Nobody = Unit {0}
 Records (Some before) passed (Some all) = all ≡ before ++ passed
 
 -- A TURN: what came, and how a write to the connection, if there was one, ended
-pub record Turn : Type 0 where
+pub record LiveTurn : Type 0 where
   pub came : Came
   pub taken : ℕ
   pub failed : Bool
 
 -- WHAT ITS EVENTS GIVE, as the abstract switch does them. (A loss gives nothing.)
 abbrev pub ran : Came → Live → Run
-ran came l = let b = begun came l in run (events_in came b) b.state
+ran came l = let b = begun came l in run (coming_events came b) b.state
 
-abbrev pub effects_of : Came → Live → List Effect
-effects_of came l = effects_in (ran came l).reports
+abbrev pub live_effects : Came → Live → List Effect
+live_effects came l = effects_in (ran came l).reports
 
 abbrev pub is_connected_after : Came → Live → Bool
 is_connected_after came l = not (is_disconnected (ran came l).state.connection.phase)
@@ -56,21 +56,21 @@ is_connected_after came l = not (is_disconnected (ran came l).state.connection.p
 -- a frame that is sent is a datagram to where the port's frames go
 abbrev pub sent_to : ℕ → List ℕ → Option Peer → Act
 sent_to port frame Nobody = Drops dropped.NoPeer
-sent_to port frame (Some p) = if nat_lt port 16777216 then Sends p.endpoint (header_of port ++ frame) else Drops dropped.NoPeer
+sent_to port frame (Some p) = if nat_lt port 16777216 then Sends p.endpoint (sent_header port ++ frame) else Drops dropped.NoPeer
 
 abbrev pub sent_in : List Peer → Effect → List Act
 sent_in peers (Sent port frame) = sent_to port frame (peer_of port peers) ∷ []
 sent_in peers other = []
 
-abbrev pub sends : Came → Live → List Act
-sends came l = flat_map (sent_in (peers_of came (begun came l))) (effects_of came l)
+abbrev pub sent_acts : Came → Live → List Act
+sent_acts came l = flat_map (sent_in (peers_of came (begun came l))) (live_effects came l)
 
 abbrev pub dropped_in : Result Encapsulated Dropped → List Act
 dropped_in (Ok d) = []
 dropped_in (Err why) = Drops why ∷ []
 
 abbrev pub dropped_of : Came → Live → List Act
-dropped_of (Datagram from bytes) l = dropped_in (received l from (carried bytes))
+dropped_of (Datagram from bytes) l = dropped_in (received_datagram l from (carried bytes))
 dropped_of other l = []
 
 abbrev pub drops : Came → Live → List Act
@@ -91,8 +91,8 @@ may_write Opened l = true
 may_write Ended l = false
 may_write other l = is_connected l
 
-abbrev pub is_empty : List ℕ → Bool
-is_empty bytes = length bytes == 0
+abbrev pub has_no_bytes : List ℕ → Bool
+has_no_bytes bytes = length bytes == 0
 
 abbrev pub has_connection : Came → Live → Bool
 has_connection came l = may_write came (begun came l)
@@ -101,37 +101,37 @@ abbrev pub is_ready : Came → Bool
 is_ready Ready = true
 is_ready other = false
 
-abbrev pub waits : Came → Live → List ℕ
-waits came l = (begun came l).waiting
+abbrev pub waiting_bytes : Came → Live → List ℕ
+waiting_bytes came l = (begun came l).waiting
 
 abbrev pub offered : Came → Live → List ℕ
-offered came l = waits came l ++ flat_map answer_in (effects_of came l)
+offered came l = waiting_bytes came l ++ flat_map answer_in (live_effects came l)
 
 -- a connection that did not take all is offered more when it says that it takes bytes again
 abbrev pub is_written : Came → Live → Bool
-is_written came l = has_connection came l && not (is_empty (offered came l)) && (is_empty (waits came l) || is_ready came)
+is_written came l = has_connection came l && not (has_no_bytes (offered came l)) && (has_no_bytes (waiting_bytes came l) || is_ready came)
 
-abbrev pub is_left : Turn → Live → List ℕ
+abbrev pub is_left : LiveTurn → Live → List ℕ
 is_left t l = if is_written t.came l then drop t.taken (offered t.came l) else offered t.came l
 
 abbrev pub time_at : Came → Live → ℕ
 time_at came l = time_of came (begun came l)
 
-abbrev pub since : Turn → Live → ℕ
-since t l = if is_empty (waits t.came l) || (is_written t.came l && nat_lt 0 t.taken) then time_at t.came l else (begun t.came l).since
+abbrev pub since : LiveTurn → Live → ℕ
+since t l = if has_no_bytes (waiting_bytes t.came l) || (is_written t.came l && nat_lt 0 t.taken) then time_at t.came l else (begun t.came l).since
 
 -- a connection that leaves more than 16 MiB, or takes nothing for ten seconds, is given up
 abbrev pub is_stuck : List ℕ → (since now : ℕ) → Bool
-is_stuck left since now = nat_lt 16777216 (length left) || (not (is_empty left) && nat_le 10000000000 (now - since))
+is_stuck left since now = nat_lt 16777216 (length left) || (not (has_no_bytes left) && nat_le 10000000000 (now - since))
 
-abbrev pub is_given_up : Turn → Live → Bool
+abbrev pub is_given_up : LiveTurn → Live → Bool
 is_given_up t l = (is_written t.came l && t.failed) || is_stuck (is_left t l) (since t l) (time_at t.came l)
 
 -- it is closed if it was given up, or if the switch closed it
-abbrev pub is_closed : Turn → Live → Bool
+abbrev pub is_closed : LiveTurn → Live → Bool
 is_closed t l = has_connection t.came l && (is_given_up t l || not (is_connected_after t.came l))
 
-abbrev pub writes : Turn → Live → List Act
+abbrev pub writes : LiveTurn → Live → List Act
 writes t l = if is_written t.came l then Writes (offered t.came l) t.taken t.failed ∷ [] else []
 
 abbrev pub closes : Bool → List Act
@@ -139,15 +139,15 @@ closes true = Closes ∷ []
 closes false = []
 
 -- ALL THAT PASSES in a turn: what came is told, and then this
-abbrev pub results : Bool → Turn → Live → List Act
-results keeps t l = drops t.came l ++ logs keeps (events_of t.came l) ++ sends t.came l ++ writes t l ++ closes (is_closed t l)
+abbrev pub results : Bool → LiveTurn → Live → List Act
+results keeps t l = drops t.came l ++ logs keeps (events_of t.came l) ++ sent_acts t.came l ++ writes t l ++ closes (is_closed t l)
 
-abbrev pub acts : Bool → Turn → Live → List Act
-acts keeps t l = Told t.came ∷ results keeps t l
+abbrev pub turn_acts : Bool → LiveTurn → Live → List Act
+turn_acts keeps t l = Told t.came ∷ results keeps t l
 
 -- and the switch after it
-abbrev pub after : Turn → Live → Live
-after t l = record {
+abbrev pub after_live_turn : LiveTurn → Live → Live
+after_live_turn t l = record {
   state = (ran t.came l).state;
   rows = rows_after t.came (begun t.came l);
   peers = peers_of t.came (begun t.came l);
@@ -158,30 +158,30 @@ after t l = record {
 }
 
 -- TURNS, one after the other
-pub data Turns : Type 0 where
-  None : Turns
-  Then : (first : Turns) → (last : Turn) → Turns
+pub data LiveTurns : Type 0 where
+  None : LiveTurns
+  Then : (first : LiveTurns) → (last : LiveTurn) → LiveTurns
 
-abbrev pub count : Turns → ℕ
-count None = 0
-count (Then ts t) = count ts + 1
+abbrev pub live_turn_count : LiveTurns → ℕ
+live_turn_count None = 0
+live_turn_count (Then ts t) = live_turn_count ts + 1
 
-abbrev pub stand : Live → Turns → Live
-stand l None = l
-stand l (Then ts t) = after t (stand l ts)
+abbrev pub after_live_turns : Live → LiveTurns → Live
+after_live_turns l None = l
+after_live_turns l (Then ts t) = after_live_turn t (after_live_turns l ts)
 
-abbrev pub passed : Bool → Live → Turns → List Act
+abbrev pub passed : Bool → Live → LiveTurns → List Act
 passed keeps l None = []
-passed keeps l (Then ts t) = passed keeps l ts ++ acts keeps t (stand l ts)
+passed keeps l (Then ts t) = passed keeps l ts ++ turn_acts keeps t (after_live_turns l ts)
 
 abbrev pub is_fault : Came → Bool
 is_fault Fault = true
 is_fault other = false
 
 -- the network did not fail, and a write takes no more than it is offered
-abbrev pub IsTurn : Turn → Live → Type 0
-IsTurn t l = (is_fault t.came ≡ false) × (t.taken ≤ length (offered t.came l))
+abbrev pub IsLiveTurn : LiveTurn → Live → Type 0
+IsLiveTurn t l = (is_fault t.came ≡ false) × (t.taken ≤ length (offered t.came l))
 
-abbrev pub AreTurns : Live → Turns → Type 0
-AreTurns l None = Unit {0}
-AreTurns l (Then ts t) = AreTurns l ts × IsTurn t (stand l ts)
+abbrev pub AreLiveTurns : Live → LiveTurns → Type 0
+AreLiveTurns l None = Unit {0}
+AreLiveTurns l (Then ts t) = AreLiveTurns l ts × IsLiveTurn t (after_live_turns l ts)

@@ -7,25 +7,25 @@ use Rattle.of_switch.specs.State.{State}
 use Rattle.of_switch.specs.Runs.{Report, run, effects_in}
 use Rattle.of_live.specs.declared.state.Asks.{Asks}
 use Rattle.of_live.specs.Live.{Live, Came, Fault, is_connected, begun, events_of, rows_after, peers_of, time_of}
-use Rattle.of_live.specs.Turns.{Act, Records, Told, Logs, Writes, Turn, IsTurn, acts, after, closes, drops, effects_of, is_empty, is_ready, is_stuck, may_write, offered, ran, results, rows_text}
+use Rattle.of_live.specs.Turns.{Act, Records, Told, Logs, Writes, LiveTurn, IsLiveTurn, turn_acts, after_live_turn, closes, drops, live_effects, has_no_bytes, is_ready, is_stuck, may_write, offered, ran, results, rows_text}
 
 -- what events gave, and their rows
-pub record Work : Type 0 where
+pub record LiveWork : Type 0 where
   pub reports : List Report
   pub text : List ℕ
 
-abbrev pub text_of : Bool → List Event → List ℕ
-text_of keeps events = if keeps then rows_text events else []
+abbrev pub logged_text : Bool → List Event → List ℕ
+logged_text keeps events = if keeps then rows_text events else []
 
 -- events happened to the switch
-pub record Does (keeps : Bool) (events : List Event) (s s' : State) (w w' : Work) : Type 0 where
+pub record Does (keeps : Bool) (events : List Event) (s s' : State) (w w' : LiveWork) : Type 0 where
   pub state_is : s' ≡ (run events s).state
   pub reports_are : w'.reports ≡ w.reports ++ (run events s).reports
-  pub text_is : w'.text ≡ w.text ++ text_of keeps events
+  pub text_is : w'.text ≡ w.text ++ logged_text keeps events
 
 -- what came is heard, and what it gives for the controller waits
-abbrev pub heard : Came → Live → Live
-heard came l = let b = begun came l in record {
+abbrev pub after_hearing : Came → Live → Live
+after_hearing came l = let b = begun came l in record {
   state = (ran came l).state;
   rows = rows_after came b;
   peers = peers_of came b;
@@ -37,20 +37,20 @@ heard came l = let b = begun came l in record {
 
 -- what is known of the connection when what waits is offered to it
 abbrev pub asks_by : Came → Live → Asks
-asks_by came b = record { is_open = may_write came b; is_ready = is_ready came; is_empty = is_empty b.waiting }
+asks_by came b = record { is_open = may_write came b; is_ready = is_ready came; is_empty = has_no_bytes b.waiting }
 
 abbrev pub asks_of : Came → Live → Asks
 asks_of came l = asks_by came (begun came l)
 
-pub record Hears (came : Came) (keeps : Bool) (asks : Asks) (l l' : Live) (w' : Work) : Type 0 where
-  pub live_is : l' ≡ heard came l
+pub record Hears (came : Came) (keeps : Bool) (asks : Asks) (l l' : Live) (w' : LiveWork) : Type 0 where
+  pub live_is : l' ≡ after_hearing came l
   pub asks_are : asks ≡ asks_of came l
-  pub reports_are : effects_in w'.reports ≡ effects_of came l
-  pub text_is : w'.text ≡ text_of keeps (events_of came l)
+  pub reports_are : effects_in w'.reports ≡ live_effects came l
+  pub text_is : w'.text ≡ logged_text keeps (events_of came l)
 
 -- OFFERING what waits
 abbrev pub offers : Asks → Live → Bool
-offers a l = a.is_open && not (is_empty l.waiting) && (a.is_empty || a.is_ready)
+offers a l = a.is_open && not (has_no_bytes l.waiting) && (a.is_empty || a.is_ready)
 
 abbrev pub offered_acts : Asks → ℕ → Bool → Live → List Act
 offered_acts a taken failed l = if offers a l then Writes l.waiting taken failed ∷ [] else []
@@ -62,21 +62,21 @@ offered_to a taken l = record l {
 }
 
 -- and closing the connection
-abbrev pub closing : Asks → Bool → Live → Bool
-closing a failed l = a.is_open && ((failed || is_stuck l.waiting l.since l.time) || not (is_connected l))
+abbrev pub is_closing : Asks → Bool → Live → Bool
+is_closing a failed l = a.is_open && ((failed || is_stuck l.waiting l.since l.time) || not (is_connected l))
 
-abbrev pub closed : Asks → Bool → Live → Live
-closed a failed l = record l {
-  waiting = if closing a failed l || not a.is_open then [] else l.waiting;
-  over = closing a failed l && is_connected l;
+abbrev pub after_closing : Asks → Bool → Live → Live
+after_closing a failed l = record l {
+  waiting = if is_closing a failed l || not a.is_open then [] else l.waiting;
+  over = is_closing a failed l && is_connected l;
 }
 
 pub record Settles (a : Asks) (l l' : Live) (old new : Option (List Act)) : Type 0 where
   pub taken : ℕ
   pub failed : Bool
   pub fits : taken ≤ length l.waiting
-  pub live_is : l' ≡ closed a (offers a l && failed) (offered_to a taken l)
-  pub told_is : Records old (offered_acts a taken failed l ++ closes (closing a (offers a l && failed) (offered_to a taken l))) new
+  pub live_is : l' ≡ after_closing a (offers a l && failed) (offered_to a taken l)
+  pub told_is : Records old (offered_acts a taken failed l ++ closes (is_closing a (offers a l && failed) (offered_to a taken l))) new
 
 -- the rows were written to the log, if there are any
 abbrev pub logged : List ℕ → Bool → List Act
@@ -85,7 +85,7 @@ logged text whole = if length text == 0 then [] else Logs text whole ∷ []
 -- what came was told, and all that it gives went out, or the run halts
 abbrev pub Passes : Result (Unit {0}) Halt → Bool → Came → Live → Live → (old new : Option (List Act)) → Type 0
 Passes (Ok u) keeps came l l' old new = (taken : ℕ) × (failed : Bool) × (taken ≤ length (offered came l))
-    × (l' ≡ after (record { came = came; taken = taken; failed = failed }) l)
+    × (l' ≡ after_live_turn (record { came = came; taken = taken; failed = failed }) l)
     × Records old (results keeps (record { came = came; taken = taken; failed = failed }) l) new
 Passes (Err (Bad n)) keeps came l l' old new = ⊥
 Passes (Err Memory) keeps came l l' old new = (some : Bool) × Records old (if some then drops came l else []) new
@@ -94,18 +94,18 @@ Passes (Err Write) keeps came l l' old new = (keeps ≡ true) × Records old (dr
 
 -- a turn, of which all went out
 pub record GoesOn (keeps : Bool) (l l' : Live) (old new : Option (List Act)) : Type 0 where
-  pub turn : Turn
-  pub is : IsTurn turn l
-  pub live_is : l' ≡ after turn l
-  pub told_is : Records old (acts keeps turn l) new
+  pub turn : LiveTurn
+  pub is : IsLiveTurn turn l
+  pub live_is : l' ≡ after_live_turn turn l
+  pub told_is : Records old (turn_acts keeps turn l) new
 
 -- or the run halts, and nothing of the turn goes out
-abbrev pub Halts : Halt → Bool → Live → Live → (old new : Option (List Act)) → Type 0
-Halts (Bad n) keeps l l' old new = ⊥
-Halts Memory keeps l l' old new = (came : Came) × (some : Bool) × (Records old (Told came ∷ (if some then drops came l else [])) new)
-Halts Read keeps l l' old new = (l' ≡ l) × (Records old (Told Fault ∷ []) new)
-Halts Write keeps l l' old new = (keeps ≡ true) × ((came : Came) × (Records old (Told came ∷ drops came l ++ Logs (rows_text (events_of came l)) false ∷ []) new))
+abbrev pub LiveHalts : Halt → Bool → Live → Live → (old new : Option (List Act)) → Type 0
+LiveHalts (Bad n) keeps l l' old new = ⊥
+LiveHalts Memory keeps l l' old new = (came : Came) × (some : Bool) × (Records old (Told came ∷ (if some then drops came l else [])) new)
+LiveHalts Read keeps l l' old new = (l' ≡ l) × (Records old (Told Fault ∷ []) new)
+LiveHalts Write keeps l l' old new = (keeps ≡ true) × ((came : Came) × (Records old (Told came ∷ drops came l ++ Logs (rows_text (events_of came l)) false ∷ []) new))
 
 abbrev pub Goes : Result (Unit {0}) Halt → Bool → Live → Live → (old new : Option (List Act)) → Type 0
 Goes (Ok u) keeps l l' old new = GoesOn keeps l l' old new
-Goes (Err halt) keeps l l' old new = Halts halt keeps l l' old new
+Goes (Err halt) keeps l l' old new = LiveHalts halt keeps l l' old new

@@ -1,6 +1,6 @@
 //! A network in memory, which tells what its script says and records what passes.
 ghost use Rattle.std.specs.Prelude.{◌≡◌, ◌≤◌, ◌∷◌, ◌++◌, [], length, take, Some, IfOk, IsTrue};
-ghost use Rattle.of_live.specs.Memory.{act_of, told};
+ghost use Rattle.of_live.specs.Memory.{act_of, passed_acts};
 ghost use Rattle.of_live.specs.Live.{Datagram, Fault, Heard};
 ghost use Rattle.of_live.specs.Turns.{Act, Logs, Records, Sends, Told, Writes};
 
@@ -154,7 +154,7 @@ fn heard(alloc: Global, bytes: &[u8]) -> Result<Passed, AllocError>
 impl MemoryNetwork {
     /// A network of that script.
     pub fn new(alloc: Global, script: Vec<Line>, taking: Taking) -> Self
-        ensures told { told result ≡ Some [] }
+        ensures told { passed_acts result ≡ Some [] }
         ensures keeps { result.taking ≡ taking }
     {
         MemoryNetwork {
@@ -169,7 +169,7 @@ impl MemoryNetwork {
 
     // Appends a record, if there is memory for it.
     fn note(&mut self, made: Result<Passed, AllocError>)
-        ensures told { (act : Act) → IfOk made (λ p. act_of p ≡ act) → Records (told self.old) (act ∷ []) (told self.new) }
+        ensures told { (act : Act) → IfOk made (λ p. act_of p ≡ act) → Records (passed_acts self.old) (act ∷ []) (passed_acts self.new) }
         ensures taking { self.new.taking ≡ self.old.taking }
     {
         let Ok(passed) = made else {
@@ -184,7 +184,7 @@ impl MemoryNetwork {
     // The script tells nothing more, or what does not fit.
     fn fail(&mut self) -> Input
         ensures input { result ≡ Input.Fault }
-        ensures told { Records (told self.old) (Told Fault ∷ []) (told self.new) }
+        ensures told { Records (passed_acts self.old) (Told Fault ∷ []) (passed_acts self.new) }
         ensures taking { self.new.taking ≡ self.old.taking }
     {
         self.note(Ok(Passed::Fault));
@@ -193,7 +193,7 @@ impl MemoryNetwork {
 }
 
 impl Network for MemoryNetwork {
-    ghost told = { λ n. told n };
+    ghost told = { λ n. passed_acts n };
 
     ghost keeps = { λ n. n.taking.has_log };
 

@@ -1,6 +1,6 @@
 //! Event rows that are written while the switch runs.
 ghost use Rattle.std.specs.Prelude.{◌≡◌, Some, IfOk};
-ghost use Rattle.of_replay.specs.Rows.{row_of, with_bytes};
+ghost use Rattle.of_replay.specs.Rows.{row_of_line, with_bytes};
 ghost use Rattle.of_live.specs.RunningRows.{running_row};
 
 use of_replay::{Row, read_row};
@@ -40,7 +40,7 @@ pub fn read_running_row(
     line: &[u8],
     buffer: &mut Vec<u8>,
 ) -> Result<RunningRow, AllocError>
-    ensures { IfOk result (λ it. it ≡ running_row (row_of line.now)) }
+    ensures { IfOk result (λ it. it ≡ running_row (row_of_line line.now)) }
 {
     match read_row(line, buffer)? {
         Some(row) => running_row_of(alloc, row, buffer),

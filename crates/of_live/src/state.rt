@@ -7,9 +7,9 @@ ghost use Rattle.of_switch.specs.Runs.{effects_in};
 ghost use Rattle.of_serve.specs.Turns.{answer_in, due, left};
 ghost use Rattle.std.specs.List.{flat_map};
 ghost use Rattle.of_live.specs.Inputs.{IsInput, came_of};
-ghost use Rattle.of_live.specs.Live.{asked, events_in, frame_of, is_connected as connected, loss, peers_after, peers_of, received, rows_after, time_of};
+ghost use Rattle.of_live.specs.Live.{running_row_events, coming_events, frame_event, is_connected as connected, loss, peers_after, peers_of, received_datagram, rows_after, time_of};
 ghost use Rattle.of_live.specs.Turns.{Records, Writes, closes as closing_acts, dropped_in, dropped_of, drops, is_stuck as stuck, may_write as may_write_after};
-ghost use Rattle.of_live.specs.Working.{Does, Goes, Hears, Passes, Settles, asks_by, closing, offered_acts, offered_to, offers, text_of};
+ghost use Rattle.of_live.specs.Working.{Does, Goes, Hears, Passes, Settles, asks_by, is_closing, offered_acts, offered_to, offers, logged_text};
 
 use crate::network::{Dropped, Endpoint, Input, Network, Written};
 use crate::peers::{Peer, learn, may_send, peer_of};
@@ -87,7 +87,7 @@ impl<L: Lookup> Live<L> {
         ensures live { OnOk result (self.new ≡ (if self.old.over || (another && connected self.old)
             then record self.old { state = lost self.old.state; waiting = []; over = false } else self.old)) }
         ensures reports { OnOk result (work.new.reports ≡ work.old.reports) }
-        ensures text { OnOk result (work.new.text ≡ work.old.text ++ text_of keeps (loss (self.old.over || (another && connected self.old)))) }
+        ensures text { OnOk result (work.new.text ≡ work.old.text ++ logged_text keeps (loss (self.old.over || (another && connected self.old)))) }
     {
         if self.over || (another && self.switch.is_connected()) {
             work.note_loss(keeps)?;
@@ -122,8 +122,8 @@ impl<L: Lookup> Live<L> {
 
     // The port and the frame of a datagram, or why it is dropped.
     fn receive<'a>(&self, from: Endpoint, datagram: &'a [u8]) -> Result<(u32, &'a [u8]), Dropped>
-        ensures ok { IfOk result (λ d. received self.now from (carried datagram.now) ≡ Ok (record { vni = d.0; frame = d.1.now })) }
-        ensures err { IfErr result (λ why. received self.now from (carried datagram.now) ≡ Err why) }
+        ensures ok { IfOk result (λ d. received_datagram self.now from (carried datagram.now) ≡ Ok (record { vni = d.0; frame = d.1.now })) }
+        ensures err { IfErr result (λ why. received_datagram self.now from (carried datagram.now) ≡ Err why) }
     {
         let Some((network, frame)) = read_datagram(datagram) else {
             return Err(Dropped::NoNetwork);
@@ -146,12 +146,13 @@ impl<L: Lookup> Live<L> {
         keeps: bool,
         work: &mut Work,
     ) -> Result<(), AllocError>
-        ensures does { OnOk result (Does keeps (frame_of (received self.old from (carried datagram.now))) self.old.state self.new.state work.old work.new) }
+        ensures does { OnOk result
+            (Does keeps (frame_event (received_datagram self.old from (carried datagram.now))) self.old.state self.new.state work.old work.new) }
         ensures peers { OnOk result (self.new ≡ record self.old {
           state = self.new.state;
-          peers = peers_after from (received self.old from (carried datagram.now)) self.old.peers;
+          peers = peers_after from (received_datagram self.old from (carried datagram.now)) self.old.peers;
         }) }
-        ensures told { Records (N.told network.old) (dropped_in (received self.old from (carried datagram.now))) (N.told network.new) }
+        ensures told { Records (N.told network.old) (dropped_in (received_datagram self.old from (carried datagram.now))) (N.told network.new) }
         ensures keeps { N.keeps network.new ≡ N.keeps network.old }
     {
         match self.receive(from, datagram) {
@@ -191,7 +192,7 @@ impl<L: Lookup> Live<L> {
 
     // A row that somebody wrote while the switch runs.
     fn take_row(&mut self, row: &Event, keeps: bool, work: &mut Work) -> Result<(), AllocError>
-        ensures does { OnOk result (Does keeps (asked row.now) self.old.state self.new.state work.old work.new) }
+        ensures does { OnOk result (Does keeps (running_row_events row.now) self.old.state self.new.state work.old work.new) }
         ensures live { OnOk result (self.new ≡ record self.old { state = self.new.state }) }
     {
         match row {
@@ -221,7 +222,7 @@ impl<L: Lookup> Live<L> {
     ) -> Result<(), AllocError>
         requires fits { IsInput input.now }
         requires room { length buffer.now ≡ 65536 }
-        ensures does { OnOk result (Does keeps (events_in (came_of input.now buffer.now) self.old) self.old.state self.new.state work.old work.new) }
+        ensures does { OnOk result (Does keeps (coming_events (came_of input.now buffer.now) self.old) self.old.state self.new.state work.old work.new) }
         ensures live { OnOk result (self.new ≡ record self.old {
           state = self.new.state;
           rows = rows_after (came_of input.now buffer.now) self.old;
@@ -346,7 +347,7 @@ impl<L: Lookup> Live<L> {
 
     // Whether the connection is closed.
     fn is_closed(&self, asks: Asks, failed: bool) -> bool
-        ensures { result ≡ closing asks failed self.now }
+        ensures { result ≡ is_closing asks failed self.now }
     {
         asks.is_open && (failed || self.is_stuck() || !self.switch.is_connected())
     }

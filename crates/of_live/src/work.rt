@@ -3,10 +3,10 @@ ghost use Rattle.std.specs.Prelude.{◌≡◌, ◌∷◌, ◌++◌, [], true, le
 ghost use Rattle.std.specs.List.{flat_map};
 ghost use Rattle.of_switch.specs.declared.event.Event.TheVariants.{Frame, Lost};
 ghost use Rattle.of_switch.specs.Runs.{effects_in, report_of, reports_of};
-ghost use Rattle.of_serve.specs.Turns.{acts, answer_in, due, effects_of as effects_given, left, waits as has_to_wait};
+ghost use Rattle.of_serve.specs.Turns.{events_of_row, answer_in, due, report_effects as effects_given, left, waits as has_to_wait};
 ghost use Rattle.of_live.specs.Live.{peer_of as peer_of_port};
 ghost use Rattle.of_live.specs.Turns.{Records, sent_in, sent_to};
-ghost use Rattle.of_live.specs.Working.{Does, logged, text_of};
+ghost use Rattle.of_live.specs.Working.{Does, logged, logged_text};
 
 use crate::network::{Dropped, Network};
 use crate::peers::{Peer, peer_of};
@@ -30,9 +30,9 @@ pub struct Work {
 
 impl Model for Work {
     ghost use Rattle.of_switch.specs.Runs.{reports_of};
-    ghost use Rattle.of_live.specs.Working.{Work};
+    ghost use Rattle.of_live.specs.Working.{LiveWork};
 
-    ghost Value = { Work };
+    ghost Value = { LiveWork };
 
     ghost view = { λ w. record { reports = reports_of w.reports.items; text = w.text.items } };
 }
@@ -59,7 +59,7 @@ impl Work {
     /// The row of a loss, if there is a log.
     pub fn note_loss(&mut self, keeps: bool) -> Result<(), AllocError>
         ensures reports { self.new.reports ≡ self.old.reports }
-        ensures text { OnOk result (self.new.text ≡ self.old.text ++ text_of keeps (Lost ∷ [])) }
+        ensures text { OnOk result (self.new.text ≡ self.old.text ++ logged_text keeps (Lost ∷ [])) }
     {
         if keeps {
             push_row(&mut self.text, &Event::Lost)?;
@@ -186,7 +186,7 @@ fn act<L: Lookup>(
     keeps: bool,
     work: &mut Work,
 ) -> Result<(), AllocError>
-    ensures { OnOk result (Does keeps (acts row.now) switch.old switch.new work.old work.new) }
+    ensures { OnOk result (Does keeps (events_of_row row.now) switch.old switch.new work.old work.new) }
 {
     match row {
         Event::Moment(_) => Ok(()),

@@ -26,7 +26,7 @@ use Rattle.of_machine.specs.declared.data.Item.TheVariants.{Sent}
 use Rattle.of_ports.specs.Ports.{may_send, port_at, other_ports}
 use Rattle.of_machine.specs.TheWorld.{TheWorld}
 use Rattle.of_machine.specs.Sound.{longest, IsSound, IsBelow, AllBelow, IsBucket, AllBuckets}
-use Rattle.of_machine.specs.Rows.{Work, Lookup, Do, RunSet, Act, Task, task, row, acts, works, key_of, lookup_row, entry_row, at_entry, output_row, rewritten, dec_ttl_row, group_row, copies, with_metadata, set_out, Emitted, emission, to_port}
+use Rattle.of_machine.specs.Rows.{Work, Lookup, Do, RunSet, Act, Task, task, row, acts, works, key_of, lookup_row, entry_row, at_entry, output_row, rewritten, dec_ttl_row, group_action_row, copies, with_metadata, set_out, Emitted, emission, to_port}
 use Rattle.of_machine.specs.Weights.{IsSet, AllFitWork, IsFit, AllFit}
 use Rattle.of_machine.specs.Runs.{Machine, step, first_step, after, starting}
 use Rattle.of_machine.specs.Growth.{table_pushes, act_pushes, list_pushes, work_pushes, IsLow, AllLow, frame_of, AllShort, AllFrames}
@@ -89,7 +89,7 @@ module _ (P : List ℕ → Type 0) (p : Packet) (low : P p.frame) where
   aged_each rest Expired = (low, tt)
   aged_each rest Absent = tt
 
-  group_each : (w : TheWorld) (rest : List Work) (g : ℕ) (o : Option (List ℕ)) → Each P (group_row w p rest g o).items
+  group_each : (w : TheWorld) (rest : List Work) (g : ℕ) (o : Option (List ℕ)) → Each P (group_action_row w p rest g o).items
   group_each w rest g None = tt
   group_each w rest g (Some ks) = tt
 
@@ -204,7 +204,7 @@ module _ (w : TheWorld) where
     copies_low b g p (k ∷ ks) frame room chain there =
         (record { frame = frame; room = copy_room b g k p room chain there.0 }, copies_low b g p ks frame room chain there.1)
 
-    group_low : (b g : ℕ) (p : Packet) (rest : List Work) (o : Option (List ℕ)) → w.chosen g ≡ o → IsFrame p.frame → length p.frame + 4 * max (w.chain g) (work_pushes w p.action_set rest) ≤ b → AllLow w b (group_row w p rest g o).left
+    group_low : (b g : ℕ) (p : Packet) (rest : List Work) (o : Option (List ℕ)) → w.chosen g ≡ o → IsFrame p.frame → length p.frame + 4 * max (w.chain g) (work_pushes w p.action_set rest) ≤ b → AllLow w b (group_action_row w p rest g o).left
     group_low b g p rest None e frame room = one_low b p rest frame (omega arith)
     group_low b g p rest (Some ks) e frame room =
         low_more b (copies w g p ks) (task p rest ∷ [])

@@ -25,7 +25,7 @@ use Rattle.of_machine.specs.declared.machine.Going.TheVariants.{Continues, Ended
 use Rattle.of_machine.specs.Gained.{Gains}
 use Rattle.of_machine.specs.Outside.{is_to_tables}
 use Rattle.of_machine.specs.TheWorld.{TheWorld}
-use Rattle.of_machine.specs.Rows.{Work, Lookup, Do, RunSet, Act, lookup_row, entry_row, miss_row, at_entry, works, key_of, Task, task, Row, row, act_row, output_row, table_row, rewritten, dec_ttl_row, group_row, goes_on, emits, emission, packet_in, fresh, bucket_copy, copies, with_metadata, acts, set_out}
+use Rattle.of_machine.specs.Rows.{Work, Lookup, Do, RunSet, Act, lookup_row, entry_row, miss_row, at_entry, works, key_of, Task, task, Row, row, act_row, output_row, output_to_table_row, rewritten, dec_ttl_row, group_action_row, goes_on, emits, emission, packet_in_emitted, fresh_packet, bucket_copy, copies, with_metadata, acts, set_out}
 use Rattle.of_machine.specs.Runs.{point, Moves, left_of}
 use Rattle.of_machine.proofs.Aged.{aged_same}
 use Rattle.of_machine.proofs.Reaching.{one}
@@ -60,13 +60,13 @@ module _ (w : TheWorld) (keeps : Bool) (p : Packet) (rest : List Work) (others :
   outputs o' port max_len out gains =
       by_row o' (Act (Output port max_len) ∷ rest) (emits (DidAct (Output port max_len)) (emission w.ports p port max_len) (task p rest ∷ [])) (output_is (Output port max_len) port max_len out) gains.items gains.counts
 
-  tables_is : (a : Action) → IsTrue (is_to_tables a) → act_row w p rest a ≡ table_row p rest a
+  tables_is : (a : Action) → IsTrue (is_to_tables a) → act_row w p rest a ≡ output_to_table_row p rest a
   tables_is (Output port max_len) e = rw e refl
   tables_is other e = cc
 
   pub dispatches : (a : Action) → IsTrue (is_to_tables a) → (keeps ≡ true → told' ≡ told ++ DidAct a ∷ []) →
-      Moves w keeps (point (task p (Act a ∷ rest) ∷ others) o told) (point (task (fresh p) (Lookup 0 ∷ []) ∷ task p rest ∷ others) o told')
-  dispatches a e = by_row o (Act a ∷ rest) (table_row p rest a) (tables_is a e) (sym (append-nil o.items.items)) (sym (append-nil o.counts.items))
+      Moves w keeps (point (task p (Act a ∷ rest) ∷ others) o told) (point (task (fresh_packet p) (Lookup 0 ∷ []) ∷ task p rest ∷ others) o told')
+  dispatches a e = by_row o (Act a ∷ rest) (output_to_table_row p rest a) (tables_is a e) (sym (append-nil o.items.items)) (sym (append-nil o.counts.items))
 
   -- neither an output nor a group nor a decrement of the TTL
   pub rewrites : (a : Action) → ((port max_len : ℕ) → a ≢ Output port max_len) → ((g : ℕ) → a ≢ ToGroup g) → a ≢ DecNwTtl → (frame : List ℕ) → frame ≡ rewritten a p.frame → (keeps ≡ true → told' ≡ told ++ DidAct a ∷ []) →
@@ -79,7 +79,7 @@ module _ (w : TheWorld) (keeps : Bool) (p : Packet) (rest : List Work) (others :
   aged_is : (answer : Ttl) → answer ≡ dec_ttl_result (ttl_of (layers_of p.frame)) → act_row w p rest DecNwTtl ≡ dec_ttl_row p rest answer
   aged_is answer e = rw (← e) refl
 
-  pub expires : (o' : Outcome) (frame : List ℕ) (answer : Ttl) → answer ≡ Expired → answer ≡ dec_ttl_result (ttl_of (layers_of p.frame)) → IsFrame p.frame → frame ≡ frame_ttl_decremented p.frame → Gains o (packet_in InvalidTtl None (record p { frame = frame })) o' → (keeps ≡ true → told' ≡ told ++ TtlExpired ∷ []) →
+  pub expires : (o' : Outcome) (frame : List ℕ) (answer : Ttl) → answer ≡ Expired → answer ≡ dec_ttl_result (ttl_of (layers_of p.frame)) → IsFrame p.frame → frame ≡ frame_ttl_decremented p.frame → Gains o (packet_in_emitted InvalidTtl None (record p { frame = frame })) o' → (keeps ≡ true → told' ≡ told ++ TtlExpired ∷ []) →
       Moves w keeps (point (task p (Act DecNwTtl ∷ rest) ∷ others) o told) (point (task (record p { frame = frame }) [] ∷ others) o' told')
   expires o' frame answer is e known same =
       let expired : Expired ≡ dec_ttl_result (ttl_of (layers_of p.frame)) = sym is ∙ e in
@@ -95,14 +95,14 @@ module _ (w : TheWorld) (keeps : Bool) (p : Packet) (rest : List Work) (others :
       let kept : frame ≡ p.frame = same ∙ aged_same p.frame known (λ done. let x = none in cc) in
       rw kept (quiet (Act DecNwTtl ∷ rest) (DidAct DecNwTtl) p rest (aged_is Absent none))
 
-  no_group : (g : ℕ) → None ≡ w.chosen g → group_row w p rest g (w.chosen g) ≡ goes_on (DidAct (ToGroup g)) p rest
+  no_group : (g : ℕ) → None ≡ w.chosen g → group_action_row w p rest g (w.chosen g) ≡ goes_on (DidAct (ToGroup g)) p rest
   no_group g e = rw (← e) refl
 
   pub passes_by : (g : ℕ) → None ≡ w.chosen g → (keeps ≡ true → told' ≡ told ++ DidAct (ToGroup g) ∷ []) →
       Moves w keeps (point (task p (Act (ToGroup g) ∷ rest) ∷ others) o told) (point (task p rest ∷ others) o told')
   passes_by g e = quiet (Act (ToGroup g) ∷ rest) (DidAct (ToGroup g)) p rest (no_group g e)
 
-  group_is : (g : ℕ) (places : List ℕ) → Some places ≡ w.chosen g → group_row w p rest g (w.chosen g) ≡ group_row w p rest g (Some places)
+  group_is : (g : ℕ) (places : List ℕ) → Some places ≡ w.chosen g → group_action_row w p rest g (w.chosen g) ≡ group_action_row w p rest g (Some places)
   group_is g places e = rw (← e) refl
 
   pub groups : (o' : Outcome) (g : ℕ) (places : List ℕ) → Some places ≡ w.chosen g →
@@ -111,7 +111,7 @@ module _ (w : TheWorld) (keeps : Bool) (p : Packet) (rest : List Work) (others :
       Moves w keeps (point (task p (Act (ToGroup g) ∷ rest) ∷ others) o told) (point (copies w g p places ++ task p rest ∷ others) o' told')
   groups o' g places e items counts line =
       subst (λ (ts : List Task). Moves w keeps (point (task p (Act (ToGroup g) ∷ rest) ∷ others) o told) (point ts o' told')) (append_assoc (copies w g p places) (task p rest ∷ []) others)
-      (by_row o' (Act (ToGroup g) ∷ rest) (group_row w p rest g (Some places)) (group_is g places e) (items ∙ sym (append-nil o.items.items)) counts line)
+      (by_row o' (Act (ToGroup g) ∷ rest) (group_action_row w p rest g (Some places)) (group_is g places e) (items ∙ sym (append-nil o.items.items)) counts line)
 
   -- ---- instructions
 
@@ -170,7 +170,7 @@ copies_at w g p ks i lt = rw (add-one, drop-cons ks i 0) refl
 pub copy_is : (w : TheWorld) (g k : ℕ) (p q : Packet) (set l : List Action) → q ≡ record p { action_set = [] } → w.bucket g k ≡ Some l → set ≡ with_actions q.action_set l → record q { action_set = set } ≡ bucket_copy w g p k
 copy_is w g k p q set l same there written = rw (written, same, there) refl
 
-pub fresh_is : (p q : Packet) → q ≡ record p { action_set = [] } → record q { metadata = 0 } ≡ fresh p
+pub fresh_is : (p q : Packet) → q ≡ record p { action_set = [] } → record q { metadata = 0 } ≡ fresh_packet p
 fresh_is p q same = rw same refl
 
 pub left_nil : (going : Going) → left_of going [] ≡ []

@@ -8,7 +8,7 @@ use Rattle.of_machine.specs.declared.data.Step.{Step}
 use Rattle.of_machine.specs.declared.data.Outcome.{Outcome}
 use Rattle.of_machine.specs.TheWorld.{TheWorld}
 use Rattle.of_machine.specs.Rows.{Work, Task, task, row}
-use Rattle.of_machine.specs.Runs.{Machine, step, first_step, taken, after, Point, point, Reached, Stopped, Moves, Stops, starting, IsPrefixOfRun}
+use Rattle.of_machine.specs.Runs.{Machine, step, first_step, taken, after, Point, point, Reached, Stopped, Moves, RunStops, starting, IsPrefixOfRun}
 
 -- a point of a list of packets
 abbrev pub at : List Task → List Item → List Count → List Step → Point
@@ -41,7 +41,7 @@ one w keeps p work others o o' told told' items counts line =
     rw (items, counts) (one_at w keeps p work others o.items.items o.counts.items told told' line)
 
 -- a call that fails leaves the log as it is
-pub stays : (w : TheWorld) (keeps : Bool) (old : Point) (told' : List Step) → told' ≡ old.told → Stops w keeps old told'
+pub stays : (w : TheWorld) (keeps : Bool) (old : Point) (told' : List Step) → told' ≡ old.told → RunStops w keeps old told'
 stays w keeps old told' same start h = record {
   steps = h.steps;
   tells = λ k. same ∙ (h.tells k ∙ sym (ap (λ (m : Machine). m.lines) h.reached));

@@ -21,11 +21,11 @@ use Rattle.of_machine.specs.declared.data.Step.{Step}
 use Rattle.of_machine.specs.declared.data.Step.TheVariants.{Act as DidAct}
 use Rattle.of_ports.specs.Ports.{may_send, port_at}
 use Rattle.of_machine.specs.TheWorld.{TheWorld}
-use Rattle.of_machine.specs.Rows.{Work, Act, Do, Lookup, RunSet, lookup_row, entry_row, act_row, output_row, table_row, dec_ttl_row, group_row, copies, bucket_copy, emission, to_port, emits, Emitted, key_of, Task, task, Row, row}
+use Rattle.of_machine.specs.Rows.{Work, Act, Do, Lookup, RunSet, lookup_row, entry_row, act_row, output_row, output_to_table_row, dec_ttl_row, group_action_row, copies, bucket_copy, emission, to_port, emits, Emitted, key_of, Task, task, Row, row}
 use Rattle.of_machine.specs.Weights.{act_weight, acts_weight, work_weight, task_weight}
 use Rattle.of_machine.specs.Runs.{Machine, taken, step, first_step, after, starting, run_of}
 use Rattle.of_machine.proofs.Ending.{run_is_after}
-use Rattle.of_machine.specs.Renumbering.{IsRenumbered, renumbered, renumbered_count, renumbered_step}
+use Rattle.of_machine.specs.Renumbering.{IsRenumbered, renumbered_machine, renumbered_count, renumbered_step}
 
 module _ (number : ℕ → ℕ → ℕ) (w v : TheWorld) (h : IsRenumbered number w v) where
   -- the row with its numbers changed
@@ -69,7 +69,7 @@ module _ (number : ℕ → ℕ → ℕ) (w v : TheWorld) (h : IsRenumbered numbe
       ∙ ap (λ (cs : List Count). record (emits (DidAct a) (emission w.ports p port max_len) (task p rest ∷ [])) { counts = cs }) (sym (emission_counts w.ports p port max_len))
 
   output_is : (p : Packet) (rest : List Work) (a : Action) (port max_len : ℕ) → output_row v p rest a port max_len ≡ renumbered_row (output_row w p rest a port max_len)
-  output_is p rest a port max_len = either_is (port == OFPP_TABLE) (table_row p rest a) _ (table_row p rest a) _ refl (emits_is p rest a port max_len)
+  output_is p rest a port max_len = either_is (port == OFPP_TABLE) (output_to_table_row p rest a) _ (output_to_table_row p rest a) _ refl (emits_is p rest a port max_len)
 
   bucket_counts : (g bytes : ℕ) (ks : List ℕ) → map (renumbered_count number) (map (λ place. Bucket g place bytes) ks) ≡ map (λ place. Bucket g place bytes) ks
   bucket_counts g bytes [] = refl
@@ -81,11 +81,11 @@ module _ (number : ℕ → ℕ → ℕ) (w v : TheWorld) (h : IsRenumbered numbe
       ap (λ (o : Option (List Action)). task (record p { action_set = with_actions [] (unwrap_or o []) }) (RunSet ∷ []) ∷ copies v g p ks) (h.bucket g k)
       ∙ ap (λ (ts : List Task). task (bucket_copy w g p k) (RunSet ∷ []) ∷ ts) (copies_are g p ks)
 
-  group_is : (p : Packet) (rest : List Work) (g : ℕ) (o : Option (List ℕ)) → group_row v p rest g o ≡ renumbered_row (group_row w p rest g o)
+  group_is : (p : Packet) (rest : List Work) (g : ℕ) (o : Option (List ℕ)) → group_action_row v p rest g o ≡ renumbered_row (group_action_row w p rest g o)
   group_is p rest g None = refl
   group_is p rest g (Some ks) =
-      ap (λ (ts : List Task). record (group_row v p rest g (Some ks)) { left = ts ++ task p rest ∷ [] }) (copies_are g p ks)
-      ∙ ap (λ (cs : List Count). record (group_row w p rest g (Some ks)) { counts = Group g (length p.frame) ∷ cs }) (sym (bucket_counts g (length p.frame) ks))
+      ap (λ (ts : List Task). record (group_action_row v p rest g (Some ks)) { left = ts ++ task p rest ∷ [] }) (copies_are g p ks)
+      ∙ ap (λ (cs : List Count). record (group_action_row w p rest g (Some ks)) { counts = Group g (length p.frame) ∷ cs }) (sym (bucket_counts g (length p.frame) ks))
 
   aged_is : (p : Packet) (rest : List Work) (answer : Ttl) → dec_ttl_row p rest answer ≡ renumbered_row (dec_ttl_row p rest answer)
   aged_is p rest Done = refl
@@ -94,7 +94,7 @@ module _ (number : ℕ → ℕ → ℕ) (w v : TheWorld) (h : IsRenumbered numbe
 
   act_is : (p : Packet) (rest : List Work) (a : Action) → act_row v p rest a ≡ renumbered_row (act_row w p rest a)
   act_is p rest (Output port max_len) = output_is p rest (Output port max_len) port max_len
-  act_is p rest (ToGroup g) = ap (group_row v p rest g) (h.chosen g) ∙ group_is p rest g (w.chosen g)
+  act_is p rest (ToGroup g) = ap (group_action_row v p rest g) (h.chosen g) ∙ group_is p rest g (w.chosen g)
   act_is p rest DecNwTtl = aged_is p rest (dec_ttl_result (ttl_of (layers_of p.frame)))
   act_is p rest other = refl
 
@@ -109,16 +109,16 @@ module _ (number : ℕ → ℕ → ℕ) (w v : TheWorld) (h : IsRenumbered numbe
   row_is p (RunSet ∷ rest) = refl
   row_is p (Act a ∷ rest) = act_is p rest a
 
-  taken_is : (m : Machine) (r : Row) (others : List Task) → taken (renumbered number m) (renumbered_row r) others ≡ renumbered number (taken m r others)
+  taken_is : (m : Machine) (r : Row) (others : List Task) → taken (renumbered_machine number m) (renumbered_row r) others ≡ renumbered_machine number (taken m r others)
   taken_is m r others =
-      ap (λ (cs : List Count). record (taken (renumbered number m) (renumbered_row r) others) { counts = cs }) (sym (map-append (renumbered_count number) m.counts r.counts))
-      ∙ ap (λ (ls : List Step). record (renumbered number (taken m r others)) { lines = ls }) (sym (map-append (renumbered_step number) m.lines (r.line ∷ [])))
+      ap (λ (cs : List Count). record (taken (renumbered_machine number m) (renumbered_row r) others) { counts = cs }) (sym (map-append (renumbered_count number) m.counts r.counts))
+      ∙ ap (λ (ls : List Step). record (renumbered_machine number (taken m r others)) { lines = ls }) (sym (map-append (renumbered_step number) m.lines (r.line ∷ [])))
 
-  first_is : (m : Machine) (ts : List Task) → first_step v (renumbered number m) ts ≡ renumbered number (first_step w m ts)
+  first_is : (m : Machine) (ts : List Task) → first_step v (renumbered_machine number m) ts ≡ renumbered_machine number (first_step w m ts)
   first_is m [] = refl
-  first_is m (t ∷ others) = ap (λ (r : Row). taken (renumbered number m) r others) (row_is t.packet t.work) ∙ taken_is m (row w t.packet t.work) others
+  first_is m (t ∷ others) = ap (λ (r : Row). taken (renumbered_machine number m) r others) (row_is t.packet t.work) ∙ taken_is m (row w t.packet t.work) others
 
-  after_is : (n : ℕ) (m : Machine) → after v n (renumbered number m) ≡ renumbered number (after w n m)
+  after_is : (n : ℕ) (m : Machine) → after v n (renumbered_machine number m) ≡ renumbered_machine number (after w n m)
   unfolding after step
   after_is zero m = refl
   after_is (suc n) m = ap (step v) (after_is n m) ∙ first_is (after w n m) (after w n m).tasks
@@ -143,9 +143,9 @@ module _ (number : ℕ → ℕ → ℕ) (w v : TheWorld) (h : IsRenumbered numbe
   work_weighs s (RunSet ∷ rest) = rw (acts_weigh (in_order s), work_weighs [] rest) refl
   work_weighs s (Act a ∷ rest) = rw (act_weighs a, work_weighs s rest) refl
 
-  pub run_is_renumbered : (p : Packet) (work : List Work) → run_of v p work ≡ renumbered number (run_of w p work)
+  pub run_is_renumbered : (p : Packet) (work : List Work) → run_of v p work ≡ renumbered_machine number (run_of w p work)
   run_is_renumbered p work =
       run_is_after v p work
       ∙ ap (λ (n : ℕ). after v n (starting p work)) (work_weighs p.action_set work)
       ∙ after_is (task_weight w (task p work)) (starting p work)
-      ∙ ap (renumbered number) (sym (run_is_after w p work))
+      ∙ ap (renumbered_machine number) (sym (run_is_after w p work))

@@ -23,7 +23,7 @@ use Rattle.of_table.specs.declared.flow.Flow.{Flow}
 use Rattle.of_machine.specs.declared.data.Packet.{Packet}
 use Rattle.of_machine.specs.TheWorld.{TheWorld}
 use Rattle.of_machine.specs.Sound.{longest, IsSound, IsBelow, AllBelow, IsBucket, AllBuckets}
-use Rattle.of_machine.specs.Rows.{Work, Lookup, Do, RunSet, Act, Task, task, row, acts, works, key_of, lookup_row, entry_row, at_entry, output_row, rewritten, dec_ttl_row, group_row, copies, bucket_copy, with_metadata, set_out}
+use Rattle.of_machine.specs.Rows.{Work, Lookup, Do, RunSet, Act, Task, task, row, acts, works, key_of, lookup_row, entry_row, at_entry, output_row, rewritten, dec_ttl_row, group_action_row, copies, bucket_copy, with_metadata, set_out}
 use Rattle.of_machine.specs.Weights.{IsSet, AllFitWork, AllFit, copy_steps, action_steps, table_steps, set_steps, lookup_steps, frame_step_bound, output_weight, act_weight, acts_weight, work_weight, task_weight, weight}
 use Rattle.of_machine.specs.Runs.{Machine, step, first_step, after}
 use Rattle.of_machine.proofs.Promises.{out_of_tables, list_served, all_are_below, all_below_more, set_below, order_below}
@@ -226,7 +226,7 @@ module _ (w : TheWorld) where
         let ih = copies_bound g p ks chain all.1 in
         omega arith
 
-    group_lowers : (p : Packet) (rest : List Work) (g : ℕ) (o : Option (List ℕ)) → w.chosen g ≡ o → weight w (group_row w p rest g o).left ≤ 16 * copy_steps (w.chain g) + work_weight w p.action_set rest
+    group_lowers : (p : Packet) (rest : List Work) (g : ℕ) (o : Option (List ℕ)) → w.chosen g ≡ o → weight w (group_action_row w p rest g o).left ≤ 16 * copy_steps (w.chain g) + work_weight w p.action_set rest
     group_lowers p rest g None e = omega arith
     group_lowers p rest g (Some ks) e =
         let x = copies_bound g p ks (sound.chained g ks e) (sound.buckets g ks e) in
@@ -292,7 +292,7 @@ module _ (w : TheWorld) where
         let set : IsSet (with_actions [] (unwrap_or (w.bucket g k) [])) = rw b.there (written_set [] b.actions empty_set (list_served b.actions b.served)) in
         (record { set = set; work = (tt, tt) }, copies_fit g p ks all.1)
 
-    group_fits : (p : Packet) (rest : List Work) (g : ℕ) (o : Option (List ℕ)) → w.chosen g ≡ o → IsSet p.action_set → AllFitWork rest → AllFit (group_row w p rest g o).left
+    group_fits : (p : Packet) (rest : List Work) (g : ℕ) (o : Option (List ℕ)) → w.chosen g ≡ o → IsSet p.action_set → AllFitWork rest → AllFit (group_action_row w p rest g o).left
     group_fits p rest g None e set fit = one_task p rest set fit
     group_fits p rest g (Some ks) e set fit = fit_more (copies w g p ks) (task p rest ∷ []) (copies_fit g p ks (sound.buckets g ks e)) (one_task p rest set fit)
 

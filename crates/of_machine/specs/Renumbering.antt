@@ -39,8 +39,8 @@ renumbered_step number TtlExpired = TtlExpired
 renumbered_step number End = End
 
 -- the numbers in the counts and in the lines are changed, and nothing else is
-abbrev pub renumbered : (ℕ → ℕ → ℕ) → Machine → Machine
-renumbered number m = record m {
+abbrev pub renumbered_machine : (ℕ → ℕ → ℕ) → Machine → Machine
+renumbered_machine number m = record m {
   counts = map (renumbered_count number) m.counts;
   lines = map (renumbered_step number) m.lines;
 }

@@ -76,12 +76,12 @@ pub record Emitted : Type 0 where
   pub items : List Item
   pub counts : List Count
 
-abbrev pub nothing : Emitted
-nothing = record { items = []; counts = [] }
+abbrev pub empty_emitted : Emitted
+empty_emitted = record { items = []; counts = [] }
 
 -- a PACKET_IN, with the packet's cookie and table (7.4.1), the max_len of the OUTPUT that made it, if one did (7.2.5), and the whole frame
-abbrev pub packet_in : PacketInReason → Option ℕ → Packet → Emitted
-packet_in reason max_len p = record { items = PacketIn (record { reason = reason; table = p.table; cookie = p.cookie; ingress = p.ingress; metadata = p.metadata; max_len = max_len; frame = p.frame }) ∷ []; counts = [] }
+abbrev pub packet_in_emitted : PacketInReason → Option ℕ → Packet → Emitted
+packet_in_emitted reason max_len p = record { items = PacketIn (record { reason = reason; table = p.table; cookie = p.cookie; ingress = p.ingress; metadata = p.metadata; max_len = max_len; frame = p.frame }) ∷ []; counts = [] }
 
 -- an output by the table-miss flow entry has the reason NO_MATCH
 abbrev pub output_reason : Packet → PacketInReason
@@ -89,7 +89,7 @@ output_reason p = if p.miss then NoMatch else ByAction
 
 -- a port that may not send counts a transmit drop
 abbrev pub to_port : Option Port → Packet → Emitted
-to_port None p = nothing
+to_port None p = empty_emitted
 to_port (Some q) p =
     if may_send q
     then record { items = Sent q.number p.frame ∷ []; counts = [] }
@@ -104,8 +104,8 @@ abbrev pub emission : List Port → Packet → ℕ → ℕ → Emitted
 emission ports p port max_len =
     if port == OFPP_IN_PORT then to_port (port_at ports p.ingress) p
     else if (port == OFPP_FLOOD) || (port == OFPP_ALL) then flooded ports p
-    else if port == OFPP_CONTROLLER then packet_in (output_reason p) (Some max_len) p
-    else if port == p.ingress then nothing
+    else if port == OFPP_CONTROLLER then packet_in_emitted (output_reason p) (Some max_len) p
+    else if port == p.ingress then empty_emitted
     else to_port (port_at ports port) p
 
 -- ---- actions (5.12)
@@ -117,18 +117,18 @@ abbrev pub emits : Step → Emitted → List Task → Row
 emits line e left = record { line = line; items = e.items; counts = e.counts; left = left }
 
 -- OUTPUT to TABLE: a copy with metadata 0 and an empty action set begins at the first table, before this packet goes on
-abbrev pub fresh : Packet → Packet
-fresh p = record p { metadata = 0; action_set = [] }
+abbrev pub fresh_packet : Packet → Packet
+fresh_packet p = record p { metadata = 0; action_set = [] }
 
-abbrev pub table_row : Packet → List Work → Action → Row
-table_row p rest a = record { line = DidAct a; items = []; counts = []; left = task (fresh p) (Lookup 0 ∷ []) ∷ task p rest ∷ [] }
+abbrev pub output_to_table_row : Packet → List Work → Action → Row
+output_to_table_row p rest a = record { line = DidAct a; items = []; counts = []; left = task (fresh_packet p) (Lookup 0 ∷ []) ∷ task p rest ∷ [] }
 
 abbrev pub output_row : TheWorld → Packet → List Work → Action → ℕ → ℕ → Row
-output_row w p rest a port max_len = if port == OFPP_TABLE then table_row p rest a else emits (DidAct a) (emission w.ports p port max_len) (task p rest ∷ [])
+output_row w p rest a port max_len = if port == OFPP_TABLE then output_to_table_row p rest a else emits (DidAct a) (emission w.ports p port max_len) (task p rest ∷ [])
 
 -- a TTL of 0 or 1 gives a PACKET_IN with INVALID_TTL, and the packet's work is emptied; without a TTL nothing changes
 abbrev pub dec_ttl_row : Packet → List Work → Ttl → Row
-dec_ttl_row p rest Expired = emits TtlExpired (packet_in InvalidTtl None p) (task p [] ∷ [])
+dec_ttl_row p rest Expired = emits TtlExpired (packet_in_emitted InvalidTtl None p) (task p [] ∷ [])
 dec_ttl_row p rest Done = goes_on (DidAct DecNwTtl) (record p { frame = frame_ttl_decremented p.frame }) rest
 dec_ttl_row p rest Absent = goes_on (DidAct DecNwTtl) p rest
 
@@ -140,9 +140,9 @@ abbrev pub copies : TheWorld → ℕ → Packet → List ℕ → List Task
 copies w group p places = map (λ place. task (bucket_copy w group p place) (RunSet ∷ [])) places
 
 -- GROUP: the group and each bucket that runs are counted; the copies come before the packet, which stays as it is (5.6.1)
-abbrev pub group_row : TheWorld → Packet → List Work → ℕ → Option (List ℕ) → Row
-group_row w p rest group None = goes_on (DidAct (Group group)) p rest
-group_row w p rest group (Some places) =
+abbrev pub group_action_row : TheWorld → Packet → List Work → ℕ → Option (List ℕ) → Row
+group_action_row w p rest group None = goes_on (DidAct (Group group)) p rest
+group_action_row w p rest group (Some places) =
     record {
       line = DidAct (Group group);
       items = [];
@@ -163,7 +163,7 @@ rewrite_row p rest a = goes_on (DidAct a) (record p { frame = rewritten a p.fram
 
 abbrev pub act_row : TheWorld → Packet → List Work → Action → Row
 act_row w p rest (Output port max_len) = output_row w p rest (Output port max_len) port max_len
-act_row w p rest (Group group) = group_row w p rest group (w.chosen group)
+act_row w p rest (Group group) = group_action_row w p rest group (w.chosen group)
 act_row w p rest DecNwTtl = dec_ttl_row p rest (dec_ttl_result (ttl_of (layers_of p.frame)))
 act_row w p rest other = rewrite_row p rest other
 

@@ -88,8 +88,8 @@ pub record Stopped (w : TheWorld) (keeps : Bool) (start : Machine) (told : List 
 abbrev pub Moves : TheWorld → Bool → Point → Point → Type 0
 Moves w keeps old new = (start : Machine) → Reached w keeps start old → Reached w keeps start new
 
-abbrev pub Stops : TheWorld → Bool → Point → List Step → Type 0
-Stops w keeps old told = (start : Machine) → Reached w keeps start old → Stopped w keeps start told
+abbrev pub RunStops : TheWorld → Bool → Point → List Step → Type 0
+RunStops w keeps old told = (start : Machine) → Reached w keeps start old → Stopped w keeps start told
 
 -- ---- what a call does
 
@@ -107,7 +107,7 @@ Acts w keeps p work outcome told going p' outcome' told' =
 -- a log that keeps steps has the first steps of that
 abbrev pub Breaks : TheWorld → Bool → Packet → List Work → Outcome → List Step → List Step → Type 0
 Breaks w keeps p work outcome told told' =
-    (rest : List Work) (others : List Task) → Stops w keeps (point (task p (work ++ rest) ∷ others) outcome told) told'
+    (rest : List Work) (others : List Task) → RunStops w keeps (point (task p (work ++ rest) ∷ others) outcome told) told'
 
 -- these packets, which come before the others, run to their ends
 abbrev pub AllEnd : TheWorld → Bool → List Task → Outcome → List Step → Outcome → List Step → Type 0
@@ -116,7 +116,7 @@ AllEnd w keeps tasks outcome told outcome' told' =
 
 abbrev pub AllFail : TheWorld → Bool → List Task → Outcome → List Step → List Step → Type 0
 AllFail w keeps tasks outcome told told' =
-    (others : List Task) → Stops w keeps (point (tasks ++ others) outcome told) told'
+    (others : List Task) → RunStops w keeps (point (tasks ++ others) outcome told) told'
 
 -- the packet has this work alone, and comes to the packet p' with work'
 abbrev pub Follows : TheWorld → Bool → Packet → List Work → Outcome → List Step → List Work → Packet → Outcome → List Step → Type 0
@@ -129,9 +129,9 @@ abbrev pub Ends : TheWorld → Bool → Packet → List Work → Outcome → Lis
 Ends w keeps p work outcome told outcome' told' =
     (others : List Task) → Moves w keeps (point (task p work ∷ others) outcome told) (point others outcome' told')
 
-abbrev pub Fails : TheWorld → Bool → Packet → List Work → Outcome → List Step → List Step → Type 0
-Fails w keeps p work outcome told told' =
-    (others : List Task) → Stops w keeps (point (task p work ∷ others) outcome told) told'
+abbrev pub RunFails : TheWorld → Bool → Packet → List Work → Outcome → List Step → List Step → Type 0
+RunFails w keeps p work outcome told told' =
+    (others : List Task) → RunStops w keeps (point (task p work ∷ others) outcome told) told'
 
 -- the work after an instruction, where `rest` are the instructions after it
 abbrev pub next_works : Next → List Instruction → List Work

@@ -6,7 +6,7 @@ use Rattle.of_actions.specs.declared.action.Action.TheVariants.{Group}
 use Rattle.of_actions.specs.Supported.{are_supported}
 use Rattle.of_actions.specs.Rising.{is_ascending}
 use Rattle.of_actions.specs.InstructionLists.{are_kept, are_for}
-use Rattle.of_ports.specs.Ports.{number_of}
+use Rattle.of_ports.specs.Ports.{number_of_port}
 use Rattle.of_table.specs.declared.flow.Flow.{Flow}
 use Rattle.of_machine.specs.TheWorld.{TheWorld}
 
@@ -42,7 +42,7 @@ pub record IsSound (w : TheWorld) : Type 0 where
   -- and go on to later tables only
   pub onward : (t n : ℕ) (f : Flow) → w.flow t n ≡ Some f → IsTrue (are_for t f.instructions)
   -- the ports are in ascending order of number: in this order FLOOD sends
-  pub rising : IsTrue (is_ascending number_of w.ports)
+  pub rising : IsTrue (is_ascending number_of_port w.ports)
   -- chains of groups
   pub short : (g : ℕ) → w.chain g ≤ longest
   pub chained : (g : ℕ) (places : List ℕ) → w.chosen g ≡ Some places → 0 < w.chain g

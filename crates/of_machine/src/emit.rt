@@ -1,7 +1,7 @@
 //! What outputs emit.
 ghost use Rattle.std.specs.Prelude.{◌≡◌, IfOk, OnOk};
 ghost use Rattle.std.specs.Option.{option_copied};
-ghost use Rattle.of_machine.specs.Rows.{emission, to_port, packet_in, flooded, output_reason};
+ghost use Rattle.of_machine.specs.Rows.{emission, to_port, packet_in_emitted, flooded, output_reason};
 ghost use Rattle.of_machine.specs.Gained.{Gains};
 
 use crate::data::{Count, Item, Outcome, Packet, ToController};
@@ -54,7 +54,7 @@ pub(crate) fn to_controller(
     packet: &Packet<'_>,
     outcome: &mut Outcome,
 ) -> Result<(), AllocError>
-    ensures { OnOk result (Gains outcome.old (packet_in reason max_len packet.now) outcome.new) }
+    ensures { OnOk result (Gains outcome.old (packet_in_emitted reason max_len packet.now) outcome.new) }
 {
     let frame = bytes_of(*outcome.items.allocator(), &packet.frame)?;
     outcome.items.push(Item::PacketIn(ToController {

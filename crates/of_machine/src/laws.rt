@@ -8,7 +8,7 @@ ghost use Rattle.of_machine.specs.Weights.{IsFit, AllFit, lookup_steps, frame_st
 ghost use Rattle.of_machine.specs.Runs.{Machine, step, after, starting, run_of, ahead_of};
 ghost use Rattle.of_machine.specs.Growth.{IsLow, AllFrames, AllShort};
 ghost use Rattle.of_rewrite.specs.Frames.{IsFrame};
-ghost use Rattle.of_machine.specs.Renumbering.{IsRenumbered, renumbered};
+ghost use Rattle.of_machine.specs.Renumbering.{IsRenumbered, renumbered_machine};
 ghost use Rattle.of_machine.specs.declared.data.Packet.{Packet};
 ghost use Rattle.of_actions.specs.declared.action.Action.{Action};
 
@@ -49,5 +49,5 @@ pub fn frames_stay_frames()
 /// The numbers of entries are names alone: where entries have other numbers, a run is the same but for them.
 pub fn numbers_are_names()
     ensures { (number : ℕ → ℕ → ℕ) (w v : TheWorld) (p : Packet) (work : List Work) → IsRenumbered number w v →
-        run_of v p work ≡ renumbered number (run_of w p work) }
+        run_of v p work ≡ renumbered_machine number (run_of w p work) }
 {}

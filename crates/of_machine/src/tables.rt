@@ -4,7 +4,7 @@ ghost use Rattle.std.specs.List.{list_all};
 ghost use Rattle.of_actions.specs.declared.instruction.Instruction.{Instruction};
 ghost use Rattle.of_actions.specs.InstructionLists.{is_served_body, is_for, are_for};
 ghost use Rattle.of_machine.specs.Rows.{Lookup as LookupWork, works, is_miss as is_miss_entry};
-ghost use Rattle.of_machine.specs.Runs.{Ends, Follows, Fails, IsUp, IsLater, next_works, then_works};
+ghost use Rattle.of_machine.specs.Runs.{Ends, Follows, RunFails, IsUp, IsLater, next_works, then_works};
 ghost use Rattle.of_machine.specs.Sound.{IsSound};
 
 use crate::data::{Count, Outcome, Packet, Step};
@@ -52,7 +52,7 @@ fn instruct<W: World, S: StepLog>(
     requires onward { IsTrue (is_for table instruction.now) }
     ensures ok { IfOk result (λ next. (rest : List Instruction) → Follows (W.view world.now) S.KEEPS packet.old (works (instruction.now ∷ rest)) outcome.old
         (S.list log.old) (next_works next rest) packet.new outcome.new (S.list log.new)) }
-    ensures err { OnErr result ((rest : List Instruction) → Fails (W.view world.now) S.KEEPS packet.old (works (instruction.now ∷ rest)) outcome.old
+    ensures err { OnErr result ((rest : List Instruction) → RunFails (W.view world.now) S.KEEPS packet.old (works (instruction.now ∷ rest)) outcome.old
         (S.list log.old) (S.list log.new)) }
     ensures up { IfOk result (λ next. IsUp table next) }
 {
@@ -110,7 +110,7 @@ fn follow<W: World, S: StepLog>(
     requires onward { IsTrue (are_for table instructions.now) }
     ensures ok { IfOk result (λ then. Follows (W.view world.now) S.KEEPS packet.old (works instructions.now) outcome.old (S.list log.old) (then_works then)
         packet.new outcome.new (S.list log.new)) }
-    ensures err { OnErr result (Fails (W.view world.now) S.KEEPS packet.old (works instructions.now) outcome.old (S.list log.old) (S.list log.new)) }
+    ensures err { OnErr result (RunFails (W.view world.now) S.KEEPS packet.old (works instructions.now) outcome.old (S.list log.old) (S.list log.new)) }
     ensures later { IfOk result (λ then. IsLater table then) }
 {
     for instruction in instructions {
@@ -136,7 +136,7 @@ fn look_up<W: World, S: StepLog>(
     ensures content { W.content world.new ≡ W.content world.old }
     ensures ok { IfOk result (λ then. Follows (W.view world.old) S.KEEPS packet.old (LookupWork table ∷ []) outcome.old (S.list log.old) (then_works then)
         packet.new outcome.new (S.list log.new)) }
-    ensures err { OnErr result (Fails (W.view world.old) S.KEEPS packet.old (LookupWork table ∷ []) outcome.old (S.list log.old) (S.list log.new)) }
+    ensures err { OnErr result (RunFails (W.view world.old) S.KEEPS packet.old (LookupWork table ∷ []) outcome.old (S.list log.old) (S.list log.new)) }
     ensures later { IfOk result (λ then. IsLater table then) }
 {
     let key = packet.key();
@@ -177,7 +177,7 @@ pub(crate) fn pipeline<W: World, S: StepLog>(
     ensures kept { W.view world.new ≡ W.view world.old }
     ensures content { W.content world.new ≡ W.content world.old }
     ensures ok { OnOk result (Ends (W.view world.old) S.KEEPS packet.old (LookupWork 0 ∷ []) outcome.old (S.list log.old) outcome.new (S.list log.new)) }
-    ensures err { OnErr result (Fails (W.view world.old) S.KEEPS packet.old (LookupWork 0 ∷ []) outcome.old (S.list log.old) (S.list log.new)) }
+    ensures err { OnErr result (RunFails (W.view world.old) S.KEEPS packet.old (LookupWork 0 ∷ []) outcome.old (S.list log.old) (S.list log.new)) }
 {
     let mut table: u8 = 0;
     loop {

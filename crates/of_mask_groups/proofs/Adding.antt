@@ -13,7 +13,7 @@ use Rattle.of_mask_groups.specs.Grouping.{LooksLike, AsksFor, AreGrouped, HasSam
 use Rattle.of_wire.specs.Numbered.{is_used}
 use Rattle.of_classifier.specs.declared.Row.{Row}
 use Rattle.of_classifier.specs.Rows.{row_number}
-use Rattle.of_mask_groups.specs.Aged.{row_of, by_age, AreAged}
+use Rattle.of_mask_groups.specs.Aged.{numbered_row, by_age, AreAged}
 use Rattle.of_mask_groups.proofs.Aging.{sound_row}
 use Rattle.of_mask_groups.proofs.Numbers.{unused}
 use Rattle.of_mask_groups.proofs.Changing.{aged_more, rows_more}
@@ -72,8 +72,8 @@ pub added_aged : {E : Type 0} (old new : Slab Entry) (age : ℕ) (e : Entry) (r 
 added_aged old new age e (Ok n) h a u f = aged_more old new age n e h u a
 added_aged old new age e (Err x) h a u f = aged_wider new age (age + 1) (omega arith) (aged_slots old new age f h)
 
-pub added_rows : {E : Type 0} (old new : Slab Entry) (age : ℕ) (e : Entry) (rows : List Row) (r : Result ℕ E) → AreAged old age → e.age ≡ age → by_age age old.slots ≡ rows → IfOk r (λ n. get old n ≡ None) → IfOk r (λ n. Updates old new n (Some e)) → IfOk r (λ n. by_age (age + 1) new.slots ≡ rows ++ row_of n e ∷ [])
-added_rows old new age e rows (Ok n) h a s v u = rows_more old new age n e h v u a ∙ ap (λ (rs : List Row). rs ++ row_of n e ∷ []) s
+pub added_rows : {E : Type 0} (old new : Slab Entry) (age : ℕ) (e : Entry) (rows : List Row) (r : Result ℕ E) → AreAged old age → e.age ≡ age → by_age age old.slots ≡ rows → IfOk r (λ n. get old n ≡ None) → IfOk r (λ n. Updates old new n (Some e)) → IfOk r (λ n. by_age (age + 1) new.slots ≡ rows ++ numbered_row n e ∷ [])
+added_rows old new age e rows (Ok n) h a s v u = rows_more old new age n e h v u a ∙ ap (λ (rs : List Row). rs ++ numbered_row n e ∷ []) s
 added_rows old new age e rows (Err x) h a s v u = u
 
 pub added_unused : {E : Type 0} (old : Slab Entry) (age : ℕ) (rows : List Row) (r : Result ℕ E) → by_age age old.slots ≡ rows → IfOk r (λ n. get old n ≡ None) → IfOk r (λ n. is_used row_number n rows ≡ false)

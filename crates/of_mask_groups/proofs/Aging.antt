@@ -6,7 +6,7 @@ use Rattle.std.proofs.lemmas.Bool.{eqb-true, eq-eqb, cases_lt}
 use Rattle.slab.specs.Slab.{Slab, get}
 use Rattle.of_classifier.specs.declared.Row.{Row}
 use Rattle.of_mask_groups.specs.declared.entry.Entry.{Entry}
-use Rattle.of_mask_groups.specs.Aged.{row_of, at_age, by_age, AreAged}
+use Rattle.of_mask_groups.specs.Aged.{numbered_row, at_age, by_age, AreAged}
 use Rattle.of_mask_groups.proofs.Members.{here, there, not_in_nil, in_cons, in_one, in_append, in_left, in_right}
 
 -- ---- one age
@@ -16,7 +16,7 @@ pub record IsRow (slots : List (Option Entry)) (k a : ℕ) (r : Row) : Type 0 wh
   pub entry : Entry
   pub stands : get_or slots place None ≡ Some entry
   pub aged : entry.age ≡ a
-  pub is : r ≡ row_of (k + place) entry
+  pub is : r ≡ numbered_row (k + place) entry
 
 row_later : (slots : List (Option Entry)) (o : Option Entry) (k a : ℕ) (r : Row) → IsRow slots (k + 1) a r → IsRow (o ∷ slots) k a r
 row_later slots o k a r h = record {
@@ -24,7 +24,7 @@ row_later slots o k a r h = record {
   entry = h.entry;
   stands = h.stands;
   aged = h.aged;
-  is = (let e : k + 1 + h.place ≡ k + suc h.place = omega arith in h.is ∙ ap (λ n. row_of n h.entry) e);
+  is = (let e : k + 1 + h.place ≡ k + suc h.place = omega arith in h.is ∙ ap (λ n. numbered_row n h.entry) e);
 }
 
 at_sound : (a k : ℕ) (slots : List (Option Entry)) (r : Row) → Contains (at_age a k slots) r → IsRow slots k a r
@@ -32,27 +32,27 @@ at_sound a k [] r h = absurd (not_in_nil r h)
 at_sound a k (None ∷ slots) r h = row_later slots None k a r (at_sound a (k + 1) slots r h)
 at_sound a k (Some e ∷ slots) r h = by_test (eqb e.age a) refl h (at_sound a (k + 1) slots r)
   where
-    by_test : (b : Bool) → eqb e.age a ≡ b → Contains (cond b (row_of k e ∷ []) (at_age a (k + 1) slots)) r → (Contains (at_age a (k + 1) slots) r → IsRow slots (k + 1) a r) → IsRow (Some e ∷ slots) k a r
-    by_test true t h later = record { place = 0; entry = e; stands = refl; aged = eqb-true _ _ t; is = (let s : k ≡ k + 0 = omega arith in sym (in_one r (row_of k e) h) ∙ ap (λ n. row_of n e) s) }
+    by_test : (b : Bool) → eqb e.age a ≡ b → Contains (cond b (numbered_row k e ∷ []) (at_age a (k + 1) slots)) r → (Contains (at_age a (k + 1) slots) r → IsRow slots (k + 1) a r) → IsRow (Some e ∷ slots) k a r
+    by_test true t h later = record { place = 0; entry = e; stands = refl; aged = eqb-true _ _ t; is = (let s : k ≡ k + 0 = omega arith in sym (in_one r (numbered_row k e) h) ∙ ap (λ n. numbered_row n e) s) }
     by_test false t h later = row_later slots (Some e) k a r (later h)
 
-at_complete : (a k : ℕ) (slots : List (Option Entry)) (i : ℕ) (e : Entry) → get_or slots i None ≡ Some e → e.age ≡ a → ((j : ℕ) (d : Entry) → get_or slots j None ≡ Some d → d.age ≡ a → j ≡ i) → Contains (at_age a k slots) (row_of (k + i) e)
+at_complete : (a k : ℕ) (slots : List (Option Entry)) (i : ℕ) (e : Entry) → get_or slots i None ≡ Some e → e.age ≡ a → ((j : ℕ) (d : Entry) → get_or slots j None ≡ Some d → d.age ≡ a → j ≡ i) → Contains (at_age a k slots) (numbered_row (k + i) e)
 at_complete a k [] i e h s only = absurd cc
 at_complete a k (None ∷ slots) zero e h s only = absurd cc
 at_complete a k (None ∷ slots) (suc i) e h s only =
     let n : k + 1 + i ≡ k + suc i = omega arith in
-    subst (λ m. Contains (at_age a (k + 1) slots) (row_of m e)) n (at_complete a (k + 1) slots i e h s (λ j d g t. omega (arith, only (suc j) d g t)))
+    subst (λ m. Contains (at_age a (k + 1) slots) (numbered_row m e)) n (at_complete a (k + 1) slots i e h s (λ j d g t. omega (arith, only (suc j) d g t)))
 at_complete a k (Some d ∷ slots) zero e h s only =
     let same : d ≡ e = cc in
     let n : k ≡ k + 0 = omega arith in
-    rw (eq-eqb d.age a (ap (λ (x : Entry). x.age) same ∙ s)) (subst (λ m. Contains (row_of k d ∷ []) (row_of m e)) n (subst (λ x. Contains (row_of k d ∷ []) (row_of k x)) same (here (row_of k d) [])))
+    rw (eq-eqb d.age a (ap (λ (x : Entry). x.age) same ∙ s)) (subst (λ m. Contains (numbered_row k d ∷ []) (numbered_row m e)) n (subst (λ x. Contains (numbered_row k d ∷ []) (numbered_row k x)) same (here (numbered_row k d) [])))
 at_complete a k (Some d ∷ slots) (suc i) e h s only = by_test (eqb d.age a) refl (at_complete a (k + 1) slots i e h s (λ j x g u. omega (arith, only (suc j) x g u)))
   where
-    by_test : (b : Bool) → eqb d.age a ≡ b → Contains (at_age a (k + 1) slots) (row_of (k + 1 + i) e) → Contains (cond b (row_of k d ∷ []) (at_age a (k + 1) slots)) (row_of (k + suc i) e)
+    by_test : (b : Bool) → eqb d.age a ≡ b → Contains (at_age a (k + 1) slots) (numbered_row (k + 1 + i) e) → Contains (cond b (numbered_row k d ∷ []) (at_age a (k + 1) slots)) (numbered_row (k + suc i) e)
     by_test true t later = absurd (omega (arith, only 0 d refl (eqb-true _ _ t)))
     by_test false t later =
         let n : k + 1 + i ≡ k + suc i = omega arith in
-        subst (λ m. Contains (at_age a (k + 1) slots) (row_of m e)) n later
+        subst (λ m. Contains (at_age a (k + 1) slots) (numbered_row m e)) n later
 
 -- ---- by age
 
@@ -60,14 +60,14 @@ at_complete a k (Some d ∷ slots) (suc i) e h s only = by_test (eqb d.age a) re
 pub record IsRowOf (entries : Slab Entry) (r : Row) : Type 0 where
   pub entry : Entry
   pub stands : get entries r.number ≡ Some entry
-  pub is : r ≡ row_of r.number entry
+  pub is : r ≡ numbered_row r.number entry
 
-row_under : (slots : List (Option Entry)) (a : ℕ) (r : Row) → IsRow slots 0 a r → (e : Entry) × (get_or slots r.number None ≡ Some e) × (e.age ≡ a) × (r ≡ row_of r.number e)
+row_under : (slots : List (Option Entry)) (a : ℕ) (r : Row) → IsRow slots 0 a r → (e : Entry) × (get_or slots r.number None ≡ Some e) × (e.age ≡ a) × (r ≡ numbered_row r.number e)
 row_under slots a r h =
     let n : r.number ≡ h.place = ap (λ (x : Row). x.number) h.is ∙ omega arith in
-    (h.entry, subst (λ m. get_or slots m None ≡ Some h.entry) (sym n) h.stands, h.aged, h.is ∙ ap (λ m. row_of m h.entry) (let z : 0 + h.place ≡ h.place = omega arith in z ∙ sym n))
+    (h.entry, subst (λ m. get_or slots m None ≡ Some h.entry) (sym n) h.stands, h.aged, h.is ∙ ap (λ m. numbered_row m h.entry) (let z : 0 + h.place ≡ h.place = omega arith in z ∙ sym n))
 
-by_age_sound : (next : ℕ) (slots : List (Option Entry)) (r : Row) → Contains (by_age next slots) r → (e : Entry) × (get_or slots r.number None ≡ Some e) × (e.age < next) × (r ≡ row_of r.number e)
+by_age_sound : (next : ℕ) (slots : List (Option Entry)) (r : Row) → Contains (by_age next slots) r → (e : Entry) × (get_or slots r.number None ≡ Some e) × (e.age < next) × (r ≡ numbered_row r.number e)
 unfolding by_age
 by_age_sound zero slots r h = absurd (not_in_nil r h)
 by_age_sound (suc a) slots r h = ⊎_elim
@@ -75,21 +75,21 @@ by_age_sound (suc a) slots r h = ⊎_elim
     (λ l. let x = row_under slots a r (at_sound a 0 slots r l) in (x.0, x.1, omega (arith, x.2), x.3))
     (in_append r (by_age a slots) (at_age a 0 slots) h)
 
-by_age_complete : (next : ℕ) (slots : List (Option Entry)) (n : ℕ) (e : Entry) → get_or slots n None ≡ Some e → e.age < next → ((j : ℕ) (d : Entry) → get_or slots j None ≡ Some d → d.age ≡ e.age → j ≡ n) → Contains (by_age next slots) (row_of n e)
+by_age_complete : (next : ℕ) (slots : List (Option Entry)) (n : ℕ) (e : Entry) → get_or slots n None ≡ Some e → e.age < next → ((j : ℕ) (d : Entry) → get_or slots j None ≡ Some d → d.age ≡ e.age → j ≡ n) → Contains (by_age next slots) (numbered_row n e)
 unfolding by_age
 by_age_complete zero slots n e h lt only = absurd (omega arith)
 by_age_complete (suc a) slots n e h lt only = ⊎_elim
-    (λ l. in_left (row_of n e) (by_age a slots) (at_age a 0 slots) (by_age_complete a slots n e h l only))
+    (λ l. in_left (numbered_row n e) (by_age a slots) (at_age a 0 slots) (by_age_complete a slots n e h l only))
     (λ l.
     let s : e.age ≡ a = omega arith in
     let z : 0 + n ≡ n = omega arith in
-    in_right (row_of n e) (by_age a slots) (at_age a 0 slots) (subst (λ m. Contains (at_age a 0 slots) (row_of m e)) z (at_complete a 0 slots n e h s (λ j d g t. only j d g (t ∙ sym s)))))
+    in_right (numbered_row n e) (by_age a slots) (at_age a 0 slots) (subst (λ m. Contains (at_age a 0 slots) (numbered_row m e)) z (at_complete a 0 slots n e h s (λ j d g t. only j d g (t ∙ sym s)))))
     (cases_lt e.age a)
 
 pub sound_row : (entries : Slab Entry) (next : ℕ) (r : Row) → Contains (by_age next entries.slots) r → IsRowOf entries r
 sound_row entries next r h = let x = by_age_sound next entries.slots r h in record { entry = x.0; stands = x.1; is = x.3 }
 
-pub complete_row : (entries : Slab Entry) (next : ℕ) (n : ℕ) (e : Entry) → AreAged entries next → get entries n ≡ Some e → Contains (by_age next entries.slots) (row_of n e)
+pub complete_row : (entries : Slab Entry) (next : ℕ) (n : ℕ) (e : Entry) → AreAged entries next → get entries n ≡ Some e → Contains (by_age next entries.slots) (numbered_row n e)
 complete_row entries next n e aged h = by_age_complete next entries.slots n e h (aged.below n e h) (λ j d g s. aged.apart j n d e g h s)
 
 -- ---- the order
@@ -114,7 +114,7 @@ at_order entries a k [] = tt
 at_order entries a k (None ∷ slots) = at_order entries a (k + 1) slots
 at_order entries a k (Some e ∷ slots) = by_test (eqb e.age a) (at_order entries a (k + 1) slots)
   where
-    by_test : (b : Bool) → AreInOrder entries (at_age a (k + 1) slots) → AreInOrder entries (cond b (row_of k e ∷ []) (at_age a (k + 1) slots))
+    by_test : (b : Bool) → AreInOrder entries (at_age a (k + 1) slots) → AreInOrder entries (cond b (numbered_row k e ∷ []) (at_age a (k + 1) slots))
     by_test true later = (λ s m. absurd (not_in_nil s m), tt)
     by_test false later = later
 

@@ -9,7 +9,7 @@ use Rattle.slab.specs.Slab.{Slab, get}
 use Rattle.of_layers.specs.declared.field.Field.{Field}
 use Rattle.of_oxm.specs.Relations.{matches_map}
 use Rattle.of_mask_groups.specs.declared.entry.Entry.{Entry}
-use Rattle.of_mask_groups.specs.Covering.{beats, covered, better_of, better_with, found_of, IsHit, IsBestOf}
+use Rattle.of_mask_groups.specs.Covering.{beats, covered, better_found, better_with, found_of, IsFoundMatch, IsBestOf}
 use Rattle.of_mask_groups.proofs.Members.{in_take_more, in_left, in_right, here, not_in_nil}
 
 pub beats_itself : (f : Found) → beats f f ≡ true
@@ -26,7 +26,7 @@ by_test : (b : Bool) (f g h : Found) → beats f g ≡ b → beats f h ≡ true 
 by_test true f g h e a = a
 by_test false f g h e a = beats_trans g f h (beats_turned f g e) a
 
-pub better_keeps : (o : Option Found) (g h : Found) → covered o h ≡ true → covered (better_of o g) h ≡ true
+pub better_keeps : (o : Option Found) (g h : Found) → covered o h ≡ true → covered (better_found o g) h ≡ true
 better_keeps None g h a = absurd cc
 better_keeps (Some f) g h a = by_test (beats f g) f g h refl a
 
@@ -34,7 +34,7 @@ by_test_itself : (b : Bool) (f g : Found) → beats f g ≡ b → covered (cond 
 by_test_itself true f g e = e
 by_test_itself false f g e = beats_itself g
 
-pub better_covers : (o : Option Found) (g : Found) → covered (better_of o g) g ≡ true
+pub better_covers : (o : Option Found) (g : Found) → covered (better_found o g) g ≡ true
 better_covers None g = beats_itself g
 better_covers (Some f) g = by_test_itself (beats f g) f g refl
 
@@ -42,7 +42,7 @@ by_test_from : (b : Bool) (f g h : Found) → cond b (Some f) (Some g) ≡ Some 
 by_test_from true f g h e = inl e
 by_test_from false f g h e = inr cc
 
-pub better_from : (o : Option Found) (g h : Found) → better_of o g ≡ Some h → (o ≡ Some h) ⊎ (g ≡ h)
+pub better_from : (o : Option Found) (g h : Found) → better_found o g ≡ Some h → (o ≡ Some h) ⊎ (g ≡ h)
 better_from None g h e = inr cc
 better_from (Some f) g h e = by_test_from (beats f g) f g h e
 
@@ -54,11 +54,11 @@ take_wider x xs i lt h = subst (λ ys. Contains ys x) (sym (take_more xs i x lt)
 pub take_last : {X : Type 0} (xs : List X) (i : ℕ) (d : X) → i < length xs → Contains (take (i + 1) xs) (get_or xs i d)
 take_last xs i d lt = subst (λ ys. Contains ys (get_or xs i d)) (sym (take_more xs i d lt)) (in_right _ (take i xs) _ (here (get_or xs i d) []))
 
-with_sound : (entries : Slab Entry) (key : Field → Option ℕ) (o : Option Entry) (n : ℕ) (best : Option Found) (f : Found) → get entries n ≡ o → better_with key best n o ≡ Some f → (best ≡ Some f) ⊎ ((n ≡ f.number) × IsHit entries key f)
+with_sound : (entries : Slab Entry) (key : Field → Option ℕ) (o : Option Entry) (n : ℕ) (best : Option Found) (f : Found) → get entries n ≡ o → better_with key best n o ≡ Some f → (best ≡ Some f) ⊎ ((n ≡ f.number) × IsFoundMatch entries key f)
 with_sound entries key None n best f g h = inl h
 with_sound entries key (Some e) n best f g h = by_match (matches_map e.fields key) refl h
   where
-    by_match : (b : Bool) → matches_map e.fields key ≡ b → cond b (better_of best (found_of n e)) best ≡ Some f → (best ≡ Some f) ⊎ ((n ≡ f.number) × IsHit entries key f)
+    by_match : (b : Bool) → matches_map e.fields key ≡ b → cond b (better_found best (found_of n e)) best ≡ Some f → (best ≡ Some f) ⊎ ((n ≡ f.number) × IsFoundMatch entries key f)
     by_match true t h = ⊎_elim
         (λ l. inl l)
         (λ r. inr (
@@ -71,7 +71,7 @@ with_keeps : (key : Field → Option ℕ) (o : Option Entry) (n : ℕ) (best : O
 with_keeps key None n best f h = h
 with_keeps key (Some e) n best f h = by_match (matches_map e.fields key)
   where
-    by_match : (b : Bool) → covered (cond b (better_of best (found_of n e)) best) f ≡ true
+    by_match : (b : Bool) → covered (cond b (better_found best (found_of n e)) best) f ≡ true
     by_match true = better_keeps best (found_of n e) f h
     by_match false = h
 
@@ -80,7 +80,7 @@ with_covers key None n best e h t = absurd cc
 with_covers key (Some d) n best e h t =
     let s : e ≡ d = cc in
     let hit : matches_map d.fields key ≡ true = subst (λ (x : Entry). matches_map x.fields key ≡ true) s t in
-    subst (λ (b : Bool). covered (cond b (better_of best (found_of n d)) best) (found_of n e) ≡ true) (sym hit) (subst (λ x. covered (better_of best (found_of n d)) (found_of n x) ≡ true) (sym s) (better_covers best (found_of n d)))
+    subst (λ (b : Bool). covered (cond b (better_found best (found_of n d)) best) (found_of n e) ≡ true) (sym hit) (subst (λ x. covered (better_found best (found_of n d)) (found_of n x) ≡ true) (sym s) (better_covers best (found_of n d)))
 
 pub best_more : (entries : Slab Entry) (key : Field → Option ℕ) (old : Option Found) (numbers : List ℕ) (i n : ℕ) (best new : Option Found) → i < length numbers → n ≡ get_or numbers i 0
     → new ≡ better_with key best n (get entries n) → IsBestOf entries key old (take i numbers) best → IsBestOf entries key old (take (i + 1) numbers) new

@@ -4,7 +4,7 @@ use Rattle.std.proofs.lemmas.Bool.{eqb-true}
 use Rattle.std.specs.Prelude.{nat_eq, IsSome, Result, Ok, Err, OnOk, OnErr}
 use Rattle.std.specs.HashMap.{HashMap, get_by, UpdatesBy}
 use Rattle.smallvec.specs.SmallVec.{SmallVec, HasRoomFor}
-use Rattle.of_mask_groups.specs.Cells.{items_of, cell_at, AreOccupied, AreOccupiedBut, HasCell, HasRoomAt, CellLess, others}
+use Rattle.of_mask_groups.specs.Cells.{small_vector_items, cell_at, AreOccupied, AreOccupiedBut, HasCell, HasRoomAt, CellLess, other_numbers}
 
 no_cell : (o : Option (SmallVec ℕ)) → o ≡ None → IsSome o → ⊥
 no_cell None e h = absurd cc
@@ -16,18 +16,18 @@ more_than_none (m ∷ ms) n e = absurd cc
 
 module _ {S : Type 0} where
   -- a new list under a digest that reads as the old one did
-  pub cells_kept : (old new : HashMap ℕ (SmallVec ℕ) S) (d : ℕ) (o : Option (SmallVec ℕ)) → UpdatesBy nat_eq (nat_eq d) old new o → items_of o ≡ cell_at old d → (c : ℕ) → cell_at new c ≡ cell_at old c
-  cells_kept old new d o u same c = ap items_of (u.0 c) ∙ by_test (nat_eq d c) refl
+  pub cells_kept : (old new : HashMap ℕ (SmallVec ℕ) S) (d : ℕ) (o : Option (SmallVec ℕ)) → UpdatesBy nat_eq (nat_eq d) old new o → small_vector_items o ≡ cell_at old d → (c : ℕ) → cell_at new c ≡ cell_at old c
+  cells_kept old new d o u same c = ap small_vector_items (u.0 c) ∙ by_test (nat_eq d c) refl
     where
-      by_test : (b : Bool) → nat_eq d c ≡ b → items_of (cond b o (get_by (nat_eq c) old)) ≡ cell_at old c
+      by_test : (b : Bool) → nat_eq d c ≡ b → small_vector_items (cond b o (get_by (nat_eq c) old)) ≡ cell_at old c
       by_test true e = same ∙ ap (λ (x : ℕ). cell_at old x) (eqb-true d c e)
       by_test false e = refl
 
   -- a list with fewer numbers
-  pub cell_less : (old new : HashMap ℕ (SmallVec ℕ) S) (d n : ℕ) (v w : SmallVec ℕ) → UpdatesBy nat_eq (nat_eq d) old new (Some w) → get_by (nat_eq d) old ≡ Some v → w.items ≡ others n v.items → CellLess old new d n
+  pub cell_less : (old new : HashMap ℕ (SmallVec ℕ) S) (d n : ℕ) (v w : SmallVec ℕ) → UpdatesBy nat_eq (nat_eq d) old new (Some w) → get_by (nat_eq d) old ≡ Some v → w.items ≡ other_numbers n v.items → CellLess old new d n
   cell_less old new d n v w u was less = record {
-    at = ap items_of u.1 ∙ less ∙ ap (λ (o : Option (SmallVec ℕ)). others n (items_of o)) (sym was);
-    apart = λ c e. ap items_of (u.2 c e);
+    at = ap small_vector_items u.1 ∙ less ∙ ap (λ (o : Option (SmallVec ℕ)). other_numbers n (small_vector_items o)) (sym was);
+    apart = λ c e. ap small_vector_items (u.2 c e);
   }
 
   -- ---- no list is empty
@@ -39,7 +39,7 @@ module _ {S : Type 0} where
   pub others_occupied : (old new : HashMap ℕ (SmallVec ℕ) S) (d : ℕ) (o : Option (SmallVec ℕ)) → UpdatesBy nat_eq (nat_eq d) old new o → AreOccupiedBut d old → AreOccupiedBut d new
   others_occupied old new d o u h c e there empty =
       let same : get_by (nat_eq c) new ≡ get_by (nat_eq c) old = u.2 c e in
-      h c e (subst (λ (x : Option (SmallVec ℕ)). IsSome x) same there) (sym (ap items_of same) ∙ empty)
+      h c e (subst (λ (x : Option (SmallVec ℕ)). IsSome x) same there) (sym (ap small_vector_items same) ∙ empty)
 
   -- where the list of the digest has numbers, no list is empty
   pub all_occupied : (cells : HashMap ℕ (SmallVec ℕ) S) (d : ℕ) → (HasCell cells d → cell_at cells d ≡ [] → ⊥) → AreOccupiedBut d cells → AreOccupied cells
@@ -57,9 +57,9 @@ module _ {S : Type 0} where
 
   -- the list of the digest has one more number
   pub occupied_more : (old new : HashMap ℕ (SmallVec ℕ) S) (d n : ℕ) (ns : List ℕ) (w : SmallVec ℕ) → UpdatesBy nat_eq (nat_eq d) old new (Some w) → w.items ≡ ns ++ n ∷ [] → AreOccupiedBut d old → AreOccupied new
-  occupied_more old new d n ns w u items h = all_occupied new d (λ there empty. more_than_none ns n (sym items ∙ (sym (ap items_of u.1) ∙ empty))) (others_occupied old new d (Some w) u h)
+  occupied_more old new d n ns w u items h = all_occupied new d (λ there empty. more_than_none ns n (sym items ∙ (sym (ap small_vector_items u.1) ∙ empty))) (others_occupied old new d (Some w) u h)
 
-pub no_items : (o : Option (SmallVec ℕ)) → (IsSome o → ⊥) → items_of o ≡ []
+pub no_items : (o : Option (SmallVec ℕ)) → (IsSome o → ⊥) → small_vector_items o ≡ []
 no_items None h = refl
 no_items (Some v) h = absurd (h refl)
 

@@ -7,7 +7,7 @@ use Rattle.of_wire.specs.Numbered.{without, moved_to_end}
 use Rattle.of_classifier.specs.declared.Row.{Row}
 use Rattle.of_classifier.specs.Rows.{row_number}
 use Rattle.of_mask_groups.specs.declared.entry.Entry.{Entry}
-use Rattle.of_mask_groups.specs.Aged.{row_of, by_age, AreAged}
+use Rattle.of_mask_groups.specs.Aged.{numbered_row, by_age, AreAged}
 use Rattle.of_mask_groups.proofs.Members.{here, there, not_in_nil, in_one, in_append, in_left, in_right}
 use Rattle.of_mask_groups.proofs.Counting.{in_filter, of_filter}
 use Rattle.of_mask_groups.proofs.Aging.{sound_row, complete_row, in_order, AreInOrder, order-append, same_rows}
@@ -58,18 +58,18 @@ aged_less old new next n h u =
     record { below = λ m d g. h.below m d (was m d g); apart = λ l m c d g k s. h.apart l m c d (was l c g) (was m d k) s }
 
 -- an entry comes
-pub rows_more : (old new : Slab Entry) (next n : ℕ) (e : Entry) → AreAged old next → get old n ≡ None → Updates old new n (Some e) → e.age ≡ next → by_age (next + 1) new.slots ≡ by_age next old.slots ++ row_of n e ∷ []
+pub rows_more : (old new : Slab Entry) (next n : ℕ) (e : Entry) → AreAged old next → get old n ≡ None → Updates old new n (Some e) → e.age ≡ next → by_age (next + 1) new.slots ≡ by_age next old.slots ++ numbered_row n e ∷ []
 rows_more old new next n e h vacant u a =
     let fresh = aged_more old new next n e h u a in
     let olds = by_age next old.slots in
     let differs : (r : Row) → Contains olds r → r.number ≢ n = λ r c s. (let x = sound_row old next r c in none_some (get old n) x.entry vacant (subst (λ k. get old k ≡ Some x.entry) s x.stands)) in
-    same_rows new (by_age (next + 1) new.slots) (olds ++ row_of n e ∷ []) (in_order new (next + 1))
-    (order-append new olds (row_of n e ∷ [])
+    same_rows new (by_age (next + 1) new.slots) (olds ++ numbered_row n e ∷ []) (in_order new (next + 1))
+    (order-append new olds (numbered_row n e ∷ [])
     (order_moved old new olds (in_order old next) (λ r d c g. sym (u.others r.number (differs r c)) ∙ g))
     (λ s c. absurd (not_in_nil s c), tt)
     (λ r s c l x y g k. (
     let b = h.below r.number x (sym (u.others r.number (differs r c)) ∙ g) in
-    let q : s ≡ row_of n e = sym (in_one s (row_of n e) l) in
+    let q : s ≡ numbered_row n e = sym (in_one s (numbered_row n e) l) in
     let t : y.age ≡ e.age = ap (λ (z : Entry). z.age) (same_entry (get new n) y e (subst (λ (z : Row). get new z.number ≡ Some y) q k) u.changed) in
     omega arith)))
     (λ r c. sound_row new (next + 1) r c)
@@ -78,14 +78,14 @@ rows_more old new next n e h vacant u a =
     ⊎_elim
     (λ s.
     let t : x.entry ≡ e = same_entry (get new n) x.entry e (subst (λ k. get new k ≡ Some x.entry) s x.stands) u.changed in
-    let q : row_of n e ≡ r = ap (λ z. row_of n z) (sym t) ∙ ap (λ k. row_of k x.entry) (sym s) ∙ sym x.is in
-    in_right r olds (row_of n e ∷ []) (subst (λ z. Contains (row_of n e ∷ []) z) q (here (row_of n e) [])))
-    (λ ne. in_left r olds (row_of n e ∷ []) (subst (λ z. Contains olds z) (sym x.is) (complete_row old next r.number x.entry h (sym (u.others r.number ne) ∙ x.stands))))
+    let q : numbered_row n e ≡ r = ap (λ z. numbered_row n z) (sym t) ∙ ap (λ k. numbered_row k x.entry) (sym s) ∙ sym x.is in
+    in_right r olds (numbered_row n e ∷ []) (subst (λ z. Contains (numbered_row n e ∷ []) z) q (here (numbered_row n e) [])))
+    (λ ne. in_left r olds (numbered_row n e ∷ []) (subst (λ z. Contains olds z) (sym x.is) (complete_row old next r.number x.entry h (sym (u.others r.number ne) ∙ x.stands))))
     (cases_eq r.number n))
     (λ r c. ⊎_elim
     (λ l. (let x = sound_row old next r l in subst (λ z. Contains (by_age (next + 1) new.slots) z) (sym x.is) (complete_row new (next + 1) r.number x.entry fresh (u.others r.number (differs r l) ∙ x.stands))))
-    (λ l. subst (λ z. Contains (by_age (next + 1) new.slots) z) (in_one r (row_of n e) l) (complete_row new (next + 1) n e fresh u.changed))
-    (in_append r olds (row_of n e ∷ []) c))
+    (λ l. subst (λ z. Contains (by_age (next + 1) new.slots) z) (in_one r (numbered_row n e) l) (complete_row new (next + 1) n e fresh u.changed))
+    (in_append r olds (numbered_row n e ∷ []) c))
 
 is_kept : (r : Row) (n : ℕ) → r.number ≢ n → not (eqb r.number n) ≡ true
 is_kept r n ne = ap not (ne_eqb r.number n ne)
@@ -107,7 +107,7 @@ rows_less old new next n h u =
     (λ r c. (let o = of_filter p olds r c in let x = sound_row old next r o.0 in subst (λ z. Contains (by_age next new.slots) z) (sym x.is) (complete_row new next r.number x.entry fresh (u.others r.number (λ s. kept_is r n o.1 s) ∙ x.stands))))
 
 -- an entry becomes the youngest
-pub rows_renewed : (old new : Slab Entry) (next n : ℕ) (d e : Entry) → AreAged old next → get old n ≡ Some d → Updates old new n (Some e) → e.age ≡ next → row_of n e ≡ row_of n d → by_age (next + 1) new.slots ≡ moved_to_end row_number n (by_age next old.slots)
+pub rows_renewed : (old new : Slab Entry) (next n : ℕ) (d e : Entry) → AreAged old next → get old n ≡ Some d → Updates old new n (Some e) → e.age ≡ next → numbered_row n e ≡ numbered_row n d → by_age (next + 1) new.slots ≡ moved_to_end row_number n (by_age next old.slots)
 rows_renewed old new next n d e h stood u a same =
     let fresh = aged_more old new next n e h u a in
     let olds = by_age next old.slots in
@@ -129,7 +129,7 @@ rows_renewed old new next n d e h stood u a same =
     ⊎_elim
     (λ s.
     let t : x.entry ≡ e = same_entry (get new n) x.entry e (subst (λ k. get new k ≡ Some x.entry) s x.stands) u.changed in
-    let z : row_of n d ≡ r = sym same ∙ ap (λ w. row_of n w) (sym t) ∙ ap (λ k. row_of k x.entry) (sym s) ∙ sym x.is in
+    let z : numbered_row n d ≡ r = sym same ∙ ap (λ w. numbered_row n w) (sym t) ∙ ap (λ k. numbered_row k x.entry) (sym s) ∙ sym x.is in
     in_right r (filter p olds) (filter q olds) (in_filter q olds r (subst (λ w. Contains olds w) z (complete_row old next n d h stood)) (eq-eqb r.number n s)))
     (λ ne. in_left r (filter p olds) (filter q olds) (in_filter p olds r (subst (λ w. Contains olds w) (sym x.is) (complete_row old next r.number x.entry h (sym (u.others r.number ne) ∙ x.stands))) (is_kept r n ne)))
     (cases_eq r.number n))
@@ -140,6 +140,6 @@ rows_renewed old new next n d e h stood u a same =
     let x = sound_row old next r o.0 in
     let s = is_it r l in
     let t : x.entry ≡ d = same_entry (get old n) x.entry d (subst (λ k. get old k ≡ Some x.entry) s x.stands) stood in
-    let z : row_of n e ≡ r = same ∙ ap (λ w. row_of n w) (sym t) ∙ ap (λ k. row_of k x.entry) (sym s) ∙ sym x.is in
+    let z : numbered_row n e ≡ r = same ∙ ap (λ w. numbered_row n w) (sym t) ∙ ap (λ k. numbered_row k x.entry) (sym s) ∙ sym x.is in
     subst (λ w. Contains (by_age (next + 1) new.slots) w) z (complete_row new (next + 1) n e fresh u.changed))
     (in_append r (filter p olds) (filter q olds) c))

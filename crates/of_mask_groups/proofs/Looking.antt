@@ -24,7 +24,7 @@ use Rattle.of_mask_groups.specs.declared.entry.Entry.{Entry}
 use Rattle.of_mask_groups.specs.declared.found.Found.{Found}
 use Rattle.of_mask_groups.specs.declared.group.Group.{Group}
 use Rattle.of_mask_groups.specs.Grouping.{AreGrouped}
-use Rattle.of_mask_groups.specs.Aged.{row_of, by_age, AreAged}
+use Rattle.of_mask_groups.specs.Aged.{numbered_row, by_age, AreAged}
 use Rattle.of_mask_groups.specs.Probing.{reaching, reached}
 use Rattle.of_mask_groups.proofs.Members.{here, there, not_in_nil, in_cons, of_place}
 use Rattle.of_mask_groups.proofs.Counting.{in_filter}
@@ -202,7 +202,7 @@ of_find p (x ∷ xs) r h = by_test (p x) refl h (of_find p xs r)
     by_test false e h later = let l = later h in (there r x xs l.0, l.1)
 
 priority_some : (entries : Slab Entry) (next n : ℕ) (e : Entry) → AreAged entries next → get entries n ≡ Some e → priority_of n (by_age next entries.slots) ≡ Some e.priority
-priority_some entries next n e aged h = ap (option_map row_priority) (found_there (by_age next entries.slots) (row_of n e) (rows_distinct entries next) (complete_row entries next n e aged h))
+priority_some entries next n e aged h = ap (option_map row_priority) (found_there (by_age next entries.slots) (numbered_row n e) (rows_distinct entries next) (complete_row entries next n e aged h))
 
 priority_none : (entries : Slab Entry) (next n : ℕ) → get entries n ≡ None → priority_of n (by_age next entries.slots) ≡ None
 priority_none entries next n h = by_found (find (λ r. eqb r.number n) (by_age next entries.slots)) refl

@@ -16,13 +16,13 @@ use Rattle.of_oxm.specs.contracts.match_field.MatchFieldPartialEq.TheImpl as the
 use Rattle.of_oxm.proofs.Same.{same_fields, same_match}
 use Rattle.of_classifier.specs.declared.Row.{Row}
 use Rattle.of_classifier.specs.Rows.{is_same_row, same_of}
-use Rattle.of_classifier.specs.Winner.{number_of}
+use Rattle.of_classifier.specs.Winner.{winner_number}
 use Rattle.of_mask_groups.specs.declared.entry.Entry.{Entry}
 use Rattle.of_mask_groups.specs.declared.group.Group.{Group}
-use Rattle.of_mask_groups.specs.Aged.{row_of, by_age, AreAged}
+use Rattle.of_mask_groups.specs.Aged.{numbered_row, by_age, AreAged}
 use Rattle.of_mask_groups.specs.Cells.{key_digest, cell_at}
 use Rattle.of_mask_groups.specs.Grouping.{LooksLike, AsksFor, AreGrouped, HasSameMask}
-use Rattle.of_mask_groups.specs.SameEntry.{is_same_entry, older_of, older_same, IsOldestAt, IsOldestAmong, IsOldestSame}
+use Rattle.of_mask_groups.specs.SameEntry.{is_same_entry, older_entry, older_same, IsOldestAt, IsOldestAmong, IsOldestSame}
 use Rattle.of_mask_groups.proofs.Members.{here, there, not_in_nil, in_cons, in_take_more}
 use Rattle.of_mask_groups.proofs.Best.{take_wider, take_last}
 use Rattle.of_mask_groups.proofs.Falling.{one_group}
@@ -72,7 +72,7 @@ module _ (entries : Slab Entry) (before after : List ℕ) (fields : List MatchFi
   not_true : (b : Bool) → b ≡ false → b ≡ true → ⊥
   not_true b h k = let f : false ≡ true = sym h ∙ k in absurd cc
 
-  step_same : (e : Entry) (best : Option (ℕ × ℕ)) → get entries n ≡ Some e → is_same_entry fields p e ≡ true → IsOldestAmong entries before fields p best → IsOldestAmong entries after fields p (older_of best n e)
+  step_same : (e : Entry) (best : Option (ℕ × ℕ)) → get entries n ≡ Some e → is_same_entry fields p e ≡ true → IsOldestAmong entries before fields p best → IsOldestAmong entries after fields p (older_entry best n e)
   step_same e None g t h = starts e g t (λ m d l k u. absurd (not_true (is_same_entry fields p d) (h m d l k) u))
   step_same e (Some best) g t h = by_test (nat_le best.1 e.age) refl
     where
@@ -84,7 +84,7 @@ module _ (entries : Slab Entry) (before after : List ℕ) (fields : List MatchFi
   step None best g h = stays None best g (λ e s. absurd (let f : None ≡ Some e = s in cc)) h
   step (Some e) best g h = by_test (is_same_entry fields p e) refl
     where
-      by_test : (b : Bool) → is_same_entry fields p e ≡ b → IsOldestAmong entries after fields p (cond b (older_of best n e) best)
+      by_test : (b : Bool) → is_same_entry fields p e ≡ b → IsOldestAmong entries after fields p (cond b (older_entry best n e) best)
       by_test true t = step_same e best g t h
       by_test false t = stays (Some e) best g (λ d s u. not_true (is_same_entry fields p d) (let w : e ≡ d = cc in subst (λ z. is_same_entry fields p z ≡ false) w t) u) h
 
@@ -143,25 +143,25 @@ in_cell entries groups g mask key fields p n e a c q stands same =
     let one : x.group ≡ g = one_group groups x.group g e a.falling x.there c x.within.looks looks in
     subst (λ (h : Group). Contains (cell_at h.cells (key_digest h.secret key)) n) one (x.within.cell key asks)
 
-pub same_answer : (entries : Slab Entry) (groups : List Group) (g : Group) (mask : FieldMask) (key : FieldKey) (fields : List MatchField) (p next : ℕ) (r : Option ℕ) → AreGrouped entries groups → AreAged entries next → Contains groups g → Asked g mask key fields → IsOldestSame entries (cell_at g.cells (key_digest g.secret key)) fields p r → r ≡ number_of (same_of (by_age next entries.slots) fields p)
+pub same_answer : (entries : Slab Entry) (groups : List Group) (g : Group) (mask : FieldMask) (key : FieldKey) (fields : List MatchField) (p next : ℕ) (r : Option ℕ) → AreGrouped entries groups → AreAged entries next → Contains groups g → Asked g mask key fields → IsOldestSame entries (cell_at g.cells (key_digest g.secret key)) fields p r → r ≡ winner_number (same_of (by_age next entries.slots) fields p)
 same_answer entries groups g mask key fields p next None a aged c q h =
-    ap number_of (sym (find_none (is_same_row fields p) (by_age next entries.slots) (λ s m t. (
+    ap winner_number (sym (find_none (is_same_row fields p) (by_age next entries.slots) (λ s m t. (
     let x = sound_row entries next s m in
     let u : is_same_entry fields p x.entry ≡ true = subst (λ z. is_same_row fields p z ≡ true) x.is t in
     let f : true ≡ false = sym u ∙ h s.number x.entry (in_cell entries groups g mask key fields p s.number x.entry a c q x.stands u) x.stands in
     absurd cc))))
 same_answer entries groups g mask key fields p next (Some n) a aged c q h =
     let o = h.1 in
-    ap number_of (sym (find_first entries (is_same_row fields p) (by_age next entries.slots) (row_of n o.entry) (in_order entries next) (complete_row entries next n o.entry aged o.stands) o.same (λ s m t older. (
+    ap winner_number (sym (find_first entries (is_same_row fields p) (by_age next entries.slots) (numbered_row n o.entry) (in_order entries next) (complete_row entries next n o.entry aged o.stands) o.same (λ s m t older. (
     let x = sound_row entries next s m in
     let u : is_same_entry fields p x.entry ≡ true = subst (λ z. is_same_row fields p z ≡ true) x.is t in
     let le = o.least s.number x.entry (in_cell entries groups g mask key fields p s.number x.entry a c q x.stands u) x.stands u in
     let lt = older x.entry o.entry x.stands o.stands in
     absurd (omega (arith, o.aged))))))
 
-pub same_nowhere : (entries : Slab Entry) (groups : List Group) (mask : FieldMask) (fields : List MatchField) (p next : ℕ) → AreGrouped entries groups → AreAged entries next → ((f : Field) → mask_at mask f ≡ looked_at fields f) → ((g : Group) → Contains groups g → HasSameMask g mask → ⊥) → None ≡ number_of (same_of (by_age next entries.slots) fields p)
+pub same_nowhere : (entries : Slab Entry) (groups : List Group) (mask : FieldMask) (fields : List MatchField) (p next : ℕ) → AreGrouped entries groups → AreAged entries next → ((f : Field) → mask_at mask f ≡ looked_at fields f) → ((g : Group) → Contains groups g → HasSameMask g mask → ⊥) → None ≡ winner_number (same_of (by_age next entries.slots) fields p)
 same_nowhere entries groups mask fields p next a aged masked none =
-    ap number_of (sym (find_none (is_same_row fields p) (by_age next entries.slots) (λ s m t. (
+    ap winner_number (sym (find_none (is_same_row fields p) (by_age next entries.slots) (λ s m t. (
     let x = sound_row entries next s m in
     let u : is_same_entry fields p x.entry ≡ true = subst (λ z. is_same_row fields p z ≡ true) x.is t in
     let y = a.complete s.number x.entry x.stands in

@@ -10,15 +10,15 @@ use Rattle.of_layers.specs.declared.field.Field.{Field}
 use Rattle.of_oxm.specs.Relations.{matches_map}
 use Rattle.of_oxm.specs.Masks.{looked_at, mask_at}
 use Rattle.of_classifier.specs.declared.Row.{Row}
-use Rattle.of_classifier.specs.Winner.{is_matching, winner_of, number_of, Wins}
+use Rattle.of_classifier.specs.Winner.{is_matching, winner_of, winner_number, Wins}
 use Rattle.of_classifier.proofs.WinnerLaw.{wins_both, none_both}
 use Rattle.of_mask_groups.specs.declared.entry.Entry.{Entry}
 use Rattle.of_mask_groups.specs.declared.found.Found.{Found}
 use Rattle.of_mask_groups.specs.declared.group.Group.{Group}
 use Rattle.of_mask_groups.specs.Covering.{found_of, beats, covered, number_of_found, is_above_best}
 use Rattle.of_mask_groups.specs.Grouping.{LooksLike, AreFalling, IsIndexed, AreGrouped}
-use Rattle.of_mask_groups.specs.Aged.{row_of, by_age, AreAged}
-use Rattle.of_mask_groups.specs.Probing.{is_same_mask, mask_of_row, masks_in, reaching, probes_of, probes_for}
+use Rattle.of_mask_groups.specs.Aged.{numbered_row, by_age, AreAged}
+use Rattle.of_mask_groups.specs.Probing.{are_same_masks, mask_of_row, masks_in, reaching, probes_of, probes_for}
 use Rattle.of_mask_groups.proofs.Members.{in_map, of_map, place_of, of_place}
 use Rattle.of_mask_groups.proofs.Counting.{as_many, in_filter, of_filter}
 use Rattle.of_mask_groups.proofs.Sights.{same_listed, same_mask_decides}
@@ -56,7 +56,7 @@ all_covered entries groups done key best probes n e fine p d h m =
     (λ b. (let w = within_group entries groups n e fine h x in subst (λ o. covered o (found_of n e) ≡ true) (sym b.is) (lower_beaten b.held (found_of n e) (omega (arith, b.below)))))
     (d x.group x.there)
 
-matched_row : (key : Field → Option ℕ) (n : ℕ) (e : Entry) (r : Row) → r ≡ row_of n e → is_matching key r ≡ true → matches_map e.fields key ≡ true
+matched_row : (key : Field → Option ℕ) (n : ℕ) (e : Entry) (r : Row) → r ≡ numbered_row n e → is_matching key r ≡ true → matches_map e.fields key ≡ true
 matched_row key n e r s m = subst (λ z. is_matching key z ≡ true) s m
 
 pub found_wins : (entries : Slab Entry) (groups done : List Group) (key : Field → Option ℕ) (best : Option Found) (probes next : ℕ) (f : Found) → AreGrouped entries groups → AreAged entries next → AreProbed entries key done best probes → IsDone groups done best → best ≡ Some f → (r : Row) × (winner_of (by_age next entries.slots) key ≡ Some r) × (r.number ≡ f.number) × (r.priority ≡ f.priority)
@@ -65,7 +65,7 @@ found_wins entries groups done key best probes next f fine aged p d b =
     let e = hit.found.entry in
     let stands : get entries f.number ≡ Some e = hit.found.stands in
     let rows = by_age next entries.slots in
-    let r : Row = row_of f.number e in
+    let r : Row = numbered_row f.number e in
     let place = place_of rows r (complete_row entries next f.number e aged stands) in
     let covers : (k : ℕ) (s : Row) → slice_get rows k ≡ Some s → is_matching key s ≡ true → (x : IsRowOf entries s) × (beats f (found_of s.number x.entry) ≡ true)
     = λ k s g m. (let x = sound_row entries next s (of_place rows k s g) in (x, covered_some best f _ b (all_covered entries groups done key best probes s.number x.entry fine p d x.stands (matched_row key s.number x.entry s x.is m)))) in
@@ -114,11 +114,11 @@ above_done groups i g (Some f) falls lt at t h c = ⊎_elim (λ a. inl a)
 
 as_many_masks : (rows : List Row) (done : List Group) → AreFalling done → HaveSameMasks rows done → length done ≡ masks_in rows
 as_many_masks rows done f h =
-    sym (length-map done sight) ∙ as_many is_same_mask same_mask_decides (map sight done) (map mask_of_row rows) (apart_sights done f)
+    sym (length-map done sight) ∙ as_many are_same_masks same_mask_decides (map sight done) (map mask_of_row rows) (apart_sights done f)
     (λ x c. (let i = of_map sight done x c in let o = h.of_group i.from i.there in subst (λ y. Contains (map mask_of_row rows) y) (sym o.2 ∙ i.is) (in_map mask_of_row rows o.0 o.1)))
     (λ x c. (let i = of_map mask_of_row rows x c in let o = h.of_row i.from i.there in subst (λ y. Contains (map sight done) y) (o.2 ∙ i.is) (in_map sight done o.0 o.1)))
 
-sight_is : (g : Group) (n : ℕ) (e : Entry) → LooksLike g e → sight g ≡ mask_of_row (row_of n e)
+sight_is : (g : Group) (n : ℕ) (e : Entry) → LooksLike g e → sight g ≡ mask_of_row (numbered_row n e)
 sight_is g n e l = same_listed (λ f. mask_at g.mask f) (looked_at e.fields) l.bits
 
 -- the group of a row, and a row of a group
@@ -135,7 +135,7 @@ group_row : (entries : Slab Entry) (groups : List Group) (next : ℕ) (g : Group
 group_row entries groups next g fine aged c =
     let i = fine.each g c in
     ⊎_elim (λ e. absurd (i.some e))
-    (λ t. (let m = i.index.members g.best t.0 t.1 in (row_of t.0 m.entry, complete_row entries next t.0 m.entry aged m.stands, sight_is g t.0 m.entry m.looks, m.priority)))
+    (λ t. (let m = i.index.members g.best t.0 t.1 in (numbered_row t.0 m.entry, complete_row entries next t.0 m.entry aged m.stands, sight_is g t.0 m.entry m.looks, m.priority)))
     i.index.settled.top
 
 pub miss_masks : (entries : Slab Entry) (groups done : List Group) (next : ℕ) → AreGrouped entries groups → AreAged entries next → ((g : Group) → Contains done g → Contains groups g) → IsDone groups done None → HaveSameMasks (by_age next entries.slots) done
@@ -164,11 +164,11 @@ hit_probes entries groups done next p best f fine aged falls part d b is above =
 
 -- ---- what is returned
 
-pub answer_winner : (entries : Slab Entry) (groups done : List Group) (key : Field → Option ℕ) (best : Option Found) (probes next : ℕ) → AreGrouped entries groups → AreAged entries next → AreProbed entries key done best probes → IsDone groups done best → number_of_found best ≡ number_of (winner_of (by_age next entries.slots) key)
-answer_winner entries groups done key None probes next fine aged p d = ap number_of (sym (none_wins entries groups done key probes next fine p d))
+pub answer_winner : (entries : Slab Entry) (groups done : List Group) (key : Field → Option ℕ) (best : Option Found) (probes next : ℕ) → AreGrouped entries groups → AreAged entries next → AreProbed entries key done best probes → IsDone groups done best → number_of_found best ≡ winner_number (winner_of (by_age next entries.slots) key)
+answer_winner entries groups done key None probes next fine aged p d = ap winner_number (sym (none_wins entries groups done key probes next fine p d))
 answer_winner entries groups done key (Some f) probes next fine aged p d =
     let w = found_wins entries groups done key (Some f) probes next f fine aged p d refl in
-    ap Some (sym w.2) ∙ ap number_of (sym w.1)
+    ap Some (sym w.2) ∙ ap winner_number (sym w.1)
 
 pub answer_probes : (entries : Slab Entry) (groups done : List Group) (key : Field → Option ℕ) (best : Option Found) (probes next : ℕ) → AreGrouped entries groups → AreAged entries next → AreFalling done → ((g : Group) → Contains done g → Contains groups g) → AreProbed entries key done best probes → IsDone groups done best → probes ≡ probes_of (by_age next entries.slots) key
 answer_probes entries groups done key None probes next fine aged falls part p d =

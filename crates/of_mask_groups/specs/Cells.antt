@@ -10,16 +10,16 @@ use Rattle.of_headers.specs.Digest.{digest_of}
 abbrev pub key_digest : Mixer → FieldKey → ℕ
 key_digest secret k = digest_of secret k.numbers
 
-abbrev pub items_of : Option (SmallVec ℕ) → List ℕ
-items_of None = []
-items_of (Some v) = v.items
+abbrev pub small_vector_items : Option (SmallVec ℕ) → List ℕ
+small_vector_items None = []
+small_vector_items (Some v) = v.items
 
 abbrev pub cell_at : {S : Type 0} → HashMap ℕ (SmallVec ℕ) S → ℕ → List ℕ
-cell_at cells d = items_of (get_by (nat_eq d) cells)
+cell_at cells d = small_vector_items (get_by (nat_eq d) cells)
 
 -- the list without a number
-abbrev pub others : ℕ → List ℕ → List ℕ
-others n ns = filter (λ m. not (m == n)) ns
+abbrev pub other_numbers : ℕ → List ℕ → List ℕ
+other_numbers n ns = filter (λ m. not (m == n)) ns
 
 -- there is a list under the digest
 abbrev pub HasCell : {S : Type 0} → HashMap ℕ (SmallVec ℕ) S → ℕ → Type 0
@@ -46,5 +46,5 @@ pub record CellMore {S : Type 0} (old new : HashMap ℕ (SmallVec ℕ) S) (d n :
 
 -- one list lacks a number
 pub record CellLess {S : Type 0} (old new : HashMap ℕ (SmallVec ℕ) S) (d n : ℕ) : Type 0 where
-  pub at : cell_at new d ≡ others n (cell_at old d)
+  pub at : cell_at new d ≡ other_numbers n (cell_at old d)
   pub apart : (c : ℕ) → nat_eq d c ≡ false → cell_at new c ≡ cell_at old c

@@ -10,14 +10,14 @@ abbrev pub is_same_entry : List MatchField → ℕ → Entry → Bool
 is_same_entry fields p e = e.priority == p && is_same_match e.fields fields
 
 -- the older of the oldest so far and an entry of a number
-abbrev pub older_of : Option (ℕ × ℕ) → ℕ → Entry → Option (ℕ × ℕ)
-older_of None n e = Some (n, e.age)
-older_of (Some best) n e = if nat_le best.1 e.age then Some best else Some (n, e.age)
+abbrev pub older_entry : Option (ℕ × ℕ) → ℕ → Entry → Option (ℕ × ℕ)
+older_entry None n e = Some (n, e.age)
+older_entry (Some best) n e = if nat_le best.1 e.age then Some best else Some (n, e.age)
 
 -- the same, where there is an entry of that match and priority
 abbrev pub older_same : List MatchField → ℕ → Option (ℕ × ℕ) → ℕ → Option Entry → Option (ℕ × ℕ)
 older_same fields p best n None = best
-older_same fields p best n (Some e) = if is_same_entry fields p e then older_of best n e else best
+older_same fields p best n (Some e) = if is_same_entry fields p e then older_entry best n e else best
 
 pub record IsOldestAt (entries : Slab Entry) (numbers : List ℕ) (fields : List MatchField) (p n a : ℕ) : Type 0 where
   pub among : Contains numbers n

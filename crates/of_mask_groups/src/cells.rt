@@ -1,6 +1,6 @@
 //! The numbers of the entries of a group, by the digest of the key that their matches ask for.
 ghost use Rattle.std.specs.Prelude.{◌≡◌, ℕ, [], false, IsTrue, OnOk, OnErr};
-ghost use Rattle.of_mask_groups.specs.Cells.{cell_at, others, AreOccupied, AreOccupiedBut, HasCell, HasRoomAt, CellMore, CellLess};
+ghost use Rattle.of_mask_groups.specs.Cells.{cell_at, other_numbers, AreOccupied, AreOccupiedBut, HasCell, HasRoomAt, CellMore, CellLess};
 
 use smallvec::SmallVec;
 use std::alloc::{AllocError, Global};
@@ -49,7 +49,7 @@ pub(crate) fn push_number(cells: &mut Cells, digest: u64, number: usize)
 }
 
 fn keep_others(cell: &mut Cell, number: usize)
-    ensures { cell.new.items ≡ others number cell.old.items }
+    ensures { cell.new.items ≡ other_numbers number cell.old.items }
 {
     cell.retain(|n| *n != number);
 }

@@ -2,7 +2,7 @@
 ghost use Rattle.std.specs.Prelude.{◌≡◌};
 ghost use Rattle.slab.specs.Slab.{get};
 ghost use Rattle.of_headers.specs.FieldMap.{value};
-ghost use Rattle.of_mask_groups.specs.Covering.{better_of, better_with, IsBestOf};
+ghost use Rattle.of_mask_groups.specs.Covering.{better_found, better_with, IsBestOf};
 
 use crate::entry::Entry;
 use of_headers::FieldKey;
@@ -19,7 +19,7 @@ pub(crate) struct Found {
 
 // The better of the best so far and one more.
 fn better(best: Option<Found>, other: Found) -> Option<Found>
-    ensures { result ≡ better_of best other }
+    ensures { result ≡ better_found best other }
 {
     match best {
         Some(held)

@@ -6,7 +6,7 @@ ghost use Rattle.of_oxm.specs.NormalForm.{IsMatch};
 ghost use Rattle.of_mask_groups.specs.declared.group.Group.{Group as AGroup};
 ghost use Rattle.slab.specs.Slab.{get, Updates, HasRoomFor};
 ghost use Rattle.of_headers.specs.FieldMap.{value};
-ghost use Rattle.of_classifier.specs.Winner.{winner_of, number_of as number_of_row};
+ghost use Rattle.of_classifier.specs.Winner.{winner_of, winner_number as number_of_row};
 ghost use Rattle.of_mask_groups.specs.Covering.{number_of_found};
 ghost use Rattle.of_mask_groups.specs.Aged.{by_age, AreAged};
 ghost use Rattle.of_mask_groups.specs.Grouping.{AreGrouped, LooksLike};

@@ -2,7 +2,7 @@
 ghost use Rattle.std.specs.Prelude.{◌≡◌, ℕ};
 ghost use Rattle.slab.specs.Slab.{get};
 ghost use Rattle.of_classifier.specs.Rows.{same_of};
-ghost use Rattle.of_classifier.specs.Winner.{number_of};
+ghost use Rattle.of_classifier.specs.Winner.{winner_number};
 ghost use Rattle.of_mask_groups.specs.Aged.{by_age, AreAged};
 ghost use Rattle.of_mask_groups.specs.Grouping.{AreGrouped};
 ghost use Rattle.of_mask_groups.specs.SameEntry.{IsOldestSame, older_same};
@@ -21,7 +21,7 @@ pub(crate) fn same_in(
     priority: u16,
 ) -> Option<usize>
     requires { AreGrouped entries.now groups.now }
-    ensures { (next : ℕ) → AreAged entries.now next → result ≡ number_of (same_of (by_age next entries.now.slots) fields.now priority) }
+    ensures { (next : ℕ) → AreAged entries.now next → result ≡ winner_number (same_of (by_age next entries.now.slots) fields.now priority) }
 {
     let mask = mask_of(fields);
     match place_of(groups, &mask) {

@@ -5,7 +5,7 @@ use Rattle.std.specs.Prelude.{Result, Ok, Err, OnOk}
 use Rattle.of_messages.specs.declared.message.FlowRemoved.{FlowRemoved}
 use Rattle.of_messages.specs.declared.message.PacketIn.{PacketIn}
 use Rattle.of_messages.specs.declared.message.FlowMod.{FlowMod}
-use Rattle.of_messages.specs.Written.{flow_removed_fixed_part, packet_in_fixed_part, flow_mod_fixed_part, header, message}
+use Rattle.of_messages.specs.Written.{flow_removed_fixed_part, packet_in_fixed_part, flow_mod_fixed_part, message_header, message}
 
 pub length_front : (removed : FlowRemoved) → length (flow_removed_fixed_part removed) ≡ 40
 unfolding flow_removed_fixed_part
@@ -39,11 +39,11 @@ unfolding packet_in_fixed_part
 length_body p fields told = let parts = length-append fields (0 ∷ 0 ∷ told) in omega (arith, parts)
 
 pub packet_in_is : (xid len : ℕ) (p : PacketIn) (fields told : List ℕ) {s1 s2 s3 s4 : List ℕ} (s0 s5 : List ℕ)
-    → s0 ≡ [] → s1 ≡ s0 ++ header 10 len xid → s2 ≡ s1 ++ packet_in_fixed_part p → s3 ≡ s2 ++ fields → s4 ≡ s3 ++ 0 ∷ 0 ∷ [] → s5 ≡ s4 ++ told
+    → s0 ≡ [] → s1 ≡ s0 ++ message_header 10 len xid → s2 ≡ s1 ++ packet_in_fixed_part p → s3 ≡ s2 ++ fields → s4 ≡ s3 ++ 0 ∷ 0 ∷ [] → s5 ≡ s4 ++ told
     → len ≡ 26 + length fields + length told
     → s5 ≡ message 10 xid (packet_in_fixed_part p ++ (fields ++ (0 ∷ 0 ∷ told)))
 packet_in_is xid len p fields told s0 s5 e0 e1 e2 e3 e4 e5 len_is =
-    let whole = five_parts s0 s5 (header 10 len xid) (packet_in_fixed_part p) fields (0 ∷ 0 ∷ []) told e0 e1 e2 e3 e4 e5 in
+    let whole = five_parts s0 s5 (message_header 10 len xid) (packet_in_fixed_part p) fields (0 ∷ 0 ∷ []) told e0 e1 e2 e3 e4 e5 in
     let body = length_body p fields told in
     let total : len ≡ 8 + length (packet_in_fixed_part p ++ (fields ++ (0 ∷ 0 ∷ told))) = omega (arith, len_is, body) in
     rw (← total) whole
@@ -68,11 +68,11 @@ both_halves (Ok x) s0 s2 x1 x2 x3 x4 x5 rest e last = let whole : s2 ≡ (s0 ++ 
 
 -- a FLOW_MOD, part by part
 pub flow_mod_is : (xid len : ℕ) (m : FlowMod) (fields instructions : List ℕ) {s1 s2 s3 : List ℕ} (s0 s4 : List ℕ)
-    → s0 ≡ [] → s1 ≡ s0 ++ header 14 len xid → s2 ≡ s1 ++ flow_mod_fixed_part m → s3 ≡ s2 ++ fields → s4 ≡ s3 ++ instructions
+    → s0 ≡ [] → s1 ≡ s0 ++ message_header 14 len xid → s2 ≡ s1 ++ flow_mod_fixed_part m → s3 ≡ s2 ++ fields → s4 ≡ s3 ++ instructions
     → len ≡ 48 + length fields + length instructions
     → s4 ≡ message 14 xid (flow_mod_fixed_part m ++ (fields ++ instructions))
 flow_mod_is xid len m fields instructions s0 s4 e0 e1 e2 e3 e4 len_is =
-    let whole : s4 ≡ (((([] ++ header 14 len xid) ++ flow_mod_fixed_part m) ++ fields) ++ instructions) = cc in
-    let parts : s4 ≡ header 14 len xid ++ (flow_mod_fixed_part m ++ (fields ++ instructions)) = whole ∙ simp append_assoc in
+    let whole : s4 ≡ (((([] ++ message_header 14 len xid) ++ flow_mod_fixed_part m) ++ fields) ++ instructions) = cc in
+    let parts : s4 ≡ message_header 14 len xid ++ (flow_mod_fixed_part m ++ (fields ++ instructions)) = whole ∙ simp append_assoc in
     let total : len ≡ 8 + length (flow_mod_fixed_part m ++ (fields ++ instructions)) = omega (arith, len_is, length-append (flow_mod_fixed_part m) (fields ++ instructions), length-append fields instructions, length_flow_mod m) in
     rw (← total) parts

@@ -20,38 +20,38 @@ use Rattle.of_actions.proofs.ActionsAgain.{canonical_encoded, canonical_short}
 use Rattle.of_actions.proofs.ActionsComputed.{actions_are}
 use Rattle.of_groups.specs.declared.bucket.Bucket.{Bucket}
 use Rattle.of_groups.specs.Buckets.{fresh, is_fit, are_fit}
-use Rattle.of_messages.specs.Buckets.{buckets, buckets_said, bucket_at, bucket_refusals, actions_in, fault_of, len_at}
+use Rattle.of_messages.specs.Buckets.{buckets, buckets_said, bucket_of_bytes, bucket_refusals, actions_in, actions_fault, bucket_len_at}
 use Rattle.of_messages.specs.CanonicalGroups.{canonical_bucket, canonical_buckets, has_numbers}
 use Rattle.of_messages.proofs.BucketLemmas.{buckets_take}
 use Rattle.of_messages.proofs.BucketsWritten.{length_bucket}
 
 -- what bytes say that begin with the bucket, over a variable, where nothing has computed to bytes yet
 record Says (b : Bucket) (rest behind : List ℕ) : Type 0 where
-  len : len_at rest ≡ 16 + length (canonical_actions b.actions)
+  len : bucket_len_at rest ≡ 16 + length (canonical_actions b.actions)
   weight : big_number 2 (drop 2 rest) ≡ b.weight
   port : big_number 4 (drop 4 rest) ≡ b.watch_port
   group : big_number 4 (drop 8 rest) ≡ b.watch_group
   rest_is : drop 16 rest ≡ canonical_actions b.actions ++ behind
   long : length rest ≡ 16 + length (canonical_actions b.actions ++ behind)
 
-none_refused : (seen : List Bucket) (rest : List ℕ) (actions : List Action) → length seen ≤ 15 → 16 ≤ len_at rest → (len_at rest % 8) ≡ 0 → len_at rest ≤ length rest → actions_said false (actions_in rest) ≡ Ok actions → first_of (bucket_refusals seen rest) ≡ None
+none_refused : (seen : List Bucket) (rest : List ℕ) (actions : List Action) → length seen ≤ 15 → 16 ≤ bucket_len_at rest → (bucket_len_at rest % 8) ≡ 0 → bucket_len_at rest ≤ length rest → actions_said false (actions_in rest) ≡ Ok actions → first_of (bucket_refusals seen rest) ≡ None
 unfolding bucket_refusals
 none_refused seen rest actions few low eight whole said =
     let room : ltb 15 (length seen) ≡ false = le-ltb _ _ few in
     let short : ltb (length rest) 16 ≡ false = le-ltb _ _ (omega arith) in
-    let low' : ltb (len_at rest) 16 ≡ false = le-ltb _ _ low in
-    let eight' : eqb (len_at rest % 8) 0 ≡ true = eq-eqb _ _ eight in
-    let whole' : ltb (length rest) (len_at rest) ≡ false = le-ltb _ _ whole in
-    rw (room, short, low', eight', whole') (ap (λ (r : Result (List Action) Code). first_of (fault_of r)) said)
+    let low' : ltb (bucket_len_at rest) 16 ≡ false = le-ltb _ _ low in
+    let eight' : eqb (bucket_len_at rest % 8) 0 ≡ true = eq-eqb _ _ eight in
+    let whole' : ltb (length rest) (bucket_len_at rest) ≡ false = le-ltb _ _ whole in
+    rw (room, short, low', eight', whole') (ap (λ (r : Result (List Action) Code). first_of (actions_fault r)) said)
 
-value_is : (b : Bucket) (rest behind : List ℕ) → Says b rest behind → actions_said false (actions_in rest) ≡ Ok b.actions → bucket_at rest ≡ Some (fresh b)
-unfolding bucket_at
+value_is : (b : Bucket) (rest behind : List ℕ) → Says b rest behind → actions_said false (actions_in rest) ≡ Ok b.actions → bucket_of_bytes rest ≡ Some (fresh b)
+unfolding bucket_of_bytes
 value_is b rest behind h said = rw (said, h.weight, h.port, h.group) refl
 
 record Read (b : Bucket) (seen : List Bucket) (rest : List ℕ) : Type 0 where
   some : 0 < length rest
   none : first_of (bucket_refusals seen rest) ≡ None
-  at : bucket_at rest ≡ Some (fresh b)
+  at : bucket_of_bytes rest ≡ Some (fresh b)
 
 read : (b : Bucket) (seen : List Bucket) (rest behind : List ℕ) → length seen ≤ 15 → are_supported false b.actions ≡ true → Says b rest behind → Read b seen rest
 read b seen rest behind few served h =
@@ -60,7 +60,7 @@ read b seen rest behind few served h =
     let len = h.len in
     let long = h.long in
     let parts = length-append text behind in
-    let cut : len_at rest - 16 ≡ length text = omega arith in
+    let cut : bucket_len_at rest - 16 ≡ length text = omega arith in
     let front : take (length text) (text ++ behind) ≡ text = take-append-le (length text) text behind (omega arith) ∙ take_all (length text) text (omega arith) in
     let there : actions_in rest ≡ text = ap (λ (k : ℕ). take k (drop 16 rest)) cut ∙ ap (λ (y : List ℕ). take (length text) y) h.rest_is ∙ front in
     let said : actions_said false (actions_in rest) ≡ Ok b.actions = ap (λ (y : List ℕ). actions_said false y) there ∙ actions_are false text b.actions None (canonical_encoded false b.actions served) in

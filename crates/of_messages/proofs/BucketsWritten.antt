@@ -11,7 +11,7 @@ use Rattle.of_actions.proofs.ActionsAgain.{canonical_short}
 use Rattle.of_groups.specs.declared.bucket.Bucket.{Bucket}
 use Rattle.of_groups.specs.Buckets.{is_fit, are_fit}
 use Rattle.of_messages.specs.declared.group_mod.NewGroup.{NewGroup}
-use Rattle.of_messages.specs.Written.{header, message}
+use Rattle.of_messages.specs.Written.{message_header, message}
 use Rattle.of_messages.proofs.Appended.{six_or}
 use Rattle.of_messages.specs.CanonicalGroups.{canonical_bucket, canonical_buckets, group_add_fixed_part}
 
@@ -41,12 +41,12 @@ length_front g = refl
 
 -- a GROUP_MOD, part by part
 pub group_add_is : (xid len : ℕ) (g : NewGroup) (buckets : List ℕ) {s1 s2 : List ℕ} (s0 s3 : List ℕ)
-    → s0 ≡ [] → s1 ≡ s0 ++ header 15 len xid → s2 ≡ s1 ++ group_add_fixed_part g → s3 ≡ s2 ++ buckets
+    → s0 ≡ [] → s1 ≡ s0 ++ message_header 15 len xid → s2 ≡ s1 ++ group_add_fixed_part g → s3 ≡ s2 ++ buckets
     → len ≡ 16 + length buckets
     → s3 ≡ message 15 xid (group_add_fixed_part g ++ buckets)
 group_add_is xid len g buckets s0 s3 e0 e1 e2 e3 len_is =
-    let whole : s3 ≡ ((([] ++ header 15 len xid) ++ group_add_fixed_part g) ++ buckets) = cc in
-    let parts : s3 ≡ header 15 len xid ++ (group_add_fixed_part g ++ buckets) = whole ∙ simp append_assoc in
+    let whole : s3 ≡ ((([] ++ message_header 15 len xid) ++ group_add_fixed_part g) ++ buckets) = cc in
+    let parts : s3 ≡ message_header 15 len xid ++ (group_add_fixed_part g ++ buckets) = whole ∙ simp append_assoc in
     let total : len ≡ 8 + length (group_add_fixed_part g ++ buckets) = omega (arith, len_is, length-append (group_add_fixed_part g) buckets, length_front g) in
     rw (← total) parts
 

@@ -12,10 +12,10 @@ use Rattle.of_groups.specs.Buckets.{are_fit}
 use Rattle.of_messages.specs.declared.message.Message.TheVariants.{GroupMod as IsGroupMod}
 use Rattle.of_messages.specs.declared.group_mod.GroupMod.TheVariants.{Add}
 use Rattle.of_messages.specs.declared.group_mod.NewGroup.{NewGroup}
-use Rattle.of_messages.specs.GroupMods.{command_of, group_mod_of, group_of, kind_of}
+use Rattle.of_messages.specs.GroupMods.{command_of_group_mod, group_mod_of, group_of, group_kind_of}
 use Rattle.of_messages.specs.Heads.{version_of, type_of, header_length, head_refusals}
 use Rattle.of_formats.specs.Messages.{message_row}
-use Rattle.of_messages.specs.Messages.{body_of, message_from, message_of}
+use Rattle.of_messages.specs.Messages.{message_body, message_from, message_of}
 use Rattle.of_groups.specs.Groups.{kind_number}
 use Rattle.of_messages.specs.CanonicalGroups.{canonical_buckets, group_add_fixed_part, group_add_bytes, as_written, has_numbers}
 use Rattle.of_messages.proofs.BucketsWritten.{buckets_short}
@@ -59,8 +59,8 @@ head_passes g m h =
     let size : eqb (header_length m) (length m) ≡ true = eq-eqb _ _ h.size in
     rw (h.type, h.version, eight, sixteen, size) refl
 
-kind_again : (kind : GroupKind) → kind_of (kind_number kind) ≡ Some kind
-unfolding kind_of
+kind_again : (kind : GroupKind) → group_kind_of (kind_number kind) ≡ Some kind
+unfolding group_kind_of
 kind_again All = refl
 kind_again Indirect = refl
 kind_again FastFailover = refl
@@ -71,11 +71,11 @@ group_again g most numbers fit =
     rw (below, kind_again g.kind, buckets_again g.buckets numbers fit) refl
 
 mod_again : (g : NewGroup) (m : List ℕ) → Says g m → group_of (kind_number g.kind) g.id (canonical_buckets g.buckets) ≡ Ok (as_written g) → group_mod_of m ≡ Ok (Add (as_written g))
-unfolding command_of
+unfolding command_of_group_mod
 mod_again g m h group = rw (h.command, h.kind, h.number, h.buckets, group) refl
 
 body_again : (g : NewGroup) (m : List ℕ) → Says g m → first_of (head_refusals m) ≡ None → group_mod_of m ≡ Ok (Add (as_written g)) → message_of m ≡ Ok (IsGroupMod (Add (as_written g)))
-unfolding message_from body_of
+unfolding message_from message_body
 body_again g m h head body = rw (head, h.type, body) refl
 
 pub group_add_again : (xid : ℕ) (g : NewGroup) → g.id ≤ 0xffffff00 → list_all has_numbers g.buckets ≡ true → are_fit g.buckets ≡ true → message_of (group_add_bytes xid g) ≡ Ok (IsGroupMod (Add (as_written g)))

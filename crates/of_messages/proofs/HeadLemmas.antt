@@ -4,10 +4,10 @@ use Rattle.std.proofs.lemmas.Bool.Decides.{nat_tests}
 use Rattle.of_formats.specs.declared.messages.Size.{Size}
 use Rattle.of_formats.specs.declared.messages.Size.TheVariants.{Least}
 use Rattle.of_formats.specs.Messages.{is_bad_size, message_row}
-use Rattle.of_messages.specs.Heads.{size_of}
+use Rattle.of_messages.specs.Heads.{size_by_type}
 
 -- a PACKET_OUT has its fixed part
-pub fixed_part : (type size : ℕ) (row : Size) → type ≡ 13 → size_of type ≡ Some row → is_bad_size (Some row) size ≡ false → 24 ≤ size
+pub fixed_part : (type size : ℕ) (row : Size) → type ≡ 13 → size_by_type type ≡ Some row → is_bad_size (Some row) size ≡ false → 24 ≤ size
 unfolding message_row
 fixed_part type size row is found good =
     let least : Least 24 ≡ row = (let e : Some (Least 24) ≡ Some row = rw is at found in cc) in

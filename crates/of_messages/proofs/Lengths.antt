@@ -7,7 +7,7 @@ use Rattle.of_oxm.specs.Canonical.{canonical}
 use Rattle.of_oxm.specs.declared.match_field.MatchField.{MatchField}
 use Rattle.of_messages.specs.declared.message.FlowRemoved.{FlowRemoved}
 use Rattle.of_messages.specs.declared.message.PacketIn.{PacketIn}
-use Rattle.of_messages.specs.Written.{header, message, IsMessage, hello_bytes, error_bytes, echo_reply_bytes, barrier_reply_bytes, features_body, features_reply_bytes, flow_removed_fixed_part, flow_removed_bytes, packet_fields, packet_in_bytes}
+use Rattle.of_messages.specs.Written.{message_header, message, IsMessage, hello_bytes, error_bytes, echo_reply_bytes, barrier_reply_bytes, features_body, features_reply_bytes, flow_removed_fixed_part, flow_removed_bytes, packet_fields, packet_in_bytes}
 use Rattle.of_messages.proofs.Appended.{length_front, length_body}
 
 total : (kind xid : ℕ) (body : List ℕ) → length (message kind xid body) ≡ 8 + length body
@@ -40,9 +40,9 @@ length_features dpid = refl
 pub features_reply_is_message : (xid dpid : ℕ) → IsMessage (features_reply_bytes xid dpid)
 features_reply_is_message xid dpid = is_message 6 xid (features_body dpid) (omega (arith, length_features dpid))
 
-pub features_reply_is : (xid dpid : ℕ) (s0 s2 : List ℕ) {s1 : List ℕ} → s0 ≡ [] → s1 ≡ s0 ++ header 6 32 xid → s2 ≡ s1 ++ features_body dpid → s2 ≡ features_reply_bytes xid dpid
+pub features_reply_is : (xid dpid : ℕ) (s0 s2 : List ℕ) {s1 : List ℕ} → s0 ≡ [] → s1 ≡ s0 ++ message_header 6 32 xid → s2 ≡ s1 ++ features_body dpid → s2 ≡ features_reply_bytes xid dpid
 features_reply_is xid dpid s0 s2 e0 e1 e2 =
-    let whole : s2 ≡ ([] ++ header 6 32 xid) ++ features_body dpid = cc in
+    let whole : s2 ≡ ([] ++ message_header 6 32 xid) ++ features_body dpid = cc in
     rw (length_features dpid) whole
 
 pub flow_removed_is_message : (xid : ℕ) (removed : FlowRemoved) (fields : List MatchField) → length (canonical fields) ≤ 1128 → IsMessage (flow_removed_bytes xid removed fields)

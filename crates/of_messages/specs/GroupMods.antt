@@ -17,11 +17,11 @@ use Rattle.of_formats.specs.Structs.{numbers, size}
 use Rattle.of_formats.specs.Tables as tables
 
 -- OFPGT_ALL, OFPGT_INDIRECT and OFPGT_FF
-unfoldable pub kind_of : ℕ → Option GroupKind
-kind_of n = if n == 0 then Some All else (if n == 2 then Some Indirect else (if n == 3 then Some FastFailover else None))
+unfoldable pub group_kind_of : ℕ → Option GroupKind
+group_kind_of n = if n == 0 then Some All else (if n == 2 then Some Indirect else (if n == 3 then Some FastFailover else None))
 
-unfoldable pub command_of : ℕ → Option GroupCommand
-command_of n = if n == 0 then Some command.Add else (if n == 1 then Some command.Modify else (if n == 2 then Some command.Delete else None))
+unfoldable pub command_of_group_mod : ℕ → Option GroupCommand
+command_of_group_mod n = if n == 0 then Some command.Add else (if n == 1 then Some command.Modify else (if n == 2 then Some command.Delete else None))
 
 -- above OFPG_MAX
 abbrev pub is_above : ℕ → Bool
@@ -31,7 +31,7 @@ is_above number = nat_lt OFPG_MAX number
 abbrev pub group_of : ℕ → ℕ → List ℕ → Result NewGroup Code
 group_of type id rest = do
   good ← unless ((is_above id, OFPGMFC_INVALID_GROUP) ∷ [])
-  kind ← known (kind_of type) OFPGMFC_BAD_TYPE
+  kind ← known (group_kind_of type) OFPGMFC_BAD_TYPE
   buckets ← buckets_said rest
   Ok (record { id = id; kind = kind; buckets = buckets })
 
@@ -48,7 +48,7 @@ group_mod_for command.Delete type id rest = delete_of id
 
 -- OFPGMFC_BAD_COMMAND, and then by the command
 abbrev pub group_mod_by : List ℕ → List ℕ → Result GroupMod Code
-group_mod_by (c ∷ type ∷ id ∷ []) rest = known (command_of c) OFPGMFC_BAD_COMMAND >>= λ command. group_mod_for command type id rest
+group_mod_by (c ∷ type ∷ id ∷ []) rest = known (command_of_group_mod c) OFPGMFC_BAD_COMMAND >>= λ command. group_mod_for command type id rest
 group_mod_by other rest = Err OFPBRC_BAD_LEN
 
 abbrev pub group_mod_of : List ℕ → Result GroupMod Code

@@ -36,11 +36,11 @@ abbrev pub format_of : ℕ → Option MessageRow
 format_of type = if_read (message_row type)
 
 -- the size of the messages of a type: exactly so many bytes, or so many at least
-abbrev pub size_of : ℕ → Option Size
-size_of type = option_map (λ row. row.size) (format_of type)
+abbrev pub size_by_type : ℕ → Option Size
+size_by_type type = option_map (λ row. row.size) (format_of type)
 
-abbrev pub is_supported : ℕ → Bool
-is_supported type = is_some (size_of type)
+abbrev pub is_supported_type : ℕ → Bool
+is_supported_type type = is_some (size_by_type type)
 
 -- how many bytes the actions of a PACKET_OUT have
 abbrev pub actions_length : List ℕ → ℕ
@@ -52,8 +52,8 @@ head_refusals m =
     (nat_lt (length m) 8 || not (header_length m == length m), OFPBRC_BAD_LEN)
     ∷ (not (type_of m == HELLO) && not (version_of m == 4), OFPBRC_BAD_VERSION)
     ∷ (type_of m == EXPERIMENTER, OFPBRC_BAD_EXPERIMENTER)
-    ∷ (not (is_supported (type_of m)), OFPBRC_BAD_TYPE)
-    ∷ (is_bad_size (size_of (type_of m)) (length m), OFPBRC_BAD_LEN)
+    ∷ (not (is_supported_type (type_of m)), OFPBRC_BAD_TYPE)
+    ∷ (is_bad_size (size_by_type (type_of m)) (length m), OFPBRC_BAD_LEN)
     ∷ (type_of m == PACKET_OUT && nat_lt (length m) (24 + actions_length m), OFPBRC_BAD_LEN)
     ∷ []
 
@@ -88,5 +88,5 @@ IsSized (Some (Least n)) k = n ≤ k
 pub record HasHead (m : List ℕ) : Type 0 where
   pub header : 8 ≤ length m
   pub most : length m ≤ 65535
-  pub sized : IsSized (size_of (type_of m)) (length m)
+  pub sized : IsSized (size_by_type (type_of m)) (length m)
   pub actions : type_of m ≡ PACKET_OUT → 24 + actions_length m ≤ length m

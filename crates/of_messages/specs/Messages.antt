@@ -7,7 +7,7 @@ use Rattle.of_wire.specs.Refusals.{first_of}
 use Rattle.of_oxm.specs.MatchReading.{match_of}
 use Rattle.of_actions.specs.declared.instruction.Instruction.{Instruction}
 use Rattle.of_actions.specs.Actions.{actions_said}
-use Rattle.of_actions.specs.InstructionReading.{instructions_of}
+use Rattle.of_actions.specs.InstructionReading.{instructions_in_bytes}
 use Rattle.of_actions.specs.FlowCheck.{all_go_with}
 use Rattle.of_actions.specs.PortNumbers.{is_number}
 use Rattle.of_headers.specs.Faults.{frame_fault}
@@ -58,7 +58,7 @@ command_said c table flags = do
 
 -- the two DELETE commands have no instructions, whatever follows the match
 abbrev pub instructions_for : FlowModCommand → ℕ → List ℕ → Result (List Instruction) Code
-instructions_for command table bytes = if is_delete command then Ok [] else instructions_of table bytes
+instructions_for command table bytes = if is_delete command then Ok [] else instructions_in_bytes table bytes
 
 -- its numbers, and the match and the instructions that follow them; OFPBAC_MATCH_INCONSISTENT where a set-field action lacks its prerequisites in the match
 abbrev pub flow_mod_by : List ℕ → List ℕ → Result FlowMod Code
@@ -115,8 +115,8 @@ packet_out_of m = packet_out_by (numbers tables.packet_out 8 m) (drop (8 + size 
 -- A MESSAGE
 
 -- by its type; another type is always refused, so the last line never applies
-unfoldable pub body_of : List ℕ → Result Message Code
-body_of m =
+unfoldable pub message_body : List ℕ → Result Message Code
+message_body m =
     if type_of m == HELLO then Ok Hello
     else if type_of m == ERROR then Ok Error
     else if type_of m == ECHO_REQUEST then Ok (EchoRequest (drop 8 m))
@@ -138,7 +138,7 @@ body_of m =
 
 abbrev pub message_by : List ℕ → Option Code → Result Message Code
 message_by m (Some code) = Err code
-message_by m None = body_of m
+message_by m None = message_body m
 
 -- what a message of a controller of that role says
 unfoldable pub message_from : Role → List ℕ → Result Message Code

@@ -19,8 +19,8 @@ use Rattle.of_formats.specs.Messages.{is_bad_size}
 use Rattle.of_messages.specs.Configs.{names_table}
 
 -- what a number asks for
-unfoldable pub kind_of : ℕ → Option MultipartKind
-kind_of number =
+unfoldable pub multipart_kind_of : ℕ → Option MultipartKind
+multipart_kind_of number =
     if number == 0 then Some kind.Description
     else if number == 1 then Some kind.Flow
     else if number == 2 then Some kind.Aggregate
@@ -33,23 +33,23 @@ kind_of number =
     else None
 
 -- the size of the whole message
-abbrev pub size_of : MultipartKind → Size
-size_of kind.Flow = Least (16 + size tables.flow_stats_request + 8)
-size_of kind.Aggregate = Least (16 + size tables.flow_stats_request + 8)
-size_of kind.PortStats = Exact (16 + size tables.port_stats_request)
-size_of kind.Group = Exact (16 + size tables.group_stats_request)
-size_of other = Exact 16
+abbrev pub multipart_size : MultipartKind → Size
+multipart_size kind.Flow = Least (16 + size tables.flow_stats_request + 8)
+multipart_size kind.Aggregate = Least (16 + size tables.flow_stats_request + 8)
+multipart_size kind.PortStats = Exact (16 + size tables.port_stats_request)
+multipart_size kind.Group = Exact (16 + size tables.group_stats_request)
+multipart_size other = Exact 16
 
 abbrev pub size_asked : Option MultipartKind → Option Size
 size_asked None = None
-size_asked (Some kind) = Some (size_of kind)
+size_asked (Some kind) = Some (multipart_size kind)
 
 -- OFPBRC_BAD_MULTIPART for an unsupported type, OFPBRC_MULTIPART_BUFFER_OVERFLOW for a request in parts (OFPMPF_REQ_MORE), OFPBRC_BAD_LEN
 abbrev pub refusals_by : List ℕ → ℕ → List (Bool × Code)
 refusals_by (type ∷ flags ∷ []) len =
-    (is_none (kind_of type), OFPBRC_BAD_MULTIPART)
+    (is_none (multipart_kind_of type), OFPBRC_BAD_MULTIPART)
     ∷ (flags % 2 == 1, OFPBRC_MULTIPART_BUFFER_OVERFLOW)
-    ∷ (is_bad_size (size_asked (kind_of type)) len, OFPBRC_BAD_LEN)
+    ∷ (is_bad_size (size_asked (multipart_kind_of type)) len, OFPBRC_BAD_LEN)
     ∷ []
 refusals_by other len = []
 
@@ -57,11 +57,11 @@ abbrev pub multipart_refusals : List ℕ → List (Bool × Code)
 multipart_refusals m = refusals_by (numbers tables.multipart 8 m) (length m)
 
 abbrev pub kind_by : List ℕ → Option MultipartKind
-kind_by (type ∷ flags ∷ []) = kind_of type
+kind_by (type ∷ flags ∷ []) = multipart_kind_of type
 kind_by other = None
 
-abbrev pub kind_in : List ℕ → Option MultipartKind
-kind_in m = kind_by (numbers tables.multipart 8 m)
+abbrev pub multipart_kind_in : List ℕ → Option MultipartKind
+multipart_kind_in m = kind_by (numbers tables.multipart 8 m)
 
 -- FLOW AND AGGREGATE (7.3.5.2 and 7.3.5.3)
 
@@ -87,16 +87,16 @@ number_by (number ∷ []) = number
 number_by other = 0
 
 -- of a port, or of a group
-abbrev pub number_in : List ℕ → ℕ
-number_in m = number_by (numbers tables.port_stats_request 16 m)
+abbrev pub requested_number : List ℕ → ℕ
+requested_number m = number_by (numbers tables.port_stats_request 16 m)
 
 abbrev pub request_of : List ℕ → MultipartKind → Result MultipartRequest Code
 request_of m kind.Description = Ok Description
 request_of m kind.Flow = flow_stats_of m >>= λ r. Ok (Flow r)
 request_of m kind.Aggregate = flow_stats_of m >>= λ r. Ok (Aggregate r)
 request_of m kind.Table = Ok Table
-request_of m kind.PortStats = Ok (PortStats (one_or_all OFPP_ANY (number_in m)))
-request_of m kind.Group = Ok (Group (one_or_all OFPG_ALL (number_in m)))
+request_of m kind.PortStats = Ok (PortStats (one_or_all OFPP_ANY (requested_number m)))
+request_of m kind.Group = Ok (Group (one_or_all OFPG_ALL (requested_number m)))
 request_of m kind.GroupDescription = Ok GroupDescription
 request_of m kind.GroupFeatures = Ok GroupFeatures
 request_of m kind.PortDescription = Ok PortDescription
@@ -108,7 +108,7 @@ multipart_by m None (Some kind) = request_of m kind
 multipart_by m None None = Err OFPBRC_BAD_MULTIPART
 
 unfoldable pub multipart_of : List ℕ → Result MultipartRequest Code
-multipart_of m = multipart_by m (first_of (multipart_refusals m)) (kind_in m)
+multipart_of m = multipart_by m (first_of (multipart_refusals m)) (multipart_kind_in m)
 
 -- WHAT HOLDS FOR WHAT WAS READ: a request for flows names a table, or all
 abbrev pub IsSoundRequest : MultipartRequest → Type 0

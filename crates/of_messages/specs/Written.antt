@@ -26,12 +26,12 @@ use Rattle.of_messages.specs.declared.port_mod.PortStatusReason.TheVariants as s
 use Rattle.of_messages.specs.declared.message.FlowRemoved.{FlowRemoved}
 
 -- version 4, type, length, transaction id (OpenFlow 1.3.5, 7.1)
-abbrev pub header : ℕ → ℕ → ℕ → List ℕ
-header kind size xid = written tables.header (4 ∷ kind ∷ size ∷ xid ∷ [])
+abbrev pub message_header : ℕ → ℕ → ℕ → List ℕ
+message_header kind size xid = written tables.header (4 ∷ kind ∷ size ∷ xid ∷ [])
 
 -- a message of that type, with its length
 abbrev pub message : ℕ → ℕ → List ℕ → List ℕ
-message kind xid body = header kind (8 + length body) xid ++ body
+message kind xid body = message_header kind (8 + length body) xid ++ body
 
 -- bytes that are one message: 8 to 65,535 of them, of version 4, and the header says how many (7.1)
 abbrev pub IsMessage : List ℕ → Type 0

@@ -3,7 +3,7 @@ ghost use Rattle.std.specs.Prelude.{◌≡◌, ◌≤◌, false, length, IsTrue,
 ghost use Rattle.of_wire.specs.Failures.{Fails, Reads};
 ghost use Rattle.of_wire.specs.Refusals.{first_of};
 ghost use Rattle.of_actions.specs.Supported.{are_supported};
-ghost use Rattle.of_messages.specs.Buckets.{bucket_at, bucket_refusals, buckets_said, len_at};
+ghost use Rattle.of_messages.specs.Buckets.{bucket_of_bytes, bucket_refusals, buckets_said, bucket_len_at};
 
 use crate::reading::rest_from;
 use byteorder::{BigEndian, ByteOrder};
@@ -14,14 +14,14 @@ use of_wire::codes::{OFPGMFC_BAD_BUCKET, OFPGMFC_OUT_OF_BUCKETS};
 use std::alloc::Global;
 
 // The bucket that the bytes begin with, and its size.
-#[tactic(auto, unfolding(crate::specs::Buckets::bucket_refusals, crate::specs::Buckets::bucket_at))]
+#[tactic(auto, unfolding(crate::specs::Buckets::bucket_refusals, crate::specs::Buckets::bucket_of_bytes))]
 fn read_bucket(alloc: Global, rest: &[u8], seen: &[Bucket]) -> Result<(Bucket, usize), ReadError>
-    ensures size { IfOk result (λ read. read.1 ≡ len_at rest.now) }
+    ensures size { IfOk result (λ read. read.1 ≡ bucket_len_at rest.now) }
     ensures some { IfOk result (λ read. 16 ≤ read.1) }
     ensures whole { IfOk result (λ read. read.1 ≤ length rest.now) }
     ensures room { OnOk result (length seen.now ≤ 15) }
     ensures none { OnOk result (first_of (bucket_refusals seen.now rest.now) ≡ None) }
-    ensures bucket { IfOk result (λ read. bucket_at rest.now ≡ Some read.0) }
+    ensures bucket { IfOk result (λ read. bucket_of_bytes rest.now ≡ Some read.0) }
     ensures served { IfOk result (λ read. IsTrue (are_supported false read.0.actions)) }
     ensures first { IfErr result (Fails (λ code. first_of (bucket_refusals seen.now rest.now) ≡ Some code)) }
 {

@@ -2,7 +2,7 @@
 ghost use Rattle.std.specs.Prelude.{◌≡◌, ◌≤◌, IfOk, length, drop, slice_index};
 ghost use Rattle.byteorder.specs.Endian.{big_number};
 ghost use Rattle.of_wire.specs.Failures.{Reads};
-ghost use Rattle.of_messages.specs.GroupMods.{command_of, delete_of, group_mod_of, group_of, kind_of};
+ghost use Rattle.of_messages.specs.GroupMods.{command_of_group_mod, delete_of, group_mod_of, group_of, group_kind_of};
 ghost use Rattle.of_messages.specs.Promised.{IsSoundGroupMod};
 
 use crate::bucket_reading::read_buckets;
@@ -40,9 +40,9 @@ enum GroupCommand {
     Delete,
 }
 
-#[tactic(auto, unfolding(crate::specs::GroupMods::command_of))]
+#[tactic(auto, unfolding(crate::specs::GroupMods::command_of_group_mod))]
 fn command_from(number: u16) -> Option<GroupCommand>
-    ensures { result ≡ command_of number }
+    ensures { result ≡ command_of_group_mod number }
 {
     match number {
         0 => Some(GroupCommand::Add),
@@ -52,9 +52,9 @@ fn command_from(number: u16) -> Option<GroupCommand>
     }
 }
 
-#[tactic(auto, unfolding(crate::specs::GroupMods::kind_of))]
+#[tactic(auto, unfolding(crate::specs::GroupMods::group_kind_of))]
 fn kind_from(number: u8) -> Option<GroupKind>
-    ensures { result ≡ kind_of number }
+    ensures { result ≡ group_kind_of number }
 {
     match number {
         0 => Some(GroupKind::All),

@@ -2,7 +2,7 @@
 ghost use Rattle.std.specs.Prelude.{◌≡◌, ◌≤◌, ◌<◌, ◌+◌, ◌++◌, length, OnOk, MatchResult, None, Some};
 ghost use Rattle.std.specs.Option.{option_map};
 ghost use Rattle.of_wire.specs.Refusals.{first_of};
-ghost use Rattle.of_messages.specs.Heads.{HasHead, actions_length, format_of, head_refusals, is_change as changes, role_refusals, size_of};
+ghost use Rattle.of_messages.specs.Heads.{HasHead, actions_length, format_of, head_refusals, is_change as changes, role_refusals, size_by_type};
 
 use crate::role::Role;
 use byteorder::{BigEndian, ByteOrder};
@@ -23,7 +23,7 @@ fn row_read(kind: u8) -> Option<&'static MessageRow>
 
 // The size of the messages of a supported type.
 fn size_of_type(kind: u8) -> Option<Size>
-    ensures { result ≡ size_of kind }
+    ensures { result ≡ size_by_type kind }
 {
     Some(row_read(kind)?.size)
 }

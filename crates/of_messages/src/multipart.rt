@@ -4,7 +4,7 @@ ghost use Rattle.of_wire.specs.Refusals.{first_of};
 ghost use Rattle.of_wire.specs.Failures.{Reads};
 ghost use Rattle.of_messages.specs.Configs.{names_table as is_named};
 ghost use Rattle.of_messages.specs.Heads.{IsSized};
-ghost use Rattle.of_messages.specs.Multiparts.{IsSoundRequest, flow_stats_of, kind_in, kind_of, multipart_of, multipart_refusals, number_in, one_or_all as asked, request_of, size_of};
+ghost use Rattle.of_messages.specs.Multiparts.{IsSoundRequest, flow_stats_of, multipart_kind_in, multipart_kind_of, multipart_of, multipart_refusals, requested_number, one_or_all as asked, request_of, multipart_size};
 
 use crate::config::names_table;
 use crate::reading::rest_from;
@@ -62,9 +62,9 @@ enum MultipartKind {
     PortDescription,
 }
 
-#[tactic(auto, unfolding(crate::specs::Multiparts::kind_of))]
+#[tactic(auto, unfolding(crate::specs::Multiparts::multipart_kind_of))]
 fn kind_from(number: u16) -> Option<MultipartKind>
-    ensures { result ≡ kind_of number }
+    ensures { result ≡ multipart_kind_of number }
 {
     match number {
         0 => Some(MultipartKind::Description),
@@ -82,7 +82,7 @@ fn kind_from(number: u16) -> Option<MultipartKind>
 
 // The size of the whole message.
 fn size_of_kind(kind: MultipartKind) -> Size
-    ensures { result ≡ size_of kind }
+    ensures { result ≡ multipart_size kind }
 {
     match kind {
         MultipartKind::Flow | MultipartKind::Aggregate => Size::Least(56),
@@ -100,8 +100,8 @@ fn check_multipart(message: &[u8]) -> Result<MultipartKind, Code>
     requires { 16 ≤ length message.now }
     ensures refusal { MatchResult result (λ _. first_of (multipart_refusals message.now) ≡ None)
         (λ code. first_of (multipart_refusals message.now) ≡ Some code) }
-    ensures kind { IfOk result (λ kind. kind_in message.now ≡ Some kind) }
-    ensures sized { IfOk result (λ kind. IsSized (Some (size_of kind)) (length message.now)) }
+    ensures kind { IfOk result (λ kind. multipart_kind_in message.now ≡ Some kind) }
+    ensures sized { IfOk result (λ kind. IsSized (Some (multipart_size kind)) (length message.now)) }
 {
     let Some(kind) = kind_from(BigEndian::read_u16(rest_from(message, 8))) else {
         return Err(OFPBRC_BAD_MULTIPART);
@@ -145,7 +145,7 @@ fn one_or_all(all: u32, number: u32) -> Option<u32>
 // The port or group that a request of 24 bytes names, or all.
 fn asked_in(message: &[u8], all: u32) -> Option<u32>
     requires { 24 ≤ length message.now }
-    ensures { result ≡ asked all (number_in message.now) }
+    ensures { result ≡ asked all (requested_number message.now) }
 {
     one_or_all(all, BigEndian::read_u32(rest_from(message, 16)))
 }
@@ -156,7 +156,7 @@ fn read_request(
     kind: MultipartKind,
     message: &[u8],
 ) -> Result<MultipartRequest, ReadError>
-    requires { IsSized (Some (size_of kind)) (length message.now) }
+    requires { IsSized (Some (multipart_size kind)) (length message.now) }
     ensures reads { Reads result (request_of message.now kind) }
     ensures sound { IfOk result IsSoundRequest }
 {

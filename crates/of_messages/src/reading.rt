@@ -3,7 +3,7 @@ ghost use Rattle.std.specs.Prelude.{◌≡◌, ◌≤◌, ◌<◌, ◌+◌, leng
 ghost use Rattle.byteorder.specs.Endian.{big_number};
 ghost use Rattle.of_wire.specs.Failures.{Reads};
 ghost use Rattle.of_messages.specs.Heads.{HasHead, actions_length};
-ghost use Rattle.of_messages.specs.Messages.{message_from, message_of, body_of, command_said, flow_mod_of, instructions_for, is_delete, is_ingress as may_be_ingress, packet_in_data, packet_out_of};
+ghost use Rattle.of_messages.specs.Messages.{message_from, message_of, message_body, command_said, flow_mod_of, instructions_for, is_delete, is_ingress as may_be_ingress, packet_in_data, packet_out_of};
 ghost use Rattle.of_messages.specs.Promised.{IsSoundFlowMod, IsSoundPacket, IsSoundMessage};
 ghost use Rattle.of_actions.specs.InstructionLists.{are_for};
 
@@ -152,10 +152,10 @@ fn read_packet_out(alloc: Global, message: &[u8]) -> Result<PacketOut, ReadError
 }
 
 // A message whose head is not refused.
-#[tactic(auto, unfolding(crate::specs::Messages::body_of, of_formats::specs::Messages::message_row))]
+#[tactic(auto, unfolding(crate::specs::Messages::message_body, of_formats::specs::Messages::message_row))]
 fn read_body(alloc: Global, message: &[u8]) -> Result<Message, ReadError>
     requires { HasHead message.now }
-    ensures reads { Reads result (body_of message.now) }
+    ensures reads { Reads result (message_body message.now) }
     ensures sound { IfOk result IsSoundMessage }
 {
     Ok(match message[1] {

@@ -1,6 +1,6 @@
 //! The bytes of messages that the switch sends.
 ghost use Rattle.std.specs.Prelude.{◌≡◌, ◌≤◌, ◌++◌, length, OnOk, IfOk};
-ghost use Rattle.of_messages.specs.Written.{header, hello_bytes, error_bytes, echo_reply_bytes, barrier_reply_bytes, flow_removed_fixed_part, flow_removed_bytes, packet_fields, packet_in_fixed_part, packet_in_bytes};
+ghost use Rattle.of_messages.specs.Written.{message_header, hello_bytes, error_bytes, echo_reply_bytes, barrier_reply_bytes, flow_removed_fixed_part, flow_removed_bytes, packet_fields, packet_in_fixed_part, packet_in_bytes};
 ghost use Rattle.of_oxm.specs.Canonical.{canonical};
 
 use crate::message::{FlowRemoved, PacketIn};
@@ -17,7 +17,7 @@ pub(crate) fn put_header(
     length: usize,
     xid: u32,
 ) -> Result<(), AllocError>
-    ensures { OnOk result (out.new.items ≡ out.old.items ++ header kind length xid) }
+    ensures { OnOk result (out.new.items ≡ out.old.items ++ message_header kind length xid) }
 {
     let high = (length / 256 % 256) as u8;
     let low = (length % 256) as u8;

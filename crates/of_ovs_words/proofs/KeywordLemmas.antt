@@ -5,7 +5,7 @@ use Rattle.std.proofs.lemmas.Slice.Eq.{bytes_eq-Decides}
 use Rattle.std.proofs.lemmas.Bool.{eq-eqb}
 use Rattle.std.specs.Char.{to_ascii_lowercase}
 use Rattle.std.specs.Str.{str_eq_ignore_ascii_case}
-use Rattle.of_wire.specs.Parts.{before, keyword}
+use Rattle.of_wire.specs.Parts.{before_place, keyword}
 
 -- the array goes on as far as its word
 record IsFront (padded word : List ℕ) : Type 0 where
@@ -18,7 +18,7 @@ taken padded n = record {
   same = λ i h. let e = length-take n padded in get_or-take n padded i 0 (omega (arith, e, h));
 }
 
-front : (padded : List ℕ) (place : Option ℕ) → IsFront padded (before padded place)
+front : (padded : List ℕ) (place : Option ℕ) → IsFront padded (before_place padded place)
 front padded None = record { long = omega arith; same = λ i h. refl }
 front padded (Some n) = taken padded n
 

@@ -14,12 +14,12 @@ unfoldable pub field_word_named : List ℕ → Option FieldWord
 field_word_named text = find (λ w. bytes_eq (keyword w.text) text) FIELD_WORDS
 
 -- the word is for that field, if no other setting says more
-abbrev pub is_for : Field → FieldWord → Bool
-is_for f word = option_map_or (λ g. number_of g == number_of f) (field_for word.target []) false
+abbrev pub is_for_field : Field → FieldWord → Bool
+is_for_field f word = option_map_or (λ g. number_of g == number_of f) (field_for word.target []) false
 
 -- the word that is written for a field: the first one that is for it
 unfoldable pub word_for : Field → Option FieldWord
-word_for f = find (is_for f) FIELD_WORDS
+word_for f = find (is_for_field f) FIELD_WORDS
 
 abbrev pub text_for : Field → List ℕ
 text_for f = option_map_or (λ w. keyword w.text) (word_for f) []

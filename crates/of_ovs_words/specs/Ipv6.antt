@@ -1,7 +1,8 @@
 -- IPv6 ADDRESSES IN WORDS: eight groups of 16 bits in hexadecimal digits with colons between them, or fewer and `::` once for the others, which are zeros.
 use Rattle.std.specs.Prelude.{ℕ, zero, suc, ◌+◌, ◌-◌, ◌*◌, ◌^◌, ◌==◌, ◌&&◌, not, nat_le, nat_lt, Bool, List, [], ◌∷◌, length, filter, Option, Some, None, if◌then◌else◌}
 use Rattle.of_lines.specs.Lines.{prepended, before, behind}
-use Rattle.of_ovs_words.specs.Numbers.{◌>>=◌, below, some_digits}
+use Rattle.of_lines.specs.Reading.{below, ◌>>=◌}
+use Rattle.of_ovs_words.specs.Numbers.{some_digits}
 
 -- WHAT STANDS BETWEEN COLONS
 unfoldable pub pieces : List ℕ → List (List ℕ)
@@ -30,12 +31,12 @@ with_groups missing wanted value (p ∷ ps) = with_piece missing wanted value p 
 abbrev pub group_count : List (List ℕ) → ℕ
 group_count ps = length (filter (λ p. not (length p == 0)) ps)
 
-abbrev pub groups_in : List (List ℕ) → Option ℕ
-groups_in ps = if nat_le (group_count ps) 8 then with_groups (8 - group_count ps) (nat_lt (group_count ps) 8) 0 ps else None
+abbrev pub address_in_groups : List (List ℕ) → Option ℕ
+address_in_groups ps = if nat_le (group_count ps) 8 then with_groups (8 - group_count ps) (nat_lt (group_count ps) 8) 0 ps else None
 
 -- of two colons at the beginning one counts
 abbrev pub without_colon : List ℕ → List ℕ
 without_colon word = if length (before 58 word) == 0 then behind 58 word else word
 
 unfoldable pub ipv6_in : List ℕ → Option ℕ
-ipv6_in word = groups_in (pieces (without_colon word))
+ipv6_in word = address_in_groups (pieces (without_colon word))

@@ -12,8 +12,8 @@ use Rattle.of_ovs_words.specs.declared.protocol_word.ProtocolWord.{ProtocolWord}
 use Rattle.of_ovs_words.specs.declared.field_word.FieldWord.{FieldWord}
 use Rattle.of_ovs_words.specs.declared.field_word.Form.{Form}
 use Rattle.of_ovs_words.specs.declared.field_word.Form.TheVariants.{Tci}
-use Rattle.of_ovs_words.specs.Outcomes.{◌>>=◌, given, one}
-use Rattle.of_ovs_words.specs.Settings.{exact, field_for, setting_in, last_of, under}
+use Rattle.of_ovs_words.specs.Outcomes.{◌>>=◌, value_or_why, one}
+use Rattle.of_ovs_words.specs.Settings.{exact, field_for, setting_in, last_of, setting_under}
 use Rattle.of_ovs_words.specs.Tci.{tci_settings}
 
 abbrev pub protocol_settings : Option ℕ → List MatchField
@@ -24,16 +24,16 @@ abbrev pub with_protocol : List MatchField → ProtocolWord → List ℕ → Res
 with_protocol settings word value = if length value == 0 then Ok (settings ++ exact fields.EthType word.ethertype ∷ [] ++ protocol_settings word.protocol) else Err whys.Unknown
 
 -- VLAN_PCP says that there is a tag, whatever was said of its number (OpenFlow 1.3.5, 7.2.3.7)
-abbrev pub tagged : Option MatchField → Option MatchField
-tagged None = under fields.VlanVid 4096 4096
-tagged (Some e) = under fields.VlanVid (bit_or e.value 4096) (bit_or (unwrap_or e.mask 8191) 4096)
+abbrev pub tagged_setting : Option MatchField → Option MatchField
+tagged_setting None = setting_under fields.VlanVid 4096 4096
+tagged_setting (Some e) = setting_under fields.VlanVid (bit_or e.value 4096) (bit_or (unwrap_or e.mask 8191) 4096)
 
 abbrev pub tag_with : Field → List MatchField → List MatchField
-tag_with f settings = if number_of f == number_of fields.VlanPcp then one (tagged (last_of fields.VlanVid settings)) else []
+tag_with f settings = if number_of f == number_of fields.VlanPcp then one (tagged_setting (last_of fields.VlanVid settings)) else []
 
-abbrev pub with_setting : List MatchField → FieldWord → List ℕ → Result (List MatchField) Why
-with_setting settings word value = do
-  f ← given whys.Protocol (field_for word.target settings)
+abbrev pub with_field_setting : List MatchField → FieldWord → List ℕ → Result (List MatchField) Why
+with_field_setting settings word value = do
+  f ← value_or_why whys.Protocol (field_for word.target settings)
   e ← setting_in word.form f value
   Ok (settings ++ tag_with f settings ++ one e)
 
@@ -44,9 +44,9 @@ abbrev pub is_tci : Form → Bool
 is_tci Tci = true
 is_tci other = false
 
-unfoldable pub with_field : List MatchField → FieldWord → List ℕ → Result (List MatchField) Why
-with_field settings word value = if is_tci word.form then with_tci settings value else with_setting settings word value
+unfoldable pub with_match_field : List MatchField → FieldWord → List ℕ → Result (List MatchField) Why
+with_match_field settings word value = if is_tci word.form then with_tci settings value else with_field_setting settings word value
 
 -- the fields of a match: of each the last setting, in ascending order of number
-abbrev pub fields_of : List MatchField → List MatchField
-fields_of settings = filter_map (λ f. last_of f settings) constants.ALL
+abbrev pub fields_of_settings : List MatchField → List MatchField
+fields_of_settings settings = filter_map (λ f. last_of f settings) constants.ALL

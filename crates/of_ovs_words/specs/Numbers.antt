@@ -1,16 +1,8 @@
 -- NUMBERS IN WORDS: decimal, or hexadecimal after 0x.
-use Rattle.std.specs.Prelude.{ℕ, ◌+◌, ◌-◌, ◌*◌, ◌==◌, ◌&&◌, not, nat_le, nat_lt, List, [], ◌∷◌, length, codes, Option, Some, None, if◌then◌else◌}
+use Rattle.std.specs.Prelude.{ℕ, ◌+◌, ◌-◌, ◌*◌, ◌==◌, ◌&&◌, not, nat_le, List, [], ◌∷◌, length, codes, Option, Some, None, if◌then◌else◌}
 use Rattle.std.specs.Str.{bytes_eq}
 use Rattle.of_lines.specs.Lines.{before, behind}
-
--- the second step, if the first gave a value
-infixl 10 ◌>>=◌
-abbrev pub ◌>>=◌ : {A B : Type 0} → Option A → (A → Option B) → Option B
-None >>= f = None
-(Some a) >>= f = f a
-
-abbrev pub below : ℕ → ℕ → Option ℕ
-below limit n = if nat_lt n limit then Some n else None
+use Rattle.of_lines.specs.Reading.{below, ◌>>=◌}
 
 -- the value of a digit, in either case
 abbrev pub digit : ℕ → Option ℕ

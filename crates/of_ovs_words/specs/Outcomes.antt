@@ -11,13 +11,13 @@ abbrev pub ◌>>=◌ : {A B E : Type 0} → Result A E → (A → Result B E) �
 (Ok a) >>= f = f a
 
 -- the value, or else this is why
-abbrev pub given : {A : Type 0} → Why → Option A → Result A Why
-given why None = Err why
-given why (Some a) = Ok a
+abbrev pub value_or_why : {A : Type 0} → Why → Option A → Result A Why
+value_or_why why None = Err why
+value_or_why why (Some a) = Ok a
 
 -- a number below the limit
 abbrev pub numbered : ℕ → List ℕ → Result ℕ Why
-numbered limit word = given whys.Value (number_in limit word)
+numbered limit word = value_or_why whys.Value (number_in limit word)
 
 -- an item, if there is one
 abbrev pub one : {A : Type 0} → Option A → List A
@@ -25,6 +25,6 @@ one None = []
 one (Some a) = a ∷ []
 
 -- a step for each word, of which empty ones are passed over, until one is refused
-abbrev pub through : {S : Type 0} → (S → List ℕ → Result S Why) → S → List (List ℕ) → Result S Why
-through step s [] = Ok s
-through step s (w ∷ ws) = if length w == 0 then through step s ws else step s w >>= λ next. through step next ws
+abbrev pub through_words : {S : Type 0} → (S → List ℕ → Result S Why) → S → List (List ℕ) → Result S Why
+through_words step s [] = Ok s
+through_words step s (w ∷ ws) = if length w == 0 then through_words step s ws else step s w >>= λ next. through_words step next ws

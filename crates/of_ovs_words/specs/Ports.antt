@@ -4,12 +4,12 @@ use Rattle.of_ovs_words.specs.declared.why.Why.{Why}
 use Rattle.of_ovs_words.specs.declared.why.Why.TheVariants.{Unknown}
 use Rattle.of_ovs_words.specs.declared.port_word.PortWord.{PortWord}
 use Rattle.of_ovs_words.specs.Numbers.{number_in}
-use Rattle.of_ovs_words.specs.Outcomes.{given}
+use Rattle.of_ovs_words.specs.Outcomes.{value_or_why}
 use Rattle.of_ovs_words.specs.PortWords.{port_word_named}
 
 -- a port without a number: reserved, or else named
 abbrev pub port_named : Why → Option PortWord → Result ℕ Why
-port_named why (Some word) = given Unknown word.number
+port_named why (Some word) = value_or_why Unknown word.number
 port_named why None = Err why
 
 abbrev pub port_numbered : Why → List ℕ → Option ℕ → Result ℕ Why

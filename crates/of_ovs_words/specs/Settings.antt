@@ -13,11 +13,11 @@ use Rattle.of_ovs_words.specs.declared.field_word.Target.{Target}
 use Rattle.of_ovs_words.specs.declared.field_word.Target.TheVariants.{Exact, Protocol, NetworkSource, NetworkDestination, TransportSource, TransportDestination, IcmpType, IcmpCode}
 use Rattle.of_lines.specs.Lines.{before, behind}
 use Rattle.of_ovs_words.specs.Numbers.{number_in}
-use Rattle.of_ovs_words.specs.Outcomes.{◌>>=◌, given}
+use Rattle.of_ovs_words.specs.Outcomes.{◌>>=◌, value_or_why}
 use Rattle.of_ovs_words.specs.Ports.{port_in}
 use Rattle.std.specs.Str.{bytes_eq}
 use Rattle.of_ovs_words.specs.Ipv6.{ipv6_in}
-use Rattle.of_ovs_words.specs.Values.{mac_in, ipv4_in, first_bits}
+use Rattle.of_ovs_words.specs.Values.{mac_in, ipv4_in, first_bits_mask}
 
 -- ---- which field
 
@@ -62,13 +62,13 @@ abbrev pub vlan_in : List ℕ → Option ℕ
 vlan_in word = vlan_of (number_in 65536 word)
 
 unfoldable pub value_in : Form → Field → List ℕ → Result ℕ Why
-value_in Number f word = given whys.Value (number_for f word)
+value_in Number f word = value_or_why whys.Value (number_for f word)
 value_in Port f word = port_in whys.PortName word
-value_in Mac f word = given whys.Value (mac_in word)
-value_in Ipv4 f word = given whys.Value (ipv4_in word)
-value_in Ipv6 f word = given whys.Value (ipv6_in word)
-value_in Tos f word = given whys.Value (option_map (λ n. n / 4) (number_in 256 word))
-value_in Vlan f word = given whys.Value (vlan_in word)
+value_in Mac f word = value_or_why whys.Value (mac_in word)
+value_in Ipv4 f word = value_or_why whys.Value (ipv4_in word)
+value_in Ipv6 f word = value_or_why whys.Value (ipv6_in word)
+value_in Tos f word = value_or_why whys.Value (option_map (λ n. n / 4) (number_in 256 word))
+value_in Vlan f word = value_or_why whys.Value (vlan_in word)
 value_in Tci f word = Err whys.Value
 
 -- one that fits the field
@@ -78,25 +78,25 @@ fitting_in form f word = value_in form f word >>= λ value. if nat_le value (one
 -- ---- which mask
 
 abbrev pub bits_in : Field → ℕ → List ℕ → Option ℕ
-bits_in f most word = option_map (first_bits (ones_of f)) (number_in (most + 1) word)
+bits_in f most word = option_map (first_bits_mask (ones_of f)) (number_in (most + 1) word)
 
 -- 10.0.0.0/8 or 10.0.0.0/255.0.0.0
-abbrev pub ipv4_mask : Field → List ℕ → Option ℕ
-ipv4_mask f word = if length (behind 46 word) == 0 then bits_in f 32 word else ipv4_in word
+abbrev pub ipv4_mask_in : Field → List ℕ → Option ℕ
+ipv4_mask_in f word = if length (behind 46 word) == 0 then bits_in f 32 word else ipv4_in word
 
 -- 2001:db8::/32, or a mask as an address
-abbrev pub ipv6_mask : Field → List ℕ → Option ℕ
-ipv6_mask f word =
+abbrev pub ipv6_mask_in : Field → List ℕ → Option ℕ
+ipv6_mask_in f word =
     if not (length (behind 58 word) == 0) then ipv6_in word
     else if bytes_eq word (codes "128") then Some (ones_of f)
     else bits_in f 127 word
 
-unfoldable pub mask_in : Form → Field → List ℕ → Option ℕ
-mask_in Number f word = number_for f word
-mask_in Mac f word = mac_in word
-mask_in Ipv4 f word = ipv4_mask f word
-mask_in Ipv6 f word = ipv6_mask f word
-mask_in other f word = None
+unfoldable pub mask_by_form : Form → Field → List ℕ → Option ℕ
+mask_by_form Number f word = number_for f word
+mask_by_form Mac f word = mac_in word
+mask_by_form Ipv4 f word = ipv4_mask_in f word
+mask_by_form Ipv6 f word = ipv6_mask_in f word
+mask_by_form other f word = None
 
 -- ---- settings
 
@@ -104,18 +104,18 @@ abbrev pub exact : Field → ℕ → MatchField
 exact f value = record { field = f; value = value; mask = None }
 
 -- under a mask of so many bits of the field; none, where it has no bit
-abbrev pub under : Field → ℕ → ℕ → Option MatchField
-under f value bits =
+abbrev pub setting_under : Field → ℕ → ℕ → Option MatchField
+setting_under f value bits =
     if bits == 0 then None
     else if bits == ones_of f then Some (exact f value)
     else Some (record { field = f; value = bit_and value bits; mask = Some bits })
 
 abbrev pub masked : Field → ℕ → ℕ → Option MatchField
-masked f value mask = under f value (bit_and mask (ones_of f))
+masked f value mask = setting_under f value (bit_and mask (ones_of f))
 
-abbrev pub with_mask : Form → Field → ℕ → List ℕ → Result (Option MatchField) Why
-with_mask form f value word = if length word == 0 then Ok (Some (exact f value)) else given whys.Value (option_map (masked f value) (mask_in form f word))
+abbrev pub with_mask_word : Form → Field → ℕ → List ℕ → Result (Option MatchField) Why
+with_mask_word form f value word = if length word == 0 then Ok (Some (exact f value)) else value_or_why whys.Value (option_map (masked f value) (mask_by_form form f word))
 
 -- a value, and after a slash a mask
 unfoldable pub setting_in : Form → Field → List ℕ → Result (Option MatchField) Why
-setting_in form f word = fitting_in form f (before 47 word) >>= λ value. with_mask form f value (behind 47 word)
+setting_in form f word = fitting_in form f (before 47 word) >>= λ value. with_mask_word form f value (behind 47 word)

@@ -1,7 +1,8 @@
 -- VALUES OF FIELDS IN WORDS (ovs-fields(7)): numbers, Ethernet addresses, IPv4 addresses, ports.
 use Rattle.std.specs.Prelude.{ℕ, ◌+◌, ◌-◌, ◌*◌, ◌/◌, ◌^◌, List, Option, Some}
 use Rattle.of_lines.specs.Lines.{before, behind}
-use Rattle.of_ovs_words.specs.Numbers.{◌>>=◌, some_digits}
+use Rattle.of_lines.specs.Reading.{◌>>=◌}
+use Rattle.of_ovs_words.specs.Numbers.{some_digits}
 
 -- 02:00:00:00:00:01
 abbrev pub mac_in : List ℕ → Option ℕ
@@ -30,5 +31,5 @@ ipv4_in word = do
   Some (16777216 * a + 65536 * b + 256 * c + d)
 
 -- the mask of the first n bits, of as many as `ones` has
-abbrev pub first_bits : ℕ → ℕ → ℕ
-first_bits ones n = ones - ones / 2 ^ n
+abbrev pub first_bits_mask : ℕ → ℕ → ℕ
+first_bits_mask ones n = ones - ones / 2 ^ n

@@ -33,9 +33,9 @@ words_from depth (b ∷ bs) = if ends depth b then [] ∷ words_from 0 bs else p
 abbrev pub is_mark : ℕ → Bool
 is_mark b = b == 61 || b == 58 || b == 40
 
-abbrev pub name_of : List ℕ → List ℕ
-name_of [] = []
-name_of (b ∷ bs) = if is_mark b then [] else b ∷ name_of bs
+abbrev pub word_name : List ℕ → List ℕ
+word_name [] = []
+word_name (b ∷ bs) = if is_mark b then [] else b ∷ word_name bs
 
 -- the mark and what comes after it
 abbrev pub marked_in : List ℕ → List ℕ
@@ -47,5 +47,5 @@ abbrev pub unmarked : List ℕ → List ℕ
 unmarked [] = []
 unmarked (b ∷ bs) = if b == 40 then take (length bs - 1) bs else bs
 
-abbrev pub value_of : List ℕ → List ℕ
-value_of word = unmarked (marked_in word)
+abbrev pub word_value : List ℕ → List ℕ
+word_value word = unmarked (marked_in word)

@@ -1,8 +1,8 @@
 //! What a word says as an action.
 ghost use Rattle.std.specs.Prelude.{◌≡◌, ◌≤◌, ◌<◌, ◌^◌, ◌++◌, IfOk, Ok, Err, Some, None, IfErr, OnOk};
-ghost use Rattle.of_ovs_words.specs.Actions.{actions_in, with_action, with_key as with_key_of, action_in as action_of, alone as alone_of, controller_in as controller_of, drops as drops_of, verb_action as verb_action_of, is_beside_drop as is_with_drop, is_matched as is_matched_by, length_in as length_of, new_value as new_value_of, output_at as output_of, output_in as sent_to, push_vlan_in as push_vlan_of, set_by as set_of, set_field_in as set_field_of, tag_first, tags as tags_of, tags_after as tags_behind, truncates as truncates_at};
+ghost use Rattle.of_ovs_words.specs.Actions.{actions_in_words, with_action_in_word, with_key as with_key_of, action_in_word as action_of, action_without_value as alone_of, controller_in as controller_of, is_drop_word as drops_of, verb_action as verb_action_of, is_beside_drop as is_with_drop, is_matched as is_matched_by, length_in as length_of, new_value as new_value_of, output_at as output_of, output_in as sent_to, push_vlan_in as push_vlan_of, set_field_by as set_of, set_field_in as set_field_of, tag_first, tags as tags_of, tags_after as tags_behind, truncates as truncates_at};
 ghost use Rattle.std.specs.List.{fold};
-ghost use Rattle.of_ovs_words.specs.Outcomes.{through};
+ghost use Rattle.of_ovs_words.specs.Outcomes.{through_words};
 ghost use Rattle.of_ovs_words.specs.Words.{words_from};
 ghost use Rattle.of_ovs_words.specs.Stops.{IfRefused, Stops};
 ghost use Rattle.of_ovs_words.specs.declared.stop.Stop.TheVariants.{NoMemory};
@@ -43,7 +43,7 @@ fn with_key(len: u16, word: &[u8]) -> Result<u16, Why>
 }
 
 fn length_by_keys(words: &[u8]) -> Result<u16, Why>
-    ensures { result ≡ through with_key_of OFPCML_NO_BUFFER (words_from 0 words.now) }
+    ensures { result ≡ through_words with_key_of OFPCML_NO_BUFFER (words_from 0 words.now) }
 {
     let mut len = OFPCML_NO_BUFFER;
     let mut rest = words;
@@ -279,7 +279,7 @@ fn is_beside_drop(dropped: bool, done: &[Action], word: &[u8]) -> bool
 
 /// Appends what a word says as an action, after these settings of the match and the lists before; whether it is `drop`. A word that is
 /// refused leaves the actions as they were.
-#[tactic(auto, unfolding(crate::specs::Actions::with_action))]
+#[tactic(auto, unfolding(crate::specs::Actions::with_action_in_word))]
 pub fn push_action(
     settings: &[MatchField],
     earlier: &[Action],
@@ -287,8 +287,8 @@ pub fn push_action(
     done: &mut Vec<Action>,
     word: &[u8],
 ) -> Result<bool, Stop>
-    ensures added { IfOk result (λ drop. with_action settings.now earlier.now dropped done.old.items word.now ≡ Ok (drop, done.new.items)) }
-    ensures stopped { IfErr result (Stops (with_action settings.now earlier.now dropped done.old.items word.now)) }
+    ensures added { IfOk result (λ drop. with_action_in_word settings.now earlier.now dropped done.old.items word.now ≡ Ok (drop, done.new.items)) }
+    ensures stopped { IfErr result (Stops (with_action_in_word settings.now earlier.now dropped done.old.items word.now)) }
     ensures same { IfErr result (IfRefused (done.new.items ≡ done.old.items)) }
 {
     if is_beside_drop(dropped, done, word) {
@@ -307,8 +307,8 @@ pub fn push_actions(
     done: &mut Vec<Action>,
     words: &[u8],
 ) -> Result<(), Stop>
-    ensures added { IfOk result (λ _. actions_in settings.now earlier.now done.old.items (words_from 0 words.now) ≡ Ok done.new.items) }
-    ensures stopped { IfErr result (Stops (actions_in settings.now earlier.now done.old.items (words_from 0 words.now))) }
+    ensures added { IfOk result (λ _. actions_in_words settings.now earlier.now done.old.items (words_from 0 words.now) ≡ Ok done.new.items) }
+    ensures stopped { IfErr result (Stops (actions_in_words settings.now earlier.now done.old.items (words_from 0 words.now))) }
 {
     let mut dropped = false;
     let mut rest = words;

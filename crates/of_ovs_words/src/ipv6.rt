@@ -1,6 +1,6 @@
 //! IPv6 addresses in words.
 ghost use Rattle.std.specs.Prelude.{◌≡◌, ◌≤◌, ◌<◌, ◌^◌, ◌-◌, ◌==◌, ◌&&◌, not, length, IfSome, Some, None};
-ghost use Rattle.of_ovs_words.specs.Ipv6.{group_count as count_of, grown as grown_by, groups_in as groups_of, ipv6_in as ipv6_of, pieces, with_groups as with_groups_of, with_piece as with_piece_of, with_zeros as with_zeros_of, without_colon as without_one};
+ghost use Rattle.of_ovs_words.specs.Ipv6.{group_count as count_of, grown as grown_by, address_in_groups as groups_of, ipv6_in as ipv6_of, pieces, with_groups as with_groups_of, with_piece as with_piece_of, with_zeros as with_zeros_of, without_colon as without_one};
 
 use crate::numbers::some_digits;
 use of_lines::cut;

@@ -1,6 +1,7 @@
 //! Numbers in words.
 ghost use Rattle.std.specs.Prelude.{◌≡◌, ◌≤◌, ◌<◌, ◌+◌, ◌*◌, ◌^◌, IfOk, IfSome, Some, None};
-ghost use Rattle.of_ovs_words.specs.Numbers.{below, digit as digit_of, digit_in as digit_below, digits_in as value_of_digits, some_digits as value_of_some, number_in as number_of};
+ghost use Rattle.of_lines.specs.Reading.{below};
+ghost use Rattle.of_ovs_words.specs.Numbers.{digit as digit_of, digit_in as digit_below, digits_in as value_of_digits, some_digits as value_of_some, number_in as number_of};
 ghost use Rattle.of_ovs_words.specs.Outcomes.{numbered as numbered_of};
 
 use crate::why::Why;

@@ -1,7 +1,7 @@
 //! The meaning of words for a match.
 ghost use Rattle.std.specs.Prelude.{◌≡◌, ◌≤◌, ◌<◌, ◌^◌, IfOk, IfSome, Some, None};
 ghost use Rattle.of_layers.specs.Fields.{ones_of};
-ghost use Rattle.of_ovs_words.specs.Settings.{by_ethertype as by_type, if_tcp_or_udp as tcp_or_udp, bits_in as bits_of, field_for as field_of, fitting_in as fitting_of, ipv4_mask as ipv4_mask_of, ipv6_mask as ipv6_mask_of, last_of, mask_in as mask_of, masked as masked_by, number_for as number_of, says as says_of, setting_in as setting_of, under as under_bits, value_in as value_of, vlan_in as vlan_of};
+ghost use Rattle.of_ovs_words.specs.Settings.{by_ethertype as by_type, if_tcp_or_udp as tcp_or_udp, bits_in as bits_of, field_for as field_of, fitting_in as fitting_of, ipv4_mask_in as ipv4_mask_of, ipv6_mask_in as ipv6_mask_of, last_of, mask_by_form as mask_of, masked as masked_by, number_for as number_of, says as says_of, setting_in as setting_of, setting_under as under_bits, value_in as value_of, vlan_in as vlan_of};
 
 use crate::field_word::{Form, Target};
 use crate::ipv6::ipv6_in;
@@ -176,7 +176,7 @@ fn ipv6_mask(field: Field, word: &[u8]) -> Option<u128>
     }
 }
 
-#[tactic(auto, unfolding(crate::specs::Settings::mask_in))]
+#[tactic(auto, unfolding(crate::specs::Settings::mask_by_form))]
 fn mask_in(form: Form, field: Field, word: &[u8]) -> Option<u128>
     ensures { result ≡ mask_of form field word.now }
 {

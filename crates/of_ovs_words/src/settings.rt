@@ -1,7 +1,7 @@
 //! The meaning of words for a match, one after the other.
 ghost use Rattle.std.specs.Prelude.{◌≡◌, ◌≤◌, ◌<◌, ◌++◌, ◌∷◌, [], IfOk, IfErr, OnOk, Ok, filter_map};
 ghost use Rattle.of_ovs_words.specs.Settings.{exact, last_of};
-ghost use Rattle.of_ovs_words.specs.Matches.{fields_of as fields_in, tag_with, tagged as tagged_by, with_field, with_protocol, with_setting, with_tci};
+ghost use Rattle.of_ovs_words.specs.Matches.{fields_of_settings as fields_in, tag_with, tagged_setting as tagged_by, with_match_field, with_protocol, with_field_setting, with_tci};
 ghost use Rattle.of_ovs_words.specs.Stops.{IfRefused, Stops};
 
 use crate::field_word::{FieldWord, Form};
@@ -72,8 +72,8 @@ fn tagged(vid: Option<MatchField>) -> Option<MatchField>
 }
 
 fn set_one(settings: &mut Vec<MatchField>, word: FieldWord, value: &[u8]) -> Result<(), Stop>
-    ensures added { IfOk result (λ _. with_setting settings.old.items word value.now ≡ Ok settings.new.items) }
-    ensures stopped { IfErr result (Stops (with_setting settings.old.items word value.now)) }
+    ensures added { IfOk result (λ _. with_field_setting settings.old.items word value.now ≡ Ok settings.new.items) }
+    ensures stopped { IfErr result (Stops (with_field_setting settings.old.items word value.now)) }
     ensures same { IfErr result (IfRefused (settings.new.items ≡ settings.old.items)) }
 {
     let field = field_for(word.target, settings).ok_or(Why::Protocol)?;
@@ -95,10 +95,10 @@ fn set_tci(settings: &mut Vec<MatchField>, value: &[u8]) -> Result<(), Stop>
 }
 
 /// Appends what a word for a field says.
-#[tactic(auto, unfolding(crate::specs::Matches::with_field))]
+#[tactic(auto, unfolding(crate::specs::Matches::with_match_field))]
 pub fn set_field(settings: &mut Vec<MatchField>, word: FieldWord, value: &[u8]) -> Result<(), Stop>
-    ensures added { IfOk result (λ _. with_field settings.old.items word value.now ≡ Ok settings.new.items) }
-    ensures stopped { IfErr result (Stops (with_field settings.old.items word value.now)) }
+    ensures added { IfOk result (λ _. with_match_field settings.old.items word value.now ≡ Ok settings.new.items) }
+    ensures stopped { IfErr result (Stops (with_match_field settings.old.items word value.now)) }
     ensures same { IfErr result (IfRefused (settings.new.items ≡ settings.old.items)) }
 {
     if word.form == Form::Tci {

@@ -1,6 +1,6 @@
 //! Values of fields in words.
 ghost use Rattle.std.specs.Prelude.{◌≡◌, ◌≤◌, ◌<◌, ◌^◌, IfSome, Some, None};
-ghost use Rattle.of_ovs_words.specs.Values.{mac_in as mac_of, ipv4_in as ipv4_of, first_bits as first_bits_of};
+ghost use Rattle.of_ovs_words.specs.Values.{mac_in as mac_of, ipv4_in as ipv4_of, first_bits_mask as first_bits_of};
 
 use crate::numbers::some_digits;
 use of_lines::cut;

@@ -1,6 +1,6 @@
 //! A line as words.
 ghost use Rattle.std.specs.Prelude.{◌≡◌, ◌≤◌, ◌<◌, ◌^◌, ◌-◌, ◌==◌, ◌||◌, length, take, drop};
-ghost use Rattle.of_ovs_words.specs.Words.{after_word, depth_after as depth_behind, is_gap as is_gap_byte, is_mark as is_mark_byte, marked_in, name_of as name_in, unmarked as unmarked_in, value_of as value_in, word_in};
+ghost use Rattle.of_ovs_words.specs.Words.{after_word, depth_after as depth_behind, is_gap as is_gap_byte, is_mark as is_mark_byte, marked_in, word_name as name_in, unmarked as unmarked_in, word_value as value_in, word_in};
 
 /// Whether it stands between words.
 pub fn is_gap(byte: u8) -> bool

@@ -7,13 +7,13 @@ use Rattle.of_wire.specs.declared.code.ReadError.{ReadError}
 use Rattle.of_wire.specs.declared.code.ReadError.TheVariants as errors
 use Rattle.of_wire.specs.Refusals.{refusal, first_of}
 use Rattle.of_wire.specs.Failures.{Fails}
-use Rattle.of_wire.specs.Items.{AreItems, IsEnd as ItemsEnd, items_of, outcome}
+use Rattle.of_wire.specs.Items.{AreItems, IsItemsEnd as ItemsEnd, items_from, outcome}
 use Rattle.of_wire.proofs.ItemsRead.{items_are}
 use Rattle.of_layers.specs.declared.field.Field.{Field}
 use Rattle.of_layers.specs.Fields.{field_at}
 use Rattle.of_oxm.specs.declared.match_field.MatchField.{MatchField}
 use Rattle.of_oxm.specs.MatchFieldWire.{encoding, number_at, match_field_of}
-use Rattle.of_oxm.specs.MatchGrammar.{match_len, padded, body_of, head_refusals, encodings, AreFieldsAfter, IsEnd, Fields, IsFaulty}
+use Rattle.of_oxm.specs.MatchGrammar.{match_len, padded, match_body, match_head_refusals, encodings, AreFieldsAfter, IsEnd, Fields, IsFaulty}
 use Rattle.of_oxm.specs.NormalForm.{normal}
 use Rattle.of_oxm.specs.Prerequisites.{prerequisites_met}
 use Rattle.of_oxm.specs.MatchReading.{match_fields, then_normal, match_by, match_of}
@@ -39,31 +39,31 @@ are_items seen (e ∷ es) bytes rest fault whole fine ended =
     subst (λ (b : List ℕ). AreItems match_fields seen b (e ∷ es) fault) (sym text) (some, found.none, value, others)
 
 -- the fields of a body, computed
-pub fields_are : (body : List ℕ) (fields : List MatchField) (fault : Option Code) → Fields [] body fields fault → items_of match_fields (length body) [] body ≡ outcome fields fault
+pub fields_are : (body : List ℕ) (fields : List MatchField) (fault : Option Code) → Fields [] body fields fault → items_from match_fields (length body) [] body ≡ outcome fields fault
 fields_are body fields fault h = items_are match_fields (length body) [] body fields fault (λ seen bytes some none. omega arith) (omega arith) (are_items [] fields body h.rest fault h.whole h.fine h.ended)
 
-head_is : (bytes : List ℕ) (o : Option Code) → first_of (head_refusals bytes) ≡ o → match_of bytes ≡ match_by bytes o
+head_is : (bytes : List ℕ) (o : Option Code) → first_of (match_head_refusals bytes) ≡ o → match_of bytes ≡ match_by bytes o
 unfolding match_of
 head_is bytes o e = ap (match_by bytes) e
 
-pub head_computed : (bytes : List ℕ) (code : Code) → first_of (head_refusals bytes) ≡ Some code → match_of bytes ≡ Err code
+pub head_computed : (bytes : List ℕ) (code : Code) → first_of (match_head_refusals bytes) ≡ Some code → match_of bytes ≡ Err code
 head_computed bytes code e = head_is bytes (Some code) e
 
-fields_by : (bytes body : List ℕ) (fields : List MatchField) (fault : Option Code) → first_of (head_refusals bytes) ≡ None → body ≡ body_of bytes → Fields [] body fields fault → match_of bytes ≡ then_normal (padded (match_len bytes)) (outcome fields fault)
+fields_by : (bytes body : List ℕ) (fields : List MatchField) (fault : Option Code) → first_of (match_head_refusals bytes) ≡ None → body ≡ match_body bytes → Fields [] body fields fault → match_of bytes ≡ then_normal (padded (match_len bytes)) (outcome fields fault)
 fields_by bytes body fields fault none same h =
-    let here : items_of match_fields (length (body_of bytes)) [] (body_of bytes) ≡ outcome fields fault = subst (λ (b : List ℕ). items_of match_fields (length b) [] b ≡ outcome fields fault) same (fields_are body fields fault h) in
+    let here : items_from match_fields (length (match_body bytes)) [] (match_body bytes) ≡ outcome fields fault = subst (λ (b : List ℕ). items_from match_fields (length b) [] b ≡ outcome fields fault) same (fields_are body fields fault h) in
     head_is bytes None none ∙ ap (then_normal (padded (match_len bytes))) here
 
-pub fault_computed : (bytes body : List ℕ) (e : ReadError) → first_of (head_refusals bytes) ≡ None → body ≡ body_of bytes → Fails (IsFaulty body) e → Fails (λ code. match_of bytes ≡ Err code) e
+pub fault_computed : (bytes body : List ℕ) (e : ReadError) → first_of (match_head_refusals bytes) ≡ None → body ≡ match_body bytes → Fails (IsFaulty body) e → Fails (λ code. match_of bytes ≡ Err code) e
 fault_computed bytes body errors.Memory none same h = tt
 fault_computed bytes body (errors.Refused code) none same h = fields_by bytes body h.0 (Some code) none same h.1
 
-pub need_computed : (bytes body : List ℕ) (fields kept : List MatchField) → first_of (head_refusals bytes) ≡ None → body ≡ body_of bytes → Fields [] body fields None → kept ≡ normal fields → prerequisites_met kept ≡ false → match_of bytes ≡ Err (refusal 4 9)
+pub need_computed : (bytes body : List ℕ) (fields kept : List MatchField) → first_of (match_head_refusals bytes) ≡ None → body ≡ match_body bytes → Fields [] body fields None → kept ≡ normal fields → prerequisites_met kept ≡ false → match_of bytes ≡ Err (refusal 4 9)
 need_computed bytes body fields kept none same h is met =
     let unmet : prerequisites_met (normal fields) ≡ false = ap prerequisites_met (sym is) ∙ met in
     fields_by bytes body fields None none same h ∙ ap (λ (t : Bool). cond t (Ok (normal fields, padded (match_len bytes))) (Err (refusal 4 9))) unmet
 
-pub found_computed : (bytes body : List ℕ) (len : ℕ) (fields kept : List MatchField) → first_of (head_refusals bytes) ≡ None → len ≡ match_len bytes → body ≡ body_of bytes → Fields [] body fields None → kept ≡ normal fields → prerequisites_met kept ≡ true → match_of bytes ≡ Ok (kept, padded len)
+pub found_computed : (bytes body : List ℕ) (len : ℕ) (fields kept : List MatchField) → first_of (match_head_refusals bytes) ≡ None → len ≡ match_len bytes → body ≡ match_body bytes → Fields [] body fields None → kept ≡ normal fields → prerequisites_met kept ≡ true → match_of bytes ≡ Ok (kept, padded len)
 found_computed bytes body len fields kept none len_is same h is met =
     let met' : prerequisites_met (normal fields) ≡ true = ap prerequisites_met (sym is) ∙ met in
     let done : match_of bytes ≡ Ok (normal fields, padded (match_len bytes)) = fields_by bytes body fields None none same h ∙ ap (λ (t : Bool). cond t (Ok (normal fields, padded (match_len bytes))) (Err (refusal 4 9))) met' in

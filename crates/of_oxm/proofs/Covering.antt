@@ -9,7 +9,7 @@ use Rattle.std.proofs.lemmas.Bool.{eqb-true, eq-eqb}
 use Rattle.std.proofs.lemmas.Nat.{and-not, and_or_apart, pow_pos}
 use Rattle.std.proofs.lemmas.Nat.Bits.{bit_at_and, bit_at_or, same_from_bits}
 use Rattle.of_layers.specs.declared.field.Field.{Field}
-use Rattle.of_layers.specs.Fields.{number_of, bits_of, ones_of}
+use Rattle.of_layers.specs.Fields.{number_of, bit_count, ones_of}
 use Rattle.of_layers.proofs.Table.{ones_is}
 use Rattle.of_headers.specs.FieldMap.{seen}
 use Rattle.of_oxm.specs.declared.match_field.MatchField.{MatchField}
@@ -32,14 +32,14 @@ bits_within f y h = subst (λ (g : Field). bits_looked_at y ≤ ones_of g) h.1 (
 others : Field → MatchField → ℕ
 others f y = ones_of f - bits_looked_at y
 
-below : (f : Field) (n : ℕ) → n ≤ ones_of f → n < 2 ^ bits_of f
-below f n h = omega (arith, h, ones_is f, pow_pos (bits_of f))
+below : (f : Field) (n : ℕ) → n ≤ ones_of f → n < 2 ^ bit_count f
+below f n h = omega (arith, h, ones_is f, pow_pos (bit_count f))
 
 -- of any n within the field's bits, those that y looks at and the others are all
 parted : (f : Field) (y : MatchField) (n : ℕ) → bits_looked_at y ≤ ones_of f → n ≤ ones_of f → bit_and (others f y) n + bit_and (bits_looked_at y) n ≡ n
 unfolding others
 parted f y n small fits =
-    subst (λ (k : ℕ). bit_and (k - bits_looked_at y) n + bit_and (bits_looked_at y) n ≡ n) (sym (ones_is f)) (and-not (bits_of f) (bits_looked_at y) n (below f (bits_looked_at y) small) (below f n fits))
+    subst (λ (k : ℕ). bit_and (k - bits_looked_at y) n + bit_and (bits_looked_at y) n ≡ n) (sym (ones_is f)) (and-not (bit_count f) (bits_looked_at y) n (below f (bits_looked_at y) small) (below f n fits))
 
 apart : (f : Field) (y : MatchField) → bits_looked_at y ≤ ones_of f → bit_and (others f y) (bits_looked_at y) ≡ 0
 apart f y small = omega (arith, parted f y (bits_looked_at y) small small, and_self (bits_looked_at y))

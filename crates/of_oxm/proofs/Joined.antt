@@ -8,7 +8,7 @@ use Rattle.std.proofs.lemmas.Bool.{eqb-true, eq-eqb}
 use Rattle.std.proofs.lemmas.Nat.{or_lt, pow_pos}
 use Rattle.std.proofs.lemmas.Nat.Bits.{bit_at_and, bit_at_or, same_from_bits}
 use Rattle.of_layers.specs.declared.field.Field.{Field}
-use Rattle.of_layers.specs.Fields.{number_of, bits_of, ones_of}
+use Rattle.of_layers.specs.Fields.{number_of, bit_count, ones_of}
 use Rattle.of_layers.proofs.Table.{same_number, ones_is}
 use Rattle.of_headers.specs.FieldMap.{seen}
 use Rattle.of_oxm.specs.declared.match_field.MatchField.{MatchField}
@@ -115,8 +115,8 @@ second_sees f (Some x) (Some y) h =
 
 pub at_most : (f : Field) (a b : ℕ) → a ≤ ones_of f → b ≤ ones_of f → bit_or a b ≤ ones_of f
 at_most f a b p q =
-    let pos = pow_pos (bits_of f) in
-    let lt : bit_or a b < 2 ^ bits_of f = or_lt (bits_of f) a b (omega (arith, p, ones_is f, pos)) (omega (arith, q, ones_is f, pos)) in
+    let pos = pow_pos (bit_count f) in
+    let lt : bit_or a b < 2 ^ bit_count f = or_lt (bit_count f) a b (omega (arith, p, ones_is f, pos)) (omega (arith, q, ones_is f, pos)) in
     omega (arith, lt, ones_is f)
 
 pub kept_within : (f : Field) (x : MatchField) → IsKept x × (x.field ≡ f) → x.value ≤ ones_of f

@@ -11,7 +11,7 @@ use Rattle.of_wire.specs.declared.code.ReadError.TheVariants as errors
 use Rattle.of_oxm.specs.declared.match_field.MatchField.{MatchField}
 use Rattle.of_wire.specs.Refusals.{first_of}
 use Rattle.of_oxm.specs.NormalForm.{normal}
-use Rattle.of_oxm.specs.MatchGrammar.{encodings, Fields, match_len, padded, body_of, head_refusals, EncodesMatch, IsRefusedMatch, ReadsAs, RefusesAs}
+use Rattle.of_oxm.specs.MatchGrammar.{encodings, Fields, match_len, padded, match_body, match_head_refusals, EncodesMatch, IsRefusedMatch, ReadsAs, RefusesAs}
 use Rattle.of_oxm.specs.Prerequisites.{prerequisites_met}
 use Rattle.of_wire.specs.Failures.{Fails}
 use Rattle.of_oxm.proofs.MatchFieldLemmas.{NoneApplies, none_first}
@@ -19,8 +19,8 @@ use Rattle.of_oxm.proofs.Walk.{one_reading}
 
 -- what bytes are that begin with an encoding
 pub record Begins (a bytes : List ℕ) (fields : List MatchField) : Type 0 where
-  pub none : first_of (head_refusals bytes) ≡ None
-  pub walk : Fields [] (body_of bytes) fields None
+  pub none : first_of (match_head_refusals bytes) ≡ None
+  pub walk : Fields [] (match_body bytes) fields None
   pub front : a ≡ take (padded (match_len bytes)) bytes
 
 begins : (a x : List ℕ) (m : List MatchField) (s : EncodesMatch a m) → Begins a (a ++ x) s.fields
@@ -35,10 +35,10 @@ begins a x m s =
     let le : s.len ≤ padded s.len = omega arith in
     let third : (ltb (match_len all) 4 || ltb (length all) (padded (match_len all))) ≡ false =
     ap (λ (n : ℕ). ltb n 4 || ltb (length all) (padded n)) len_is ∙ ap (λ (b : Bool). b || ltb (length all) (padded s.len)) (le-ltb _ _ low) ∙ le-ltb _ _ long in
-    let applies : NoneApplies (head_refusals all) = (le-ltb _ _ (omega (arith, long, low, le)), (refl, (third, tt))) in
-    let body : body_of all ≡ sp = ap (λ (n : ℕ). take (n - 4) (drop 4 all)) len_is ∙ ap (take (s.len - 4)) (append_assoc sp s.padding x) ∙ take_at sp (s.padding ++ x) (s.len - 4) (omega (arith, s.len_is)) in
+    let applies : NoneApplies (match_head_refusals all) = (le-ltb _ _ (omega (arith, long, low, le)), (refl, (third, tt))) in
+    let body : match_body all ≡ sp = ap (λ (n : ℕ). take (n - 4) (drop 4 all)) len_is ∙ ap (take (s.len - 4)) (append_assoc sp s.padding x) ∙ take_at sp (s.padding ++ x) (s.len - 4) (omega (arith, s.len_is)) in
     let facts : Begins written all s.fields = record {
-      none = none_first (head_refusals all) applies;
+      none = none_first (match_head_refusals all) applies;
       walk = record { rest = []; whole = body ∙ sym (append-nil sp); fine = s.fine; ended = refl };
       front = sym (ap (λ (n : ℕ). take (padded n) all) len_is ∙ take_at written x (padded s.len) size);
     } in
@@ -48,18 +48,18 @@ pub one_match : (a b x y : List ℕ) (m n : List MatchField) → EncodesMatch a 
 one_match a b x y m n s t e =
     let p = begins a x m s in
     let q = subst (λ (bytes : List ℕ). Begins b bytes t.fields) (sym e) (begins b y n t) in
-    let same = one_reading [] s.fields t.fields (body_of (a ++ x)) None None p.walk q.walk in
+    let same = one_reading [] s.fields t.fields (match_body (a ++ x)) None None p.walk q.walk in
     (p.front ∙ sym q.front, s.normal_form ∙ ap normal same.0 ∙ sym t.normal_form)
 
 pub not_both : (a x : List ℕ) (m : List MatchField) (code : Code) → EncodesMatch a m → IsRefusedMatch (a ++ x) code → ⊥
 not_both a x m code s (IsRefusedMatch.head h) = let p = begins a x m s in cc
 not_both a x m code s (IsRefusedMatch.field none fields walk) =
     let p = begins a x m s in
-    let same = one_reading [] s.fields fields (body_of (a ++ x)) None (Some code) p.walk walk in
+    let same = one_reading [] s.fields fields (match_body (a ++ x)) None (Some code) p.walk walk in
     cc
 not_both a x m code s (IsRefusedMatch.need none fields walk met code_is) =
     let p = begins a x m s in
-    let same = one_reading [] s.fields fields (body_of (a ++ x)) None None p.walk walk in
+    let same = one_reading [] s.fields fields (match_body (a ++ x)) None None p.walk walk in
     let is_met : prerequisites_met (normal fields) ≡ true = ap (λ (f : List MatchField). prerequisites_met (normal f)) (sym same.0) ∙ ap prerequisites_met (sym s.normal_form) ∙ s.met in
     let h : true ≡ false = sym is_met ∙ met in
     cc
@@ -70,12 +70,12 @@ one_code bytes c d (IsRefusedMatch.head h) (IsRefusedMatch.field none fields wal
 one_code bytes c d (IsRefusedMatch.head h) (IsRefusedMatch.need none fields walk met code_is) = absurd cc
 one_code bytes c d (IsRefusedMatch.field none fields walk) (IsRefusedMatch.head k) = absurd cc
 one_code bytes c d (IsRefusedMatch.field none fields walk) (IsRefusedMatch.field none' fields' walk') =
-    let same = one_reading [] fields fields' (body_of bytes) (Some c) (Some d) walk walk' in cc
+    let same = one_reading [] fields fields' (match_body bytes) (Some c) (Some d) walk walk' in cc
 one_code bytes c d (IsRefusedMatch.field none fields walk) (IsRefusedMatch.need none' fields' walk' met code_is) =
-    let same = one_reading [] fields fields' (body_of bytes) (Some c) None walk walk' in absurd cc
+    let same = one_reading [] fields fields' (match_body bytes) (Some c) None walk walk' in absurd cc
 one_code bytes c d (IsRefusedMatch.need none fields walk met code_is) (IsRefusedMatch.head k) = absurd cc
 one_code bytes c d (IsRefusedMatch.need none fields walk met code_is) (IsRefusedMatch.field none' fields' walk') =
-    let same = one_reading [] fields fields' (body_of bytes) None (Some d) walk walk' in absurd cc
+    let same = one_reading [] fields fields' (match_body bytes) None (Some d) walk walk' in absurd cc
 one_code bytes c d (IsRefusedMatch.need none fields walk met code_is) (IsRefusedMatch.need none' fields' walk' met' code_is') = code_is ∙ sym code_is'
 
 -- what was read is what the bytes encode

@@ -12,7 +12,7 @@ use Rattle.of_layers.specs.declared.field.Field.{Field}
 use Rattle.of_oxm.specs.declared.match_field.MatchField.{MatchField}
 use Rattle.of_layers.specs.Fields.{number_of, bytes_of, ones_of, is_maskable, field_at}
 use Rattle.of_wire.specs.Refusals.{first_of}
-use Rattle.of_oxm.specs.MatchFieldWire.{encoding, IsEncoded, IsMask, body_len, is_masked_at, number_at, value_at, mask_at, match_field_of, field_refusals, known_field_refusals}
+use Rattle.of_oxm.specs.MatchFieldWire.{encoding, IsEncoded, IsAllowedMask, body_len, is_masked_at, number_at, value_at, mask_of_bytes, match_field_of, field_refusals, known_field_refusals}
 use Rattle.of_layers.proofs.Table.{field_at-number_of, number_of-field_at, value_below}
 use Rattle.of_wire.proofs.Numbers.{IsBytes, IsBytes-drop, big_bytes-big_number}
 
@@ -78,7 +78,7 @@ known f seen (a ∷ b ∷ c ∷ d ∷ tail) fits h4 hd class number none =
     let low : b ≡ 0 = omega (arith, fits 0, fits 1) in
     let value_fits : value_at f rest ≤ ones_of f = ltb-false _ _ t.1.1.1.0 in
     let tail_fits : IsBytes tail = λ i. fits (suc (suc (suc (suc i)))) in
-    let may_be : (not (is_maskable f) && not (eqb (bit_and (mask_at f rest) (ones_of f)) (ones_of f))) ≡ false → (is_maskable f ≡ true) ⊎ (bit_and (mask_at f rest) (ones_of f) ≡ ones_of f)
+    let may_be : (not (is_maskable f) && not (eqb (bit_and (mask_of_bytes f rest) (ones_of f)) (ones_of f))) ≡ false → (is_maskable f ≡ true) ⊎ (bit_and (mask_of_bytes f rest) (ones_of f) ≡ ones_of f)
     = λ h. elim (both_false _ _ h) [ inl p ↦ inl (not_false _ p) | inr p ↦ inr (eqb-true _ _ (not_false _ p)) ] in
     let split : (m : Bool) → is_masked_at rest ≡ m → IsRead (match_field_of f rest) seen rest
     = λ m. elim m as (λ m. is_masked_at rest ≡ m → IsRead (match_field_of f rest) seen rest) [
@@ -141,7 +141,7 @@ not_covered f a b h = elim h [
 ]
 
 known_masked : (f : Field) (seen : List MatchField) (rest : List ℕ) → is_masked_at rest ≡ true → get_or rest 3 0 ≡ 2 * bytes_of f → list_any (λ y. eqb (number_of y.field) (number_of f)) seen ≡ false
-    → value_at f rest ≤ ones_of f → IsMask f (value_at f rest) (mask_at f rest) → NoneApplies (known_field_refusals f seen rest)
+    → value_at f rest ≤ ones_of f → IsAllowedMask f (value_at f rest) (mask_of_bytes f rest) → NoneApplies (known_field_refusals f seen rest)
 known_masked f seen rest masked len first fits mask =
     let size : not (eqb (get_or rest 3 0) (body_len f true)) ≡ false = ap not (eq-eqb _ _ len) in
     rw masked (size, (first, (not_covered f _ _ mask.allowed, (le-ltb _ _ fits, (ap not (eq-eqb _ _ mask.covers), tt)))))
@@ -149,7 +149,7 @@ known_masked f seen rest masked len first fits mask =
 made_plain : (f : Field) (v : ℕ) (rest : List ℕ) → is_masked_at rest ≡ false → value_at f rest ≡ v → let e : MatchField = record { field = f; value = v; mask = None } in match_field_of f rest ≡ e
 made_plain f v rest masked value = rw (masked, value) refl
 
-made_masked : (f : Field) (v m : ℕ) (rest : List ℕ) → is_masked_at rest ≡ true → value_at f rest ≡ v → mask_at f rest ≡ m → let e : MatchField = record { field = f; value = v; mask = Some m } in match_field_of f rest ≡ e
+made_masked : (f : Field) (v m : ℕ) (rest : List ℕ) → is_masked_at rest ≡ true → value_at f rest ≡ v → mask_of_bytes f rest ≡ m → let e : MatchField = record { field = f; value = v; mask = Some m } in match_field_of f rest ≡ e
 made_masked f v m rest masked value mask = rw (masked, value, mask) refl
 
 plain_found : (f : Field) (v : ℕ) (seen : List MatchField) (x : List ℕ) → v ≤ ones_of f → list_any (λ y. eqb (number_of y.field) (number_of f)) seen ≡ false
@@ -174,7 +174,7 @@ plain_found f v seen x fits first =
       size_is = simp length-append (omega (arith, len));
     }
 
-masked_found : (f : Field) (v m : ℕ) (seen : List MatchField) (x : List ℕ) → v ≤ ones_of f → IsMask f v m → list_any (λ y. eqb (number_of y.field) (number_of f)) seen ≡ false
+masked_found : (f : Field) (v m : ℕ) (seen : List MatchField) (x : List ℕ) → v ≤ ones_of f → IsAllowedMask f v m → list_any (λ y. eqb (number_of y.field) (number_of f)) seen ≡ false
     → let e : MatchField = record { field = f; value = v; mask = Some m } in IsFound e seen (encoding e ++ x) (length (encoding e))
 unfolding encoding
 masked_found f v m seen x fits mask first =
@@ -189,7 +189,7 @@ masked_found f v m seen x fits mask first =
     let at : field_at (number_at rest) ≡ Some f = ap field_at number ∙ field_at-number_of f in
     let body : drop 4 rest ≡ big_bytes n v ++ (big_bytes n m ++ x) = append_assoc (big_bytes n v) (big_bytes n m) x in
     let value : value_at f rest ≡ v = ap (big_number n) body ∙ big_number-reads_back n v (big_bytes n m ++ x) (value_below f v fits) in
-    let mask_is : mask_at f rest ≡ m = ap (λ (y : List ℕ). big_number n (drop n y)) body ∙ ap (big_number n) (drop_at (big_bytes n v) (big_bytes n m ++ x) n len) ∙ big_number-reads_back n m x (mask.fits) in
+    let mask_is : mask_of_bytes f rest ≡ m = ap (λ (y : List ℕ). big_number n (drop n y)) body ∙ ap (big_number n) (drop_at (big_bytes n v) (big_bytes n m ++ x) n len) ∙ big_number-reads_back n m x (mask.fits) in
     let size : length rest ≡ 4 + (2 * n + length x) = simp length-append (omega (arith, len, len2)) in
     let known = known_masked f seen rest masked refl first (rw value fits) (rw (value, mask_is) mask) in
     record {
@@ -199,7 +199,7 @@ masked_found f v m seen x fits mask first =
       size_is = simp length-append (omega (arith, len, len2));
     }
 
-found : (f : Field) (v : ℕ) (mask : Option ℕ) (seen : List MatchField) (x : List ℕ) → v ≤ ones_of f → IfSome mask (IsMask f v) → list_any (λ y. eqb (number_of y.field) (number_of f)) seen ≡ false
+found : (f : Field) (v : ℕ) (mask : Option ℕ) (seen : List MatchField) (x : List ℕ) → v ≤ ones_of f → IfSome mask (IsAllowedMask f v) → list_any (λ y. eqb (number_of y.field) (number_of f)) seen ≡ false
     → let e : MatchField = record { field = f; value = v; mask = mask } in IsFound e seen (encoding e ++ x) (length (encoding e))
 found f v None seen x fits mask first = plain_found f v seen x fits first
 found f v (Some m) seen x fits mask first = masked_found f v m seen x fits mask first

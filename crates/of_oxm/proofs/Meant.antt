@@ -11,7 +11,7 @@ use Rattle.of_layers.specs.Fields.{row_of, number_of, ones_of}
 use Rattle.of_oxm.specs.declared.match_field.MatchField.{MatchField}
 use Rattle.of_oxm.specs.NormalForm.{under, kept, with_field, with_kept_field, normal}
 use Rattle.of_oxm.specs.Relations.{bits_looked_at, agrees, matches_map}
-use Rattle.of_oxm.specs.Meaning.{meant_bits, meets_by, meets, are_met}
+use Rattle.of_oxm.specs.Meaning.{meant_bits, meets_by, field_meets, are_met}
 
 some_ones : (f : Field) → eqb (ones_of f) 0 ≡ false
 unfolding row_of
@@ -47,7 +47,7 @@ as_put : (k : MatchField) (xs : List MatchField) (map : Field → Option ℕ) (m
 as_put k xs map met h = put_matches k xs map ∙ ap (λ (b : Bool). b && matches_map xs map) h
 
 under_meets : (f : Field) (value mask : ℕ) (xs : List MatchField) (map : Field → Option ℕ)
-    → let e : MatchField = record { field = f; value = value; mask = Some mask } in matches_map (with_kept_field (under e (bit_and mask (ones_of f))) xs) map ≡ (meets e (map f) && matches_map xs map)
+    → let e : MatchField = record { field = f; value = value; mask = Some mask } in matches_map (with_kept_field (under e (bit_and mask (ones_of f))) xs) map ≡ (field_meets e (map f) && matches_map xs map)
 under_meets f value mask xs map =
     let e : MatchField = record { field = f; value = value; mask = Some mask } in
     let n : ℕ = bit_and mask (ones_of f) in
@@ -66,13 +66,13 @@ under_meets f value mask xs map =
     outer (eqb n 0) refl
 
 kept_meets : (f : Field) (value : ℕ) (mask : Option ℕ) (xs : List MatchField) (map : Field → Option ℕ)
-    → let e : MatchField = record { field = f; value = value; mask = mask } in matches_map (with_kept_field (kept e) xs) map ≡ (meets e (map f) && matches_map xs map)
+    → let e : MatchField = record { field = f; value = value; mask = mask } in matches_map (with_kept_field (kept e) xs) map ≡ (field_meets e (map f) && matches_map xs map)
 unfolding kept
 kept_meets f value None xs map =
     let e : MatchField = record { field = f; value = value; mask = None } in
-    as_put e xs map (meets e (map f)) (meets_some (meant_bits e) value e (map f) (sym (and_self (ones_of f))) refl (ap (λ (n : ℕ). eqb n 0) (and_self (ones_of f)) ∙ some_ones f))
+    as_put e xs map (field_meets e (map f)) (meets_some (meant_bits e) value e (map f) (sym (and_self (ones_of f))) refl (ap (λ (n : ℕ). eqb n 0) (and_self (ones_of f)) ∙ some_ones f))
 kept_meets f value (Some mask) xs map = under_meets f value mask xs map
 
 pub normal_is_meant : (es : List MatchField) (map : Field → Option ℕ) → matches_map (normal es) map ≡ are_met es map
 normal_is_meant [] map = refl
-normal_is_meant (e ∷ es) map = kept_meets e.field e.value e.mask (normal es) map ∙ ap (λ (b : Bool). meets e (map e.field) && b) (normal_is_meant es map)
+normal_is_meant (e ∷ es) map = kept_meets e.field e.value e.mask (normal es) map ∙ ap (λ (b : Bool). field_meets e (map e.field) && b) (normal_is_meant es map)

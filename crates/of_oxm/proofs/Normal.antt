@@ -9,9 +9,9 @@ use Rattle.std.proofs.Math.Pow.{pow_pos}
 use Rattle.std.proofs.Math.Nat.{mod-eq_of_lt, mod-lt}
 use Rattle.of_layers.specs.declared.field.Field.{Field}
 use Rattle.of_oxm.specs.declared.match_field.MatchField.{MatchField}
-use Rattle.of_layers.specs.Fields.{number_of, bits_of, ones_of, is_maskable}
+use Rattle.of_layers.specs.Fields.{number_of, bit_count, ones_of, is_maskable}
 use Rattle.of_layers.proofs.Table.{ones_is}
-use Rattle.of_oxm.specs.MatchFieldWire.{IsEncoded, IsMask}
+use Rattle.of_oxm.specs.MatchFieldWire.{IsEncoded, IsAllowedMask}
 use Rattle.of_oxm.specs.NormalForm.{under, kept, with_field, with_kept_field, normal, IsKept, IsAscending}
 use Rattle.of_oxm.specs.MatchGrammar.{AreFieldsAfter}
 use Rattle.of_oxm.specs.MatchFieldWire.{is_among}
@@ -82,11 +82,11 @@ rising_put e (x ∷ xs) up h =
 
 -- ---- what is kept
 
-and_ones : (f : Field) (n : ℕ) → bit_and n (ones_of f) ≡ n % 2 ^ bits_of f
-and_ones f n = ap (bit_and n) (ones_is f) ∙ and_mask n (bits_of f)
+and_ones : (f : Field) (n : ℕ) → bit_and n (ones_of f) ≡ n % 2 ^ bit_count f
+and_ones f n = ap (bit_and n) (ones_is f) ∙ and_mask n (bit_count f)
 
-ones_pos : (f : Field) → 0 < 2 ^ bits_of f
-ones_pos f = pow_pos (bits_of f)
+ones_pos : (f : Field) → 0 < 2 ^ bit_count f
+ones_pos f = pow_pos (bit_count f)
 
 pub under_ones : (f : Field) (n : ℕ) → n ≤ ones_of f → bit_and n (ones_of f) ≡ n
 under_ones f n h = and_ones f n ∙ mod-eq_of_lt (omega (arith, h, ones_is f, ones_pos f))
@@ -98,7 +98,7 @@ pub record Keeps (e k : MatchField) : Type 0 where
   pub field : k.field ≡ e.field
   pub kept : IsKept k
 
-keeps_masked : (e k : MatchField) (m : ℕ) → e.value ≤ ones_of e.field → IsMask e.field e.value m → under e (bit_and m (ones_of e.field)) ≡ Some k → Keeps e k
+keeps_masked : (e k : MatchField) (m : ℕ) → e.value ≤ ones_of e.field → IsAllowedMask e.field e.value m → under e (bit_and m (ones_of e.field)) ≡ Some k → Keeps e k
 keeps_masked e k m fits mask h =
     let f = e.field in
     let w = bit_and m (ones_of f) in
@@ -132,7 +132,7 @@ keeps_masked e k m fits mask h =
     ] in
     first (eqb w 0) refl h
 
-keeps_by : (f : Field) (v : ℕ) (mask : Option ℕ) (k : MatchField) → v ≤ ones_of f → IfSome mask (IsMask f v) → let e : MatchField = record { field = f; value = v; mask = mask } in kept e ≡ Some k → Keeps e k
+keeps_by : (f : Field) (v : ℕ) (mask : Option ℕ) (k : MatchField) → v ≤ ones_of f → IfSome mask (IsAllowedMask f v) → let e : MatchField = record { field = f; value = v; mask = mask } in kept e ≡ Some k → Keeps e k
 unfolding kept
 keeps_by f v None k fits mask h =
     let e : MatchField = record { field = f; value = v; mask = None } in

@@ -9,7 +9,7 @@ use Rattle.of_wire.specs.declared.code.ReadError.TheVariants as errors
 use Rattle.of_oxm.specs.declared.match_field.MatchField.{MatchField}
 use Rattle.of_wire.specs.Refusals.{first_of, refusal}
 use Rattle.of_oxm.specs.NormalForm.{normal, IsMatch, IsKept, IsAscending}
-use Rattle.of_oxm.specs.MatchGrammar.{encodings, IsEnd, Fields, IsFaulty, match_len, padded, body_of, head_refusals, EncodesMatch, IsRefusedMatch}
+use Rattle.of_oxm.specs.MatchGrammar.{encodings, IsEnd, Fields, IsFaulty, match_len, padded, match_body, match_head_refusals, EncodesMatch, IsRefusedMatch}
 use Rattle.of_oxm.specs.Prerequisites.{prerequisites_met}
 use Rattle.of_wire.specs.Failures.{Fails}
 use Rattle.std.specs.List.{AllByRecursion}
@@ -17,11 +17,11 @@ use Rattle.of_oxm.proofs.Normal.{rising_normal, or_false}
 use Rattle.of_wire.proofs.Numbers.{IsBytes, big_bytes-big_number}
 use Rattle.of_oxm.proofs.MatchFieldLemmas.{none_applies, not_false}
 
-pub field_refused : (bytes body : List ℕ) (e : ReadError) → first_of (head_refusals bytes) ≡ None → body ≡ body_of bytes → Fails (IsFaulty body) e → Fails (IsRefusedMatch bytes) e
+pub field_refused : (bytes body : List ℕ) (e : ReadError) → first_of (match_head_refusals bytes) ≡ None → body ≡ match_body bytes → Fails (IsFaulty body) e → Fails (IsRefusedMatch bytes) e
 field_refused bytes body errors.Memory none body_is h = tt
 field_refused bytes body (errors.Refused code) none body_is h = IsRefusedMatch.field none h.0 (subst (λ (b : List ℕ). Fields [] b h.0 (Some code)) body_is h.1)
 
-pub need_refused : (bytes body : List ℕ) (fields kept_fields : List MatchField) → first_of (head_refusals bytes) ≡ None → body ≡ body_of bytes → Fields [] body fields None → kept_fields ≡ normal fields → prerequisites_met kept_fields ≡ false → IsRefusedMatch bytes (refusal 4 9)
+pub need_refused : (bytes body : List ℕ) (fields kept_fields : List MatchField) → first_of (match_head_refusals bytes) ≡ None → body ≡ match_body bytes → Fields [] body fields None → kept_fields ≡ normal fields → prerequisites_met kept_fields ≡ false → IsRefusedMatch bytes (refusal 4 9)
 need_refused bytes body fields kept_fields none body_is walk normal_is met =
     IsRefusedMatch.need none fields (subst (λ (b : List ℕ). Fields [] b fields None) body_is walk) (subst (λ (m : List MatchField). prerequisites_met m ≡ false) normal_is met) refl
 
@@ -30,7 +30,7 @@ no_rest seen [] h = refl
 no_rest seen (b ∷ bs) h = let none : false ≡ true = h.1 in absurd cc
 
 pub encoded : (bytes : List ℕ) (fields : List MatchField) (m : List MatchField) → IsBytes bytes → 4 ≤ length bytes → big_number 2 bytes ≡ 1 → 4 ≤ match_len bytes → padded (match_len bytes) ≤ length bytes
-    → Fields [] (body_of bytes) fields None → m ≡ normal fields → prerequisites_met m ≡ true → EncodesMatch (take (padded (match_len bytes)) bytes) m
+    → Fields [] (match_body bytes) fields None → m ≡ normal fields → prerequisites_met m ≡ true → EncodesMatch (take (padded (match_len bytes)) bytes) m
 encoded (a ∷ b ∷ c ∷ d ∷ tail) fields m fits h4 kind low high walk normal_is met =
     let bytes = a ∷ b ∷ c ∷ d ∷ tail in
     let len = match_len bytes in
@@ -72,10 +72,10 @@ is_match bytes fields m walk normal_is met =
       met = rw met refl;
     }
 
-pub whole_encoded : (bytes body : List ℕ) (len : ℕ) (fields m : List MatchField) → IsBytes bytes → first_of (head_refusals bytes) ≡ None → len ≡ match_len bytes → body ≡ body_of bytes
+pub whole_encoded : (bytes body : List ℕ) (len : ℕ) (fields m : List MatchField) → IsBytes bytes → first_of (match_head_refusals bytes) ≡ None → len ≡ match_len bytes → body ≡ match_body bytes
     → Fields [] body fields None → m ≡ normal fields → prerequisites_met m ≡ true → EncodesMatch (take (padded len) bytes) m
 whole_encoded bytes body len fields m fits none len_is body_is walk normal_is met =
-    let t = none_applies (head_refusals bytes) none in
+    let t = none_applies (match_head_refusals bytes) none in
     let p = or_false _ _ t.1.1.0 in
     subst (λ (n : ℕ). EncodesMatch (take (padded n) bytes) m) (sym len_is)
     (encoded bytes fields m fits (ltb-false _ _ t.0) (eqb-true _ _ (not_false _ t.1.0)) (ltb-false _ _ p.0) (ltb-false _ _ p.1) (subst (λ (b : List ℕ). Fields [] b fields None) body_is walk) normal_is met)

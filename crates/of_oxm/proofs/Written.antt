@@ -9,7 +9,7 @@ use Rattle.byteorder.specs.Numbers.{length-bytes_high_first}
 use Rattle.of_layers.specs.declared.field.Field.{Field}
 use Rattle.of_oxm.specs.declared.match_field.MatchField.{MatchField}
 use Rattle.of_layers.specs.Fields.{number_of, bytes_of, ones_of}
-use Rattle.of_oxm.specs.MatchFieldWire.{IsEncoded, IsMask, encoding}
+use Rattle.of_oxm.specs.MatchFieldWire.{IsEncoded, IsAllowedMask, encoding}
 use Rattle.of_oxm.specs.NormalForm.{kept, with_field, with_kept_field, normal, IsKept, IsKeptMask, IsAscending, IsMatch}
 use Rattle.of_oxm.specs.MatchGrammar.{AreFieldsAfter, encodings, padded, EncodesMatch}
 use Rattle.of_oxm.specs.MatchFieldWire.{is_among}
@@ -19,7 +19,7 @@ use Rattle.of_oxm.proofs.Normal.{among_append}
 
 -- ---- a field of a match has an encoding
 
-kept_mask : (f : Field) (v : ℕ) (mask : Option ℕ) → IfSome mask (IsKeptMask f v) → IfSome mask (IsMask f v)
+kept_mask : (f : Field) (v : ℕ) (mask : Option ℕ) → IfSome mask (IsKeptMask f v) → IfSome mask (IsAllowedMask f v)
 kept_mask f v None h = tt
 kept_mask f v (Some m) h = record { fits = value_below f m (omega (arith, h.not_all)); allowed = inl h.maskable; covers = h.covers }
 

@@ -27,7 +27,7 @@ unfoldable pub encoding : MatchField → List ℕ
 encoding e = 128 ∷ 0 ∷ (2 * number_of e.field + flag e.mask) ∷ body_len e.field (is_some e.mask) ∷ (big_bytes (bytes_of e.field) e.value ++ mask_bytes (bytes_of e.field) e.mask)
 
 -- what a mask may be: all ones where the field takes no mask, and no bit of the value is set where the mask has a 0 (7.2.3.5)
-pub record IsMask (f : Field) (value mask : ℕ) : Type 0 where
+pub record IsAllowedMask (f : Field) (value mask : ℕ) : Type 0 where
   pub fits : mask < 256 ^ bytes_of f
   pub allowed : (is_maskable f ≡ true) ⊎ (bit_and mask (ones_of f) ≡ ones_of f)
   pub covers : bit_and value mask ≡ value
@@ -35,7 +35,7 @@ pub record IsMask (f : Field) (value mask : ℕ) : Type 0 where
 -- what has an encoding
 pub record IsEncoded (e : MatchField) : Type 0 where
   pub value : e.value ≤ ones_of e.field
-  pub mask : IfSome e.mask (IsMask e.field e.value)
+  pub mask : IfSome e.mask (IsAllowedMask e.field e.value)
 
 -- ---- what bytes begin with
 
@@ -48,11 +48,11 @@ is_masked_at rest = slice_index rest 2 % 2 == 1
 abbrev pub value_at : Field → List ℕ → ℕ
 value_at f rest = big_number (bytes_of f) (drop 4 rest)
 
-abbrev pub mask_at : Field → List ℕ → ℕ
-mask_at f rest = big_number (bytes_of f) (drop (bytes_of f) (drop 4 rest))
+abbrev pub mask_of_bytes : Field → List ℕ → ℕ
+mask_of_bytes f rest = big_number (bytes_of f) (drop (bytes_of f) (drop 4 rest))
 
 abbrev pub match_field_of : Field → List ℕ → MatchField
-match_field_of f rest = record { field = f; value = value_at f rest; mask = if is_masked_at rest then Some (mask_at f rest) else None }
+match_field_of f rest = record { field = f; value = value_at f rest; mask = if is_masked_at rest then Some (mask_of_bytes f rest) else None }
 
 -- ---- what is refused, in order (7.4.4)
 
@@ -74,7 +74,7 @@ known_field_refusals f seen rest =
     let masked = is_masked_at rest in
     (not (slice_index rest 3 == body_len f masked), OFPBMC_BAD_LEN)
     ∷ (is_among f seen, OFPBMC_DUP_FIELD)
-    ∷ value_refusals f masked (value_at f rest) (mask_at f rest)
+    ∷ value_refusals f masked (value_at f rest) (mask_of_bytes f rest)
 
 -- the refusals of the field that bytes begin with, after the fields `seen`
 abbrev pub field_refusals : List MatchField → List ℕ → List (Bool × Code)

@@ -48,12 +48,12 @@ match_len bytes = big_number 2 (drop 2 bytes)
 abbrev pub padded : ℕ → ℕ
 padded n = (n + 7) / 8 * 8
 
-abbrev pub body_of : List ℕ → List ℕ
-body_of bytes = take (match_len bytes - 4) (drop 4 bytes)
+abbrev pub match_body : List ℕ → List ℕ
+match_body bytes = take (match_len bytes - 4) (drop 4 bytes)
 
 -- the refusals of a match before its first field
-abbrev pub head_refusals : List ℕ → List (Bool × Code)
-head_refusals bytes =
+abbrev pub match_head_refusals : List ℕ → List (Bool × Code)
+match_head_refusals bytes =
     (nat_lt (length bytes) 4, OFPBMC_BAD_LEN)
     ∷ (not (big_number 2 bytes == 1), OFPBMC_BAD_TYPE)
     ∷ (nat_lt (match_len bytes) 4 || nat_lt (length bytes) (padded (match_len bytes)), OFPBMC_BAD_LEN)
@@ -74,9 +74,9 @@ pub record EncodesMatch (bytes : List ℕ) (m : List MatchField) : Type 0 where
 
 -- Bytes that begin with no encoding of a match have one code: of the head, of the first field that has a fault, or of a missing prerequisite.
 pub data IsRefusedMatch (bytes : List ℕ) (code : Code) : Type 0 where
-  head : first_of (head_refusals bytes) ≡ Some code → IsRefusedMatch bytes code
-  field : first_of (head_refusals bytes) ≡ None → (fields : List MatchField) → Fields [] (body_of bytes) fields (Some code) → IsRefusedMatch bytes code
-  need : first_of (head_refusals bytes) ≡ None → (fields : List MatchField) → Fields [] (body_of bytes) fields None → prerequisites_met (normal fields) ≡ false → code ≡ OFPBMC_BAD_PREREQ → IsRefusedMatch bytes code
+  head : first_of (match_head_refusals bytes) ≡ Some code → IsRefusedMatch bytes code
+  field : first_of (match_head_refusals bytes) ≡ None → (fields : List MatchField) → Fields [] (match_body bytes) fields (Some code) → IsRefusedMatch bytes code
+  need : first_of (match_head_refusals bytes) ≡ None → (fields : List MatchField) → Fields [] (match_body bytes) fields None → prerequisites_met (normal fields) ≡ false → code ≡ OFPBMC_BAD_PREREQ → IsRefusedMatch bytes code
 
 -- ---- what a reader returns
 

@@ -4,11 +4,11 @@ use Rattle.std.specs.Option.{option_map}
 use Rattle.of_wire.specs.declared.codes.TheConstants.{OFPBMC_BAD_PREREQ}
 use Rattle.of_wire.specs.declared.code.Code.{Code}
 use Rattle.of_wire.specs.Refusals.{first_of}
-use Rattle.of_wire.specs.Items.{Items, items_of}
+use Rattle.of_wire.specs.Items.{Items, items_from}
 use Rattle.of_layers.specs.Fields.{field_at}
 use Rattle.of_oxm.specs.declared.match_field.MatchField.{MatchField}
 use Rattle.of_oxm.specs.MatchFieldWire.{number_at, match_field_of, field_refusals}
-use Rattle.of_oxm.specs.MatchGrammar.{match_len, padded, body_of, head_refusals}
+use Rattle.of_oxm.specs.MatchGrammar.{match_len, padded, match_body, match_head_refusals}
 use Rattle.of_oxm.specs.NormalForm.{normal}
 use Rattle.of_oxm.specs.Prerequisites.{prerequisites_met}
 
@@ -26,7 +26,7 @@ then_normal size (Err code) = Err code
 
 abbrev pub match_by : List ℕ → Option Code → Result (List MatchField × ℕ) Code
 match_by bytes (Some code) = Err code
-match_by bytes None = then_normal (padded (match_len bytes)) (items_of match_fields (length (body_of bytes)) [] (body_of bytes))
+match_by bytes None = then_normal (padded (match_len bytes)) (items_from match_fields (length (match_body bytes)) [] (match_body bytes))
 
 unfoldable pub match_of : List ℕ → Result (List MatchField × ℕ) Code
-match_of bytes = match_by bytes (first_of (head_refusals bytes))
+match_of bytes = match_by bytes (first_of (match_head_refusals bytes))

@@ -14,9 +14,9 @@ abbrev pub meets_by : ℕ → ℕ → Option ℕ → Bool
 meets_by bits value None = bits == 0
 meets_by bits value (Some v) = bits == 0 || bit_and v bits == value
 
-abbrev pub meets : MatchField → Option ℕ → Bool
-meets e o = meets_by (meant_bits e) e.value o
+abbrev pub field_meets : MatchField → Option ℕ → Bool
+field_meets e o = meets_by (meant_bits e) e.value o
 
 -- a field map agrees with each field as it is encoded
 abbrev pub are_met : List MatchField → (Field → Option ℕ) → Bool
-are_met es map = list_all (λ e. meets e (map e.field)) es
+are_met es map = list_all (λ e. field_meets e (map e.field)) es

@@ -3,7 +3,7 @@
 ghost use Rattle.std.specs.Prelude.{◌≡◌, ◌++◌, ℕ, ◌≤◌, ◌<◌, List, [], Some, None, Ok, ◌-◌, length, take, drop, IfOk, OnOk, IfErr};
 ghost use Rattle.of_wire.specs.Refusals.{first_of};
 ghost use Rattle.of_wire.specs.Failures.{Fails, Reads};
-ghost use Rattle.of_oxm.specs.MatchGrammar.{Fields, IsFaulty, EncodesMatch, IsRefusedMatch, ReadsAs, RefusesAs, head_refusals, match_len, padded};
+ghost use Rattle.of_oxm.specs.MatchGrammar.{Fields, IsFaulty, EncodesMatch, IsRefusedMatch, ReadsAs, RefusesAs, match_head_refusals, match_len, padded};
 ghost use Rattle.of_oxm.specs.MatchReading.{match_of};
 ghost use Rattle.of_oxm.specs.declared.match_field.MatchField.{MatchField};
 ghost use Rattle.of_wire.specs.declared.code.Code.{Code};
@@ -42,8 +42,8 @@ fn read_head(bytes: &[u8]) -> Result<usize, Code>
     ensures low { IfOk result (λ len. 4 ≤ len) }
     ensures high { IfOk result (λ len. padded len ≤ length bytes.now) }
     ensures len { IfOk result (λ len. len ≡ match_len bytes.now) }
-    ensures none { OnOk result (first_of (head_refusals bytes.now) ≡ None) }
-    ensures first { IfErr result (λ code. first_of (head_refusals bytes.now) ≡ Some code) }
+    ensures none { OnOk result (first_of (match_head_refusals bytes.now) ≡ None) }
+    ensures first { IfErr result (λ code. first_of (match_head_refusals bytes.now) ≡ Some code) }
 {
     if bytes.len() < 4 {
         return Err(OFPBMC_BAD_LEN);

@@ -1,7 +1,7 @@
 ghost use Rattle.std.specs.Prelude.{◌≡◌, ◌==◌, ◌∷◌, [], Some, None, IsTrue, IfOk, if◌then◌else◌};
 ghost use Rattle.of_actions.specs.declared.action.Action.TheVariants.{Output};
 ghost use Rattle.of_actions.specs.InstructionLists.{are_for};
-ghost use Rattle.of_ports.specs.Ports.{number_of};
+ghost use Rattle.of_ports.specs.Ports.{number_of_port};
 ghost use Rattle.of_actions.specs.Rising.{is_ascending};
 
 mod rows;
@@ -31,7 +31,7 @@ struct OneEntry {
     flow: Flow,
     ports: [Port; 3],
     ghost onward: { IsTrue (are_for 0 flow.instructions) },
-    ghost rising: { IsTrue (is_ascending number_of ports) },
+    ghost rising: { IsTrue (is_ascending number_of_port ports) },
 }
 
 impl World for OneEntry {

@@ -30,13 +30,13 @@ abbrev pub has_bit : ℕ → ℕ → Bool
 has_bit bit bits = not (bit_and bits bit == 0)
 
 -- under the mask a bit is as in the new word, else it stays
-abbrev pub under : ℕ → ℕ → ℕ → Bool → Bool
-under bit config mask old = if has_bit bit mask then has_bit bit config else old
+abbrev pub bit_under_mask : ℕ → ℕ → ℕ → Bool → Bool
+bit_under_mask bit config mask old = if has_bit bit mask then has_bit bit config else old
 
 abbrev pub configured : ℕ → ℕ → PortConfig → PortConfig
 configured config mask c = record {
-  is_down = under port_down config mask c.is_down;
-  no_receive = under no_recv config mask c.no_receive;
-  no_forward = under no_fwd config mask c.no_forward;
-  no_packet_in = under no_packet_in config mask c.no_packet_in;
+  is_down = bit_under_mask port_down config mask c.is_down;
+  no_receive = bit_under_mask no_recv config mask c.no_receive;
+  no_forward = bit_under_mask no_fwd config mask c.no_forward;
+  no_packet_in = bit_under_mask no_packet_in config mask c.no_packet_in;
 }

@@ -10,8 +10,8 @@ use Rattle.of_ports.specs.Counters.{no_counters, tally}
 
 -- ---- a port
 
-abbrev pub number_of : Port → ℕ
-number_of p = p.number
+abbrev pub number_of_port : Port → ℕ
+number_of_port p = p.number
 
 -- a port that is added: no bit of its configuration is set, and nothing is counted
 abbrev pub new_port : ℕ → List ℕ → List ℕ → Bool → ℕ → Port
@@ -38,7 +38,7 @@ abbrev pub port_at : List Port → ℕ → Option Port
 port_at ports n = find (λ q. q.number == n) ports
 
 abbrev pub has_port : ℕ → List Port → Bool
-has_port n ports = is_used number_of n ports
+has_port n ports = is_used number_of_port n ports
 
 -- the port of that number exists and is live
 abbrev pub is_live_at : List Port → ℕ → Bool
@@ -55,14 +55,14 @@ abbrev pub with_port : Port → List Port → List Port
 with_port p ports = filter (λ q. nat_lt q.number p.number) ports ++ p ∷ filter (λ q. nat_lt p.number q.number) ports
 
 abbrev pub without_port : ℕ → List Port → List Port
-without_port n ports = without_number number_of n ports
+without_port n ports = without_number number_of_port n ports
 
 -- the port of a number is changed
 abbrev pub changed_if : ℕ → (Port → Port) → Port → Port
 changed_if n change q = if q.number == n then change q else q
 
-abbrev pub at_port : ℕ → (Port → Port) → List Port → List Port
-at_port n change ports = map (changed_if n change) ports
+abbrev pub changed_at_port : ℕ → (Port → Port) → List Port → List Port
+changed_at_port n change ports = map (changed_if n change) ports
 
 abbrev pub linked : Bool → Port → Port
 linked up p = record p { is_link_up = up }
@@ -75,4 +75,4 @@ counting what p = record p { counters = tally what p.counters }
 
 -- the port of a number counts this
 abbrev pub all_counted : ℕ → PortCount → List Port → List Port
-all_counted n what ports = at_port n (counting what) ports
+all_counted n what ports = changed_at_port n (counting what) ports

@@ -2,9 +2,9 @@
 use Rattle.std.specs.Prelude.{◌≤◌, List, length, IsTrue}
 use Rattle.of_actions.specs.Rising.{is_ascending}
 use Rattle.of_ports.specs.declared.port.Port.{Port}
-use Rattle.of_ports.specs.Ports.{number_of}
+use Rattle.of_ports.specs.Ports.{number_of_port}
 
-pub record AreSound (ports : List Port) : Type 0 where
+pub record AreSoundPorts (ports : List Port) : Type 0 where
   -- in ascending order, so no two have the same number
-  pub rising : IsTrue (is_ascending number_of ports)
+  pub rising : IsTrue (is_ascending number_of_port ports)
   pub few : length ports ≤ 64

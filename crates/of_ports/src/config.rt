@@ -1,6 +1,6 @@
 //! The configuration of ports.
 ghost use Rattle.std.specs.Prelude.{◌≡◌};
-ghost use Rattle.of_ports.specs.Config.{bit_if, config_bits, configured, has_bit, under};
+ghost use Rattle.of_ports.specs.Config.{bit_if, config_bits, configured, has_bit, bit_under_mask};
 
 /// OFPPC_PORT_DOWN.
 const PORT_DOWN: u32 = 1;
@@ -41,7 +41,7 @@ fn is_set(bits: u32, bit: u32) -> bool
 
 // Under the mask the bit is that of `config`, else it stays.
 fn bit_under(bit: u32, config: u32, mask: u32, old: bool) -> bool
-    ensures { result ≡ under bit config mask old }
+    ensures { result ≡ bit_under_mask bit config mask old }
 {
     if is_set(mask, bit) {
         is_set(config, bit)

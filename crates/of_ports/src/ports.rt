@@ -1,8 +1,8 @@
 //! The ports of a switch.
 ghost use Rattle.std.specs.Prelude.{◌≡◌, ◌<◌, [], false, nat_le, length, OnOk, OnErr};
 ghost use Rattle.std.specs.Option.{option_copied};
-ghost use Rattle.of_ports.specs.Ports.{all_counted, at_port, has_port, is_live_at, linked, port_at, with_config, with_port, without_port};
-ghost use Rattle.of_ports.specs.Sound.{AreSound};
+ghost use Rattle.of_ports.specs.Ports.{all_counted, changed_at_port, has_port, is_live_at, linked, port_at, with_config, with_port, without_port};
+ghost use Rattle.of_ports.specs.Sound.{AreSoundPorts};
 
 use crate::config::PortConfig;
 use crate::counters::PortCount;
@@ -22,13 +22,13 @@ pub struct Ports {
 impl Model for Ports {
     ghost use Rattle.std.specs.Prelude.{List};
     ghost use Rattle.of_ports.specs.declared.port.Port.{Port};
-    ghost use Rattle.of_ports.specs.Sound.{AreSound};
+    ghost use Rattle.of_ports.specs.Sound.{AreSoundPorts};
 
     ghost Value = { List Port };
 
     ghost view = { λ p. p.ports.items };
 
-    ghost invariant = { λ p. AreSound p.ports.items };
+    ghost invariant = { λ p. AreSoundPorts p.ports.items };
 }
 
 impl Ports {
@@ -43,7 +43,7 @@ impl Ports {
 
     pub fn as_slice(&self) -> &[Port]
         ensures ports { result.now ≡ self.now }
-        ensures sound { AreSound self.now }
+        ensures sound { AreSoundPorts self.now }
     {
         self.ports.as_slice()
     }
@@ -94,14 +94,14 @@ impl Ports {
 
     /// The link of the port of that number goes up or down; where there is none, nothing changes.
     pub fn set_link(&mut self, number: u32, is_up: bool)
-        ensures { self.new ≡ at_port number (linked is_up) self.old }
+        ensures { self.new ≡ changed_at_port number (linked is_up) self.old }
     {
         edit_at(&mut self.ports, number, Edit::Link(is_up));
     }
 
     /// Gives the port of that number another configuration (OpenFlow 1.3.5, 7.3.4.3); where there is none, nothing changes.
     pub fn configure(&mut self, number: u32, config: PortConfig)
-        ensures { self.new ≡ at_port number (with_config config) self.old }
+        ensures { self.new ≡ changed_at_port number (with_config config) self.old }
     {
         edit_at(&mut self.ports, number, Edit::Configure(config));
     }

@@ -20,7 +20,7 @@ use Rattle.of_shapes.specs.declared.shape.Tagging.{Tagging}
 use Rattle.of_regions.specs.Known.{is_known_by, rule_in}
 use Rattle.of_regions.specs.Joining.{Joined}
 use Rattle.of_regions.proofs.PlaceLemmas.{place, same_place}
-use Rattle.of_regions.specs.Building.{AreOthers, IsBegun, IsUnknown, bits_at}
+use Rattle.of_regions.specs.Building.{AreOthers, IsBegunField, IsUnknown, bits_at}
 use Rattle.of_regions.proofs.JoiningLemmas.{parts}
 
 pub put_none : (old : Field → Option ℕ) (field f : Field) (number : Option ℕ) → old field ≡ None → number ≡ None → old f ≡ cond (eqb (number_of f) (number_of field)) number (old f)
@@ -77,12 +77,12 @@ module _ (old new : Fields) (field : Field) (bits : Bits)
 -- ---- field by field
 
 module _ (s : Shape) (t : Option Tagging) (m : List MatchField) (old new : Fields) (x : Field) (index : ℕ)
-    (at : place x ≡ index) (joined : IsBegun s t m new x) (others : AreOthers old x new) where
-  pub begun_more : ((f : Field) → place f < index → IsBegun s t m old f) → (f : Field) → place f < index + 1 → IsBegun s t m new f
+    (at : place x ≡ index) (joined : IsBegunField s t m new x) (others : AreOthers old x new) where
+  pub begun_more : ((f : Field) → place f < index → IsBegunField s t m old f) → (f : Field) → place f < index + 1 → IsBegunField s t m new f
   begun_more before f lt = by_test (eqb (place f) index) refl
     where
-      by_test : (b : Bool) → eqb (place f) index ≡ b → IsBegun s t m new f
-      by_test true e = subst (IsBegun s t m new) (sym (same_place f x (eqb-true _ _ e ∙ sym at))) joined
+      by_test : (b : Bool) → eqb (place f) index ≡ b → IsBegunField s t m new f
+      by_test true e = subst (IsBegunField s t m new) (sym (same_place f x (eqb-true _ _ e ∙ sym at))) joined
       by_test false e =
           let lower : place f < index = grind (arith, nat_tests, lt, e) in
           let other : ¬ (f ≡ x) = λ is. absurd (omega (arith, lower, ap place is, at)) in

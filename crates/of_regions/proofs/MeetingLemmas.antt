@@ -12,7 +12,7 @@ use Rattle.of_oxm.specs.Masks.{mask_at}
 use Rattle.of_oxm.specs.Relations.{bits_looked_at, agrees, matches_map}
 use Rattle.of_oxm.proofs.Related.{and_true}
 use Rattle.of_regions.specs.declared.region.Region.{Region}
-use Rattle.of_regions.specs.Regions.{In}
+use Rattle.of_regions.specs.Regions.{InRegion}
 use Rattle.of_regions.specs.Meeting.{IsCrossed, is_apart, is_settled}
 
 abbrev settled : Region → MatchField → Bool
@@ -36,13 +36,13 @@ settled_agrees e (Some m) (Some x) (Some v) is h =
     let p = and_true (eqb (bit_and (bits_looked_at e) m) (bits_looked_at e)) (eqb (bit_and x (bits_looked_at e)) e.value) h in
     eq-eqb _ _ (bits_agree v (bits_looked_at e) m x e.value k (eqb-true (bit_and (bits_looked_at e) m) (bits_looked_at e) p.0) (eqb-true (bit_and x (bits_looked_at e)) e.value p.1))
 
-settled_by : (r : Region) (e : MatchField) (m : List MatchField) (map : Field → Option ℕ) → In r map → (b : Bool) → settled r e ≡ b
+settled_by : (r : Region) (e : MatchField) (m : List MatchField) (map : Field → Option ℕ) → InRegion r map → (b : Bool) → settled r e ≡ b
     → cond (not b) (Some e) (find (λ x. not (settled r x)) m) ≡ None → (find (λ x. not (settled r x)) m ≡ None → matches_map m map ≡ true) → (agrees e (map e.field) && matches_map m map) ≡ true
 settled_by r e m map h false is none ih = absurd cc
 settled_by r e m map h true is none ih = rw (settled_agrees e (mask_at r.masks e.field) (value r.known e.field) (map e.field) (h e.field) is) (ih none)
 
 -- a match of which every field is settled matches
-pub none_unsettled : (r : Region) (m : List MatchField) → find (λ e. not (settled r e)) m ≡ None → (map : Field → Option ℕ) → In r map → matches_map m map ≡ true
+pub none_unsettled : (r : Region) (m : List MatchField) → find (λ e. not (settled r e)) m ≡ None → (map : Field → Option ℕ) → InRegion r map → matches_map m map ≡ true
 none_unsettled r [] none map h = refl
 none_unsettled r (e ∷ m) none map h = settled_by r e m map h (settled r e) refl none (λ n. none_unsettled r m n map h)
 
@@ -69,12 +69,12 @@ and_false : (a b : Bool) → b ≡ false → (a && b) ≡ false
 and_false true b h = h
 and_false false b h = refl
 
-apart_by : (r : Region) (e : MatchField) (m : List MatchField) (map : Field → Option ℕ) → In r map → (b : Bool) → apart r e ≡ b → (b || list_any (apart r) m) ≡ true → (list_any (apart r) m ≡ true → matches_map m map ≡ false) → (agrees e (map e.field) && matches_map m map) ≡ false
+apart_by : (r : Region) (e : MatchField) (m : List MatchField) (map : Field → Option ℕ) → InRegion r map → (b : Bool) → apart r e ≡ b → (b || list_any (apart r) m) ≡ true → (list_any (apart r) m ≡ true → matches_map m map ≡ false) → (agrees e (map e.field) && matches_map m map) ≡ false
 apart_by r e m map h true is some ih = rw (apart_disagrees e (mask_at r.masks e.field) (value r.known e.field) (map e.field) (h e.field) is) refl
 apart_by r e m map h false is some ih = and_false (agrees e (map e.field)) (matches_map m map) (ih some)
 
 -- a match with a field that is apart matches nothing
-pub some_apart : (r : Region) (m : List MatchField) → list_any (apart r) m ≡ true → (map : Field → Option ℕ) → In r map → matches_map m map ≡ false
+pub some_apart : (r : Region) (m : List MatchField) → list_any (apart r) m ≡ true → (map : Field → Option ℕ) → InRegion r map → matches_map m map ≡ false
 some_apart r [] some map h = absurd cc
 some_apart r (e ∷ m) some map h = apart_by r e m map h (apart r e) refl some (λ s. some_apart r m s map h)
 

@@ -25,9 +25,9 @@ use Rattle.of_shapes.specs.Rules.{IsTagging, has_header}
 use Rattle.of_regions.specs.Conditions.{IsCondition}
 use Rattle.of_regions.specs.Narrowing.{AreNarrowed, IsNarrowedBy, is_of_tag}
 use Rattle.of_regions.specs.Known.{is_known_by, rule_in}
-use Rattle.of_regions.specs.Regions.{In, InOne}
+use Rattle.of_regions.specs.Regions.{InRegion, InOneRegion}
 use Rattle.of_regions.specs.Searching.{InSome}
-use Rattle.of_regions.specs.Starting.{listed}
+use Rattle.of_regions.specs.Starting.{region_list}
 use Rattle.of_regions.proofs.JoiningLemmas.{Parts, joined_back, joined_forth, joined_known, not_joined, parts, whole}
 use Rattle.of_regions.proofs.LearningLemmas.{own_among, set_among, was_among}
 use Rattle.of_regions.proofs.RuleLemmas.{mask_within, protocol_said, said_or, type_said}
@@ -122,7 +122,7 @@ module _ (r q : Region) (e : MatchField) (mask known : ℕ) (condition : IsCondi
 
   module _ (masks_are : (f : Field) → mask_at q.masks f ≡ cond (eqb (number_of f) (number_of e.field)) (Some (bit_or (bits_looked_at e) mask)) (mask_at r.masks f))
       (known_are : (f : Field) → value q.known f ≡ cond (eqb (number_of f) (number_of e.field)) (Some (bit_or e.value known)) (value r.known f)) where
-    pub narrowed_within : (map : Field → Option ℕ) → In q map → In r map × (agrees e (map e.field) ≡ true)
+    pub narrowed_within : (map : Field → Option ℕ) → InRegion q map → InRegion r map × (agrees e (map e.field) ≡ true)
     narrowed_within map h =
         let rule = rule_in r.shape r.tagging e.field in
         let here = own_among (mask_at r.masks) (value r.known) (mask_at q.masks) (value q.known) e.field (Some (bit_or (bits_looked_at e) mask)) (Some (bit_or e.value known)) masks_are known_are map h in (
@@ -131,7 +131,7 @@ module _ (r q : Region) (e : MatchField) (mask known : ℕ) (condition : IsCondi
           seen_agrees e (map e.field) (asks_seen (ones_of e.field) rule mask known (bits_looked_at e) e.value own (condition_bits e condition) (condition_value e condition) same (map e.field) here),
         )
 
-    pub narrowed_all : (map : Field → Option ℕ) → In r map → agrees e (map e.field) ≡ true → In q map
+    pub narrowed_all : (map : Field → Option ℕ) → InRegion r map → agrees e (map e.field) ≡ true → InRegion q map
     narrowed_all map h a =
         let rule = rule_in r.shape r.tagging e.field in
         let here : seen (Some mask) (map e.field) ≡ Some known = ap (λ x. seen x (map e.field)) (sym m) ∙ (h e.field ∙ k) in
@@ -139,14 +139,14 @@ module _ (r q : Region) (e : MatchField) (mask known : ℕ) (condition : IsCondi
         (both_seen (ones_of e.field) rule mask known (bits_looked_at e) e.value own (condition_bits e condition) (condition_value e condition) same (map e.field) (agrees_seen e (map e.field) a) here)
 
 -- no packet agrees with both
-pub none_agrees : (r : Region) (e : MatchField) (mask known : ℕ) → IsCondition e → mask_at r.masks e.field ≡ Some mask → value r.known e.field ≡ Some known → ¬ (bit_and e.value mask ≡ bit_and known (bits_looked_at e)) → (map : Field → Option ℕ) → In r map → agrees e (map e.field) ≡ true → ⊥
+pub none_agrees : (r : Region) (e : MatchField) (mask known : ℕ) → IsCondition e → mask_at r.masks e.field ≡ Some mask → value r.known e.field ≡ Some known → ¬ (bit_and e.value mask ≡ bit_and known (bits_looked_at e)) → (map : Field → Option ℕ) → InRegion r map → agrees e (map e.field) ≡ true → ⊥
 none_agrees r e mask known condition m k other map h a =
     let own : is_known_by (ones_of e.field) (rule_in r.shape r.tagging e.field) (Some mask) (Some known) ≡ true = rw (sym m, sym k) (r.each e.field) in
     let here : seen (Some mask) (map e.field) ≡ Some known = ap (λ x. seen x (map e.field)) (sym m) ∙ (h e.field ∙ k) in
     other (both_agree (ones_of e.field) (rule_in r.shape r.tagging e.field) mask known (bits_looked_at e) e.value own (condition_bits e condition) (condition_value e condition) (map e.field) (agrees_seen e (map e.field) a) here)
 
 -- a packet without the field agrees with no condition on it
-pub none_there : (r : Region) (e : MatchField) (mask : ℕ) → mask_at r.masks e.field ≡ Some mask → value r.known e.field ≡ None → (map : Field → Option ℕ) → In r map → agrees e (map e.field) ≡ true → ⊥
+pub none_there : (r : Region) (e : MatchField) (mask : ℕ) → mask_at r.masks e.field ≡ Some mask → value r.known e.field ≡ None → (map : Field → Option ℕ) → InRegion r map → agrees e (map e.field) ≡ true → ⊥
 none_there r e mask m k map h a = by_value (map e.field) (ap (λ x. seen x (map e.field)) (sym m) ∙ (h e.field ∙ k)) a
   where
     by_value : (o : Option ℕ) → seen (Some mask) o ≡ None → agrees e o ≡ true → ⊥
@@ -211,49 +211,49 @@ one_of a x c = elim (Contains-push_cases [] a x c) as (λ w. a ≡ x) [ inl none
 module _ (fields : List MatchField) where
   -- a region whose packets are in another, and the conditions agree with them
   abbrev IsWithin : Region → Region → Type 0
-  IsWithin r q = (map : Field → Option ℕ) → In q map → In r map × (matches_map fields map ≡ true)
+  IsWithin r q = (map : Field → Option ℕ) → InRegion q map → InRegion r map × (matches_map fields map ≡ true)
 
-  in_listed : (r : Region) (old : List Region) (a : Option Region) → IfSome a (IsWithin r) → (map : Field → Option ℕ) → InSome (old ++ listed a) map → InSome old map ⊎ (In r map × (matches_map fields map ≡ true))
-  in_listed r old None within map h = elim (Contains-append_cases old [] h.0 h.1) as (λ w. InSome old map ⊎ (In r map × (matches_map fields map ≡ true))) [ inl x ↦ inl (h.0, x, h.2) | inr x ↦ absurd (none_of h.0 x) ]
-  in_listed r old (Some q) within map h = elim (Contains-append_cases old (q ∷ []) h.0 h.1) as (λ w. InSome old map ⊎ (In r map × (matches_map fields map ≡ true))) [
+  in_listed : (r : Region) (old : List Region) (a : Option Region) → IfSome a (IsWithin r) → (map : Field → Option ℕ) → InSome (old ++ region_list a) map → InSome old map ⊎ (InRegion r map × (matches_map fields map ≡ true))
+  in_listed r old None within map h = elim (Contains-append_cases old [] h.0 h.1) as (λ w. InSome old map ⊎ (InRegion r map × (matches_map fields map ≡ true))) [ inl x ↦ inl (h.0, x, h.2) | inr x ↦ absurd (none_of h.0 x) ]
+  in_listed r old (Some q) within map h = elim (Contains-append_cases old (q ∷ []) h.0 h.1) as (λ w. InSome old map ⊎ (InRegion r map × (matches_map fields map ≡ true))) [
     | inl x ↦ inl (h.0, x, h.2)
-    | inr x ↦ inr (within map (subst (λ (y : Region). In y map) (sym (one_of q h.0 x)) h.2))
+    | inr x ↦ inr (within map (subst (λ (y : Region). InRegion y map) (sym (one_of q h.0 x)) h.2))
   ]
 
   in_left : (old new : List Region) (map : Field → Option ℕ) → InSome old map → InSome (old ++ new) map
   in_left old new map h = (h.0, Contains-append_left old new h.0 h.1, h.2)
 
-  in_right : (old : List Region) (a : Option Region) (map : Field → Option ℕ) → InOne a map → InSome (old ++ listed a) map
+  in_right : (old : List Region) (a : Option Region) (map : Field → Option ℕ) → InOneRegion a map → InSome (old ++ region_list a) map
   in_right old None map h = absurd h
   in_right old (Some q) map h = (q, Contains-append_right old (q ∷ []) q (0, omega arith, refl), h)
 
-  pub one_narrowed : (r : Region) (old : List Region) (a : Option Region) → IfSome a (IsWithin r) → ((map : Field → Option ℕ) → In r map → matches_map fields map ≡ true → InOne a map) → IsNarrowedBy fields r old (old ++ listed a)
+  pub one_narrowed : (r : Region) (old : List Region) (a : Option Region) → IfSome a (IsWithin r) → ((map : Field → Option ℕ) → InRegion r map → matches_map fields map ≡ true → InOneRegion a map) → IsNarrowedBy fields r old (old ++ region_list a)
   one_narrowed r old a within all = record {
     within = in_listed r old a within;
-    kept = λ map h. in_left old (listed a) map h;
+    kept = λ map h. in_left old (region_list a) map h;
     all = λ map t h m. in_right old a map (all map h m);
   }
 
-  weaker : (r t : Region) (a : Option Region) → ((map : Field → Option ℕ) → In t map → In r map) → IfSome a (IsWithin t) → IfSome a (IsWithin r)
+  weaker : (r t : Region) (a : Option Region) → ((map : Field → Option ℕ) → InRegion t map → InRegion r map) → IfSome a (IsWithin t) → IfSome a (IsWithin r)
   weaker r t None f h = tt
   weaker r t (Some q) f h = λ map i. (let x = h map i in (f map x.0, x.1))
 
-  pub two_narrowed : (r t u : Region) (old : List Region) (a b : Option Region) → ((map : Field → Option ℕ) → In t map → In r map) → ((map : Field → Option ℕ) → In u map → In r map)
-      → ((map : Field → Option ℕ) → IsTagging Tagged map → In r map → In t map) → ((map : Field → Option ℕ) → IsTagging Untagged map → In r map → In u map)
-      → IfSome a (IsWithin t) → IfSome b (IsWithin u) → ((map : Field → Option ℕ) → In t map → matches_map fields map ≡ true → InOne a map) → ((map : Field → Option ℕ) → In u map → matches_map fields map ≡ true → InOne b map)
-      → IsNarrowedBy fields r old ((old ++ listed a) ++ listed b)
+  pub two_narrowed : (r t u : Region) (old : List Region) (a b : Option Region) → ((map : Field → Option ℕ) → InRegion t map → InRegion r map) → ((map : Field → Option ℕ) → InRegion u map → InRegion r map)
+      → ((map : Field → Option ℕ) → IsTagging Tagged map → InRegion r map → InRegion t map) → ((map : Field → Option ℕ) → IsTagging Untagged map → InRegion r map → InRegion u map)
+      → IfSome a (IsWithin t) → IfSome b (IsWithin u) → ((map : Field → Option ℕ) → InRegion t map → matches_map fields map ≡ true → InOneRegion a map) → ((map : Field → Option ℕ) → InRegion u map → matches_map fields map ≡ true → InOneRegion b map)
+      → IsNarrowedBy fields r old ((old ++ region_list a) ++ region_list b)
   two_narrowed r t u old a b t_in u_in in_t in_u within_a within_b all_a all_b = record {
-    within = λ map h. elim (in_listed r (old ++ listed a) b (weaker r u b u_in within_b) map h) as (λ w. InSome old map ⊎ (In r map × (matches_map fields map ≡ true))) [
+    within = λ map h. elim (in_listed r (old ++ region_list a) b (weaker r u b u_in within_b) map h) as (λ w. InSome old map ⊎ (InRegion r map × (matches_map fields map ≡ true))) [
       | inl x ↦ in_listed r old a (weaker r t a t_in within_a) map x
       | inr x ↦ inr x
     ];
-    kept = λ map h. in_left (old ++ listed a) (listed b) map (in_left old (listed a) map h);
+    kept = λ map h. in_left (old ++ region_list a) (region_list b) map (in_left old (region_list a) map h);
     all = λ map g h m. by_tagging map g.0 g.1 h m;
   }
     where
-      by_tagging : (map : Field → Option ℕ) (t : Tagging) → IsTagging t map → In r map → matches_map fields map ≡ true → InSome ((old ++ listed a) ++ listed b) map
-      by_tagging map Tagged g h m = in_left (old ++ listed a) (listed b) map (in_right old a map (all_a map (in_t map g h) m))
-      by_tagging map Untagged g h m = in_right (old ++ listed a) b map (all_b map (in_u map g h) m)
+      by_tagging : (map : Field → Option ℕ) (t : Tagging) → IsTagging t map → InRegion r map → matches_map fields map ≡ true → InSome ((old ++ region_list a) ++ region_list b) map
+      by_tagging map Tagged g h m = in_left (old ++ region_list a) (region_list b) map (in_right old a map (all_a map (in_t map g h) m))
+      by_tagging map Untagged g h m = in_right (old ++ region_list a) b map (all_b map (in_u map g h) m)
 
   pub nothing_narrowed : AreNarrowed fields [] []
   nothing_narrowed = record { within = λ map h. absurd (none_of h.0 h.1); all = λ map t h. absurd (none_of h.0 h.1) }
@@ -266,6 +266,6 @@ module _ (fields : List MatchField) where
     ];
     all = λ map t h m. elim (Contains-push_cases xs r h.0 h.1) as (λ w. InSome new map) [
       | inl old ↦ more.kept map (are.all map t (h.0, old, h.2) m)
-      | inr same ↦ more.all map t (subst (λ (y : Region). In y map) (sym same) h.2) m
+      | inr same ↦ more.all map t (subst (λ (y : Region). InRegion y map) (sym same) h.2) m
     ];
   }

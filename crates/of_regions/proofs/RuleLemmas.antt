@@ -22,7 +22,7 @@ use Rattle.of_shapes.specs.declared.shape.Tagging.{Tagging}
 use Rattle.of_shapes.specs.declared.shape.Tagging.TheVariants.{Untagged, Tagged}
 use Rattle.of_shapes.specs.declared.shape.Rule.{Rule}
 use Rattle.of_shapes.specs.declared.shape.Rule.TheVariants.{Free, Absent, Under}
-use Rattle.of_shapes.specs.Rules.{HasShape, Obeys, has_header, protocol_of, type_of, valued}
+use Rattle.of_shapes.specs.Rules.{HasShape, Obeys, has_header, protocol_of, shape_type, valued}
 use Rattle.of_regions.specs.Joining.{IsAsked, IsRule}
 use Rattle.of_regions.specs.Known.{rule_in, tag_rule}
 use Rattle.of_regions.specs.Regions.{HasTagging}
@@ -36,9 +36,9 @@ by_header : (ones : ℕ) (b : Bool) → IsRule ones (cond b (Under 0 0) Absent)
 by_header ones true = (zero_and ones, refl)
 by_header ones false = tt
 
-by_type : (s : Shape) → IsRule (ones_of EthType) (valued EthType (type_of s))
+by_type : (s : Shape) → IsRule (ones_of EthType) (valued EthType (shape_type s))
 unfolding row_of
-by_type s = elim s as (λ s. IsRule (ones_of EthType) (valued EthType (type_of s))) [ shapes.Bare ↦ (refl, refl) | _ ↦ (refl, refl) ]
+by_type s = elim s as (λ s. IsRule (ones_of EthType) (valued EthType (shape_type s))) [ shapes.Bare ↦ (refl, refl) | _ ↦ (refl, refl) ]
 
 by_protocol : (s : Shape) → IsRule (ones_of IpProto) (cond (has_header s needs.Ip) (valued IpProto (protocol_of s)) Absent)
 unfolding row_of
@@ -75,9 +75,9 @@ pub said_or : (b : Bool) → cond b (Under 0 0) Absent ≡ Free → ⊥
 said_or true e = cc
 said_or false e = cc
 
-pub type_said : (s : Shape) → valued EthType (type_of s) ≡ Free → ⊥
+pub type_said : (s : Shape) → valued EthType (shape_type s) ≡ Free → ⊥
 unfolding row_of
-type_said s = elim s as (λ s. valued EthType (type_of s) ≡ Free → ⊥) [ shapes.Bare ↦ λ e. cc | _ ↦ λ e. cc ]
+type_said s = elim s as (λ s. valued EthType (shape_type s) ≡ Free → ⊥) [ shapes.Bare ↦ λ e. cc | _ ↦ λ e. cc ]
 
 pub protocol_said : (s : Shape) → cond (has_header s needs.Ip) (valued IpProto (protocol_of s)) Absent ≡ Free → ⊥
 unfolding row_of

@@ -20,12 +20,12 @@ use Rattle.of_regions.specs.declared.meeting.Meeting.TheVariants.{Whole}
 use Rattle.of_regions.specs.declared.region.Region.{Region}
 use Rattle.of_regions.specs.declared.rival.Rival.{Rival}
 use Rattle.of_regions.specs.Meeting.{Meets}
-use Rattle.of_regions.specs.Naming.{AreAscending, IsNamed, named}
-use Rattle.of_regions.specs.Regions.{AreParts, In}
+use Rattle.of_regions.specs.Naming.{AreAscending, IsNamed, with_place}
+use Rattle.of_regions.specs.Regions.{AreParts, InRegion}
 use Rattle.of_regions.specs.Witness.{HasNoIngress}
 use Rattle.of_regions.specs.declared.searching.Found.{Found}
 use Rattle.of_regions.specs.declared.searching.Found.TheVariants.{Undecided}
-use Rattle.of_regions.specs.Searching.{AreApartBefore, AreSteps, AreTaking, IsFound, InRests, InSome, IsRivalled, IsSplit, IsStart, IsState, IsStep, IsTaken, IsUnreceived, IsUnrivalled, regions_in}
+use Rattle.of_regions.specs.Searching.{AreApartBefore, AreSteps, AreTaking, IsFoundBySearch, InRests, InSome, IsRivalled, IsSplit, IsStart, IsState, IsStep, IsTakenByRival, IsUnreceived, IsUnrivalled, regions_in}
 use Rattle.of_regions.proofs.NamingLemmas.{is_named, still_ascending}
 
 none_of : {X : Type 0} (x : X) → Contains [] x → ⊥
@@ -42,7 +42,7 @@ at_place xs x c = (c.0, c.1, slice_get-get_or xs c.0 x c.1 ∙ ap Some c.2)
 
 -- ---- what is found
 
-pub unrivalled : (rivals : List Rival) (r : Region) → AreApartBefore rivals r (length rivals) → (fields : Field → Option ℕ) → In r fields → IsUnrivalled rivals fields
+pub unrivalled : (rivals : List Rival) (r : Region) → AreApartBefore rivals r (length rivals) → (fields : Field → Option ℕ) → InRegion r fields → IsUnrivalled rivals fields
 unrivalled rivals r apart fields h q c = let at = at_place rivals q c in apart at.0 q at.1 at.2 fields h
 
 pub region_in : (rests : List Rest) (r : Region) → Contains (regions_in rests) r → (x : Rest) × Contains rests x × (x.region ≡ r)
@@ -66,7 +66,7 @@ module _ (start : List Region) (rivals : List Rival) where
   pub begun : IsState start rivals (map (λ r. record { region = r; from = 0 }) start) [] None
   begun = record {
     passed = λ x c i q lt at. (let from = fresh start x c in absurd (omega (arith, lt, from.2)));
-    within = λ x c fields h. (let from = fresh start x c in (from.0, from.1.0, subst (λ (r : Region). In r fields) from.1.1 h));
+    within = λ x c fields h. (let from = fresh start x c in (from.0, from.1.0, subst (λ (r : Region). InRegion r fields) from.1.1 h));
     covered = λ none shape t fields a b m. inl (rest_of start m.0 m.1 fields m.2);
     named = λ j c. absurd (none_of j c);
     ascending = tt;
@@ -86,7 +86,7 @@ module _ (start : List Region) (rivals : List Rival) where
           only : Contains (first_rest ∷ []) x → first_rest ≡ x
           only c = elim (Contains-push_cases [] first_rest x c) as (λ w. first_rest ≡ x) [ inl none ↦ absurd (none_of x none) | inr e ↦ e ]
 
-      rest_of : (regions : List Region) (r : Region) → Contains regions r → (fields : Field → Option ℕ) → In r fields → InRests (map (λ r. record { region = r; from = 0 }) regions) fields
+      rest_of : (regions : List Region) (r : Region) → Contains regions r → (fields : Field → Option ℕ) → InRegion r fields → InRests (map (λ r. record { region = r; from = 0 }) regions) fields
       rest_of regions r c fields h =
           let x : Rest = record { region = r; from = 0 } in
           (x, (c.0, rw (length-map {B = Rest} regions (λ (r : Region). record { region = r; from = 0 })) c.1, get_or-map (λ (r : Region). record { region = r; from = 0 }) regions c.0 r x c.1 ∙ ap (λ (s : Region). record { region = s; from = 0 }) c.2), h)
@@ -111,30 +111,30 @@ module _ (start : List Region) (rivals : List Rival) where
     pub last_passed : AreApartBefore rivals x.region x.from
     last_passed = s.passed x (Contains-push rests x)
 
-    pub last_within : (fields : Field → Option ℕ) → In x.region fields → InSome start fields
+    pub last_within : (fields : Field → Option ℕ) → InRegion x.region fields → InSome start fields
     last_within = s.within x (Contains-push rests x)
 
     -- what was covered is, if what was in the last region is in what comes in its place
-    covers : (P : (Field → Option ℕ) → Type 0) → ((fields : Field → Option ℕ) (s : Shape) (t : Tagging) → HasShape s fields → IsTagging t fields → In x.region fields → P fields) → unreceived ≡ None
+    covers : (P : (Field → Option ℕ) → Type 0) → ((fields : Field → Option ℕ) (s : Shape) (t : Tagging) → HasShape s fields → IsTagging t fields → InRegion x.region fields → P fields) → unreceived ≡ None
         → (s : Shape) (t : Tagging) (fields : Field → Option ℕ) → HasShape s fields → IsTagging t fields → InSome start fields → (InRests rests fields ⊎ P fields) ⊎ IsRivalled rivals names fields
     covers P f none shape t fields a b m = elim (s.covered none shape t fields a b m) as (λ w. (InRests rests fields ⊎ P fields) ⊎ IsRivalled rivals names fields) [
       | inl left ↦ inl (elim (Contains-push_cases rests x left.0 left.1) as (λ w. InRests rests fields ⊎ P fields) [
         | inl old ↦ inl (left.0, old, left.2)
-        | inr same ↦ inr (f fields shape t a b (subst (λ (y : Rest). In y.region fields) (sym same) left.2))
+        | inr same ↦ inr (f fields shape t a b (subst (λ (y : Rest). InRegion y.region fields) (sym same) left.2))
       ])
       | inr taken ↦ inr taken
     ]
 
     -- a rival takes the last region
-    pub taken_state : (i : ℕ) (t : IsTaken rivals x.region i) → IsState start rivals rests (named t.rival.name names) unreceived
+    pub taken_state : (i : ℕ) (t : IsTakenByRival rivals x.region i) → IsState start rivals rests (with_place t.rival.name names) unreceived
     taken_state i t =
         let n = is_named t.rival.name names in
         let there = contains_at rivals i t.rival t.there in
         record {
           passed = λ y c. s.passed y (others_in y c);
           within = λ y c. s.within y (others_in y c);
-          covered = λ none shape tag fields a b m. elim (covers (λ fields. matches_map t.rival.fields.now fields ≡ true) (λ fields s u h g i. t.whole fields i) none shape tag fields a b m) as (λ w. InRests rests fields ⊎ IsRivalled rivals (named t.rival.name names) fields) [
-            | inl left ↦ elim left as (λ w. InRests rests fields ⊎ IsRivalled rivals (named t.rival.name names) fields) [
+          covered = λ none shape tag fields a b m. elim (covers (λ fields. matches_map t.rival.fields.now fields ≡ true) (λ fields s u h g i. t.whole fields i) none shape tag fields a b m) as (λ w. InRests rests fields ⊎ IsRivalled rivals (with_place t.rival.name names) fields) [
+            | inl left ↦ elim left as (λ w. InRests rests fields ⊎ IsRivalled rivals (with_place t.rival.name names) fields) [
               | inl old ↦ inl old
               | inr whole ↦ inr (t.rival, there, n.there, whole)
             ]
@@ -148,7 +148,7 @@ module _ (start : List Region) (rivals : List Rival) where
           kept = s.kept;
         }
 
-    pub taken_step : (i : ℕ) (t : IsTaken rivals x.region i) → IsStep start rivals (regions_in (rests ++ x ∷ [])) (regions_in rests)
+    pub taken_step : (i : ℕ) (t : IsTakenByRival rivals x.region i) → IsStep start rivals (regions_in (rests ++ x ∷ [])) (regions_in rests)
     taken_step i t = IsStep.taken x.region t.rival (map_push (λ (y : Rest). y.region) rests x) (contains_at rivals i t.rival t.there) t.whole
 
     -- the last region is divided
@@ -171,14 +171,14 @@ module _ (start : List Region) (rivals : List Rival) where
             | inr second ↦ subst (λ (z : Rest). AreApartBefore rivals z.region z.from) second (λ j q lt at fields h. k.first j q (subst (λ (n : ℕ). j < n) b_from lt) at fields (p.within fields (inr h)))
           ]
         ];
-        within = λ y c. elim (part_cases y c) as (λ w. (fields : Field → Option ℕ) → In y.region fields → InSome start fields) [
+        within = λ y c. elim (part_cases y c) as (λ w. (fields : Field → Option ℕ) → InRegion y.region fields → InSome start fields) [
           | inl old ↦ s.within y (others_in y old)
-          | inr new ↦ elim new as (λ w. (fields : Field → Option ℕ) → In y.region fields → InSome start fields) [
-            | inl first ↦ subst (λ (z : Rest). (fields : Field → Option ℕ) → In z.region fields → InSome start fields) first (λ fields h. last_within fields (p.within fields (inl h)))
-            | inr second ↦ subst (λ (z : Rest). (fields : Field → Option ℕ) → In z.region fields → InSome start fields) second (λ fields h. last_within fields (p.within fields (inr h)))
+          | inr new ↦ elim new as (λ w. (fields : Field → Option ℕ) → InRegion y.region fields → InSome start fields) [
+            | inl first ↦ subst (λ (z : Rest). (fields : Field → Option ℕ) → InRegion z.region fields → InSome start fields) first (λ fields h. last_within fields (p.within fields (inl h)))
+            | inr second ↦ subst (λ (z : Rest). (fields : Field → Option ℕ) → InRegion z.region fields → InSome start fields) second (λ fields h. last_within fields (p.within fields (inr h)))
           ]
         ];
-        covered = λ none shape tag fields g h m. elim (covers (λ fields. In a.region fields ⊎ In b.region fields) (λ fields s u g h i. p.all fields (u, h) i) none shape tag fields g h m) as (λ w. InRests (rests ++ a ∷ b ∷ []) fields ⊎ IsRivalled rivals names fields) [
+        covered = λ none shape tag fields g h m. elim (covers (λ fields. InRegion a.region fields ⊎ InRegion b.region fields) (λ fields s u g h i. p.all fields (u, h) i) none shape tag fields g h m) as (λ w. InRests (rests ++ a ∷ b ∷ []) fields ⊎ IsRivalled rivals names fields) [
           | inl left ↦ inl (elim left as (λ w. InRests (rests ++ a ∷ b ∷ []) fields) [
             | inl old ↦ (old.0, Contains-append_left rests (a ∷ b ∷ []) old.0 old.1, old.2)
             | inr part ↦ elim part as (λ w. InRests (rests ++ a ∷ b ∷ []) fields) [
@@ -225,8 +225,8 @@ left_or_not (x ∷ rests) = inr (λ e. absurd cc, λ e. absurd cc)
 
 -- what is found after the last step
 pub found_at_end : (start : List Region) (rivals : List Rival) (steps : ℕ) (found : Found) (rests : List Rest) (names : List ℕ) (unreceived : Option Region) → IsState start rivals rests names unreceived
-    → AreSteps start rivals steps (regions_in rests) → (¬ (rests ≡ []) → found ≡ Undecided) → (IsState start rivals rests names unreceived → rests ≡ [] → IsFound start rivals steps found) → IsFound start rivals steps found
-found_at_end start rivals steps found rests names unreceived s taken left decided = elim (left_or_not rests) as (λ w. IsFound start rivals steps found) [
+    → AreSteps start rivals steps (regions_in rests) → (¬ (rests ≡ []) → found ≡ Undecided) → (IsState start rivals rests names unreceived → rests ≡ [] → IsFoundBySearch start rivals steps found) → IsFoundBySearch start rivals steps found
+found_at_end start rivals steps found rests names unreceived s taken left decided = elim (left_or_not rests) as (λ w. IsFoundBySearch start rivals steps found) [
   | inl empty ↦ decided s empty
-  | inr some ↦ subst (IsFound start rivals steps) (sym (left some.0)) (record { end = regions_in rests; left = some.1; taken = taken })
+  | inr some ↦ subst (IsFoundBySearch start rivals steps) (sym (left some.0)) (record { end = regions_in rests; left = some.1; taken = taken })
 ]

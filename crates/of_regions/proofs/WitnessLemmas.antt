@@ -25,8 +25,8 @@ use Rattle.of_frames.specs.Knowing.{IsAmong, IsKnown, NothingOfTags}
 use Rattle.of_frames.specs.Packets.{frame_given, frame_size}
 use Rattle.of_frames.proofs.KnownLemmas.{among}
 use Rattle.of_regions.specs.declared.region.Region.{Region}
-use Rattle.of_regions.specs.Witness.{HasNoIngress, IsFrameIn, IsIngress, MayBe}
-use Rattle.of_regions.specs.Regions.{In}
+use Rattle.of_regions.specs.Witness.{HasNoIngress, IsFrameIn, IsIngressPort, MayBe}
+use Rattle.of_regions.specs.Regions.{InRegion}
 use Rattle.of_rewrite.specs.Frames.{IsFrame}
 use Rattle.of_regions.specs.Known.{AllKnown, is_known_by, rule_in}
 use Rattle.of_regions.proofs.BuildingLemmas.{known_within}
@@ -169,7 +169,7 @@ bit_low mask rest port w b =
     let inside : bit_and port 0xffffffff ≡ port = ap (λ (n : ℕ). bit_and n 0xffffffff) (sym b.among) ∙ and_assoc 0xffffffff port rest ∙ ap (bit_and port) w.among ∙ b.among in
     omega (arith, low port, inside)
 
-pub bit_ingress : (mask rest port : ℕ) → AreWithout 0xffffffff mask rest → IsBitOf rest port → IsIngress port
+pub bit_ingress : (mask rest port : ℕ) → AreWithout 0xffffffff mask rest → IsBitOf rest port → IsIngressPort port
 bit_ingress mask rest port w b = inl (omega (arith, pow_pos b.place, b.is), most)
   where
     below : port < 2 ^ 32
@@ -190,22 +190,22 @@ bit_ingress mask rest port w b = inl (omega (arith, pow_pos b.place, b.is), most
       | inr le ↦ (let e : b.place ≡ 31 = omega (arith, le, place_low) in omega (arith, b.is ∙ ap (λ (n : ℕ). 2 ^ n) e))
     ]
 
-small_ingress : (port : ℕ) → IsIngress port → (1 ≤ port) × (port < 2 ^ 32)
+small_ingress : (port : ℕ) → IsIngressPort port → (1 ≤ port) × (port < 2 ^ 32)
 small_ingress port (inl h) = (h.0, omega (arith, h.1))
 small_ingress port (inr e) = (omega (arith, e), omega (arith, e))
 
 -- if all bits of a port's number are known to be 0, it is no port
-pub no_port : (mask known port : ℕ) → known ≡ 0 → bit_and 0xffffffff mask ≡ 0xffffffff → bit_and port mask ≡ known → ¬ (IsIngress port)
+pub no_port : (mask known port : ℕ) → known ≡ 0 → bit_and 0xffffffff mask ≡ 0xffffffff → bit_and port mask ≡ known → ¬ (IsIngressPort port)
 no_port mask known port zero all under is =
     let small = small_ingress port is in
     let own : bit_and port 0xffffffff ≡ port = low port ∙ omega (arith, small.1) in
     let none : bit_and port mask ≡ port = ap (λ (n : ℕ). bit_and n mask) (sym own) ∙ and_assoc mask port 0xffffffff ∙ ap (bit_and port) all ∙ own in
     absurd (omega (arith, small.0, none, under, zero))
 
-pub no_ingress : (r : Region) → ((m k : ℕ) → mask_at r.masks InPort ≡ Some m → value r.known InPort ≡ Some k → (port : ℕ) → bit_and port m ≡ k → ¬ (IsIngress port)) → HasNoIngress r
+pub no_ingress : (r : Region) → ((m k : ℕ) → mask_at r.masks InPort ≡ Some m → value r.known InPort ≡ Some k → (port : ℕ) → bit_and port m ≡ k → ¬ (IsIngressPort port)) → HasNoIngress r
 no_ingress r none fields h = by_port (fields InPort) (h InPort)
   where
-    by_port : (o : Option ℕ) → seen (mask_at r.masks InPort) o ≡ value r.known InPort → IfSome o (λ port. ¬ (IsIngress port))
+    by_port : (o : Option ℕ) → seen (mask_at r.masks InPort) o ≡ value r.known InPort → IfSome o (λ port. ¬ (IsIngressPort port))
     by_port None h = tt
     by_port (Some port) h =
         let a = port_known r.shape (mask_at r.masks) (value r.known) r.tagging r.each in

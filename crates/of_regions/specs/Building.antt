@@ -24,5 +24,5 @@ abbrev pub AreOthers : Fields → Field → Fields → Type 0
 AreOthers old field new = (f : Field) → ¬ (f ≡ field) → bits_at new f ≡ bits_at old f
 
 -- what is known of a field is what a shape and a tagging say, and a match asks
-abbrev pub IsBegun : Shape → Option Tagging → List MatchField → Fields → Field → Type 0
-IsBegun s t m fields f = Joined (ones_of f) (rule_in s t f) (looked_at m f) (value_of m f) (bits_at fields f)
+abbrev pub IsBegunField : Shape → Option Tagging → List MatchField → Fields → Field → Type 0
+IsBegunField s t m fields f = Joined (ones_of f) (rule_in s t f) (looked_at m f) (value_of m f) (bits_at fields f)

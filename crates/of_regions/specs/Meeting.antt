@@ -9,7 +9,7 @@ use Rattle.of_oxm.specs.Relations.{bits_looked_at, matches_map}
 use Rattle.of_regions.specs.declared.meeting.Meeting.{Meeting}
 use Rattle.of_regions.specs.declared.meeting.Meeting.TheVariants.{Apart, Whole, Crosses}
 use Rattle.of_regions.specs.declared.region.Region.{Region}
-use Rattle.of_regions.specs.Regions.{In}
+use Rattle.of_regions.specs.Regions.{InRegion}
 
 -- a field of a match agrees with whatever has these bits under this mask
 abbrev pub is_settled : MatchField → Option ℕ → Option ℕ → Bool
@@ -32,6 +32,6 @@ abbrev pub IsNear : Region → List MatchField → Type 0
 IsNear r m = list_any (λ e. is_apart e (mask_at r.masks e.field) (value r.known e.field)) m ≡ false
 
 abbrev pub Meets : Region → List MatchField → Meeting → Type 0
-Meets r m Apart = (map : Field → Option ℕ) → In r map → matches_map m map ≡ false
-Meets r m Whole = (map : Field → Option ℕ) → In r map → matches_map m map ≡ true
+Meets r m Apart = (map : Field → Option ℕ) → InRegion r map → matches_map m map ≡ false
+Meets r m Whole = (map : Field → Option ℕ) → InRegion r map → matches_map m map ≡ true
 Meets r m (Crosses e) = Contains m e × IsCrossed r e × IsNear r m

@@ -8,9 +8,9 @@ AreAscending [] = Unit {0}
 AreAscending (j ∷ names) = AllByRecursion (λ i. j < i) names × AreAscending names
 
 -- one more name, in ascending order, once
-abbrev pub named : ℕ → List ℕ → List ℕ
-named j [] = j ∷ []
-named j (i ∷ names) = if nat_le j i then (if i == j then i ∷ names else j ∷ i ∷ names) else i ∷ named j names
+abbrev pub with_place : ℕ → List ℕ → List ℕ
+with_place j [] = j ∷ []
+with_place j (i ∷ names) = if nat_le j i then (if i == j then i ∷ names else j ∷ i ∷ names) else i ∷ with_place j names
 
 -- a name beside others
 pub record IsNamed (j : ℕ) (old new : List ℕ) : Type 0 where

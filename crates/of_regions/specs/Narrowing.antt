@@ -6,7 +6,7 @@ use Rattle.of_layers.specs.declared.field.Field.TheVariants.{VlanPcp, VlanVid}
 use Rattle.of_oxm.specs.declared.match_field.MatchField.{MatchField}
 use Rattle.of_oxm.specs.Relations.{matches_map}
 use Rattle.of_regions.specs.declared.region.Region.{Region}
-use Rattle.of_regions.specs.Regions.{In, SomeTagging}
+use Rattle.of_regions.specs.Regions.{InRegion, IsSomeTagging}
 use Rattle.of_regions.specs.Searching.{InSome}
 
 -- a condition on the outermost VLAN tag
@@ -20,11 +20,11 @@ is_tag_field e = is_of_tag e.field
 
 -- the packets of a region with which conditions agree come to the others
 pub record IsNarrowedBy (fields : List MatchField) (r : Region) (old new : List Region) : Type 0 where
-  pub within : (map : Field → Option ℕ) → InSome new map → InSome old map ⊎ (In r map × (matches_map fields map ≡ true))
+  pub within : (map : Field → Option ℕ) → InSome new map → InSome old map ⊎ (InRegion r map × (matches_map fields map ≡ true))
   pub kept : (map : Field → Option ℕ) → InSome old map → InSome new map
-  pub all : (map : Field → Option ℕ) → SomeTagging map → In r map → matches_map fields map ≡ true → InSome new map
+  pub all : (map : Field → Option ℕ) → IsSomeTagging map → InRegion r map → matches_map fields map ≡ true → InSome new map
 
 -- the packets of regions with which conditions agree: no other packet, and each that has a tag or none
 pub record AreNarrowed (fields : List MatchField) (old new : List Region) : Type 0 where
   pub within : (map : Field → Option ℕ) → InSome new map → InSome old map × (matches_map fields map ≡ true)
-  pub all : (map : Field → Option ℕ) → SomeTagging map → InSome old map → matches_map fields map ≡ true → InSome new map
+  pub all : (map : Field → Option ℕ) → IsSomeTagging map → InSome old map → matches_map fields map ≡ true → InSome new map

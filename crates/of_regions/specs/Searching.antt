@@ -22,7 +22,7 @@ use Rattle.of_regions.specs.declared.witness.Packet.{Packet}
 use Rattle.of_regions.specs.Conditions.{IsCondition}
 use Rattle.of_regions.specs.Meeting.{Meets}
 use Rattle.of_regions.specs.Naming.{AreAscending}
-use Rattle.of_regions.specs.Regions.{AreParts, In}
+use Rattle.of_regions.specs.Regions.{AreParts, InRegion}
 use Rattle.of_regions.specs.Witness.{HasNoIngress, IsReceived, fields_in}
 
 -- no rival matches it
@@ -34,7 +34,7 @@ abbrev pub IsRivalled : List Rival → List ℕ → (Field → Option ℕ) → T
 IsRivalled rivals names fields = (q : Rival) × Contains rivals q × Contains names q.name × (matches_map q.fields.now fields ≡ true)
 
 abbrev pub InSome : List Region → (Field → Option ℕ) → Type 0
-InSome regions fields = (r : Region) × Contains regions r × In r fields
+InSome regions fields = (r : Region) × Contains regions r × InRegion r fields
 
 -- ---- what is found
 
@@ -52,8 +52,8 @@ pub record AreTaking (start : List Region) (rivals : List Rival) (names : List �
 
 -- packets of the regions that no rival matches, but no switch receives them by such a port
 pub record IsUnreceived (start : List Region) (rivals : List Rival) (r : Region) : Type 0 where
-  pub within : (fields : Field → Option ℕ) → In r fields → InSome start fields
-  pub unrivalled : (fields : Field → Option ℕ) → In r fields → IsUnrivalled rivals fields
+  pub within : (fields : Field → Option ℕ) → InRegion r fields → InSome start fields
+  pub unrivalled : (fields : Field → Option ℕ) → InRegion r fields → IsUnrivalled rivals fields
   pub ports : HasNoIngress r
 
 -- ---- steps
@@ -76,23 +76,23 @@ pub record IsUndecided (start : List Region) (rivals : List Rival) (steps : ℕ)
   pub taken : AreSteps start rivals steps end
 
 -- WHAT A SEARCH OF AT MOST SO MANY STEPS FINDS among regions
-abbrev pub IsFound : List Region → List Rival → ℕ → Found → Type 0
-IsFound start rivals steps (found.Free p) = IsFreePacket start rivals p
-IsFound start rivals steps (found.Taken names) = AreTaking start rivals names.items
-IsFound start rivals steps (found.Unreceived r) = IsUnreceived start rivals r
-IsFound start rivals steps found.Undecided = IsUndecided start rivals steps
+abbrev pub IsFoundBySearch : List Region → List Rival → ℕ → Found → Type 0
+IsFoundBySearch start rivals steps (found.Free p) = IsFreePacket start rivals p
+IsFoundBySearch start rivals steps (found.Taken names) = AreTaking start rivals names.items
+IsFoundBySearch start rivals steps (found.Unreceived r) = IsUnreceived start rivals r
+IsFoundBySearch start rivals steps found.Undecided = IsUndecided start rivals steps
 
 -- ---- the regions of a match
 
 -- those with which a search for a packet of a match begins: by the shapes of packets, at most ten, with a tag and without
 pub record IsStart (own : List MatchField) (regions : List Region) : Type 0 where
   pub few : length regions ≤ 20
-  pub matched : (r : Region) → Contains regions r → (fields : Field → Option ℕ) → In r fields → matches_map own fields ≡ true
+  pub matched : (r : Region) → Contains regions r → (fields : Field → Option ℕ) → InRegion r fields → matches_map own fields ≡ true
   pub all : (s : Shape) (t : Tagging) (fields : Field → Option ℕ) → HasShape s fields → IsTagging t fields → matches_map own fields ≡ true → InSome regions fields
 
 -- AMONG THE PACKETS OF A MATCH
 abbrev pub Finds : List MatchField → List Rival → ℕ → Found → Type 0
-Finds own rivals steps f = (start : List Region) × IsStart own start × IsFound start rivals steps f
+Finds own rivals steps f = (start : List Region) × IsStart own start × IsFoundBySearch start rivals steps f
 
 -- ---- inside a search
 
@@ -101,7 +101,7 @@ abbrev pub AreApartBefore : List Rival → Region → ℕ → Type 0
 AreApartBefore rivals r n = (i : ℕ) (q : Rival) → i < n → slice_get rivals i ≡ Some q → Meets r q.fields.now Apart
 
 -- the rival of an index matches all of the region
-pub record IsTaken (rivals : List Rival) (r : Region) (i : ℕ) : Type 0 where
+pub record IsTakenByRival (rivals : List Rival) (r : Region) (i : ℕ) : Type 0 where
   pub rival : Rival
   pub there : slice_get rivals i ≡ Some rival
   pub whole : Meets r rival.fields.now Whole
@@ -116,12 +116,12 @@ pub record IsSplit (rivals : List Rival) (r : Region) (i : ℕ) (e : MatchField)
 
 abbrev pub IsLook : List Rival → Region → Look → Type 0
 IsLook rivals r Free = AreApartBefore rivals r (length rivals)
-IsLook rivals r (Taken i) = IsTaken rivals r i
+IsLook rivals r (Taken i) = IsTakenByRival rivals r i
 IsLook rivals r (Splits i e) = IsSplit rivals r i e
 
 -- in one of the regions that are left
 abbrev pub InRests : List Rest → (Field → Option ℕ) → Type 0
-InRests rests fields = (x : Rest) × Contains rests x × In x.region fields
+InRests rests fields = (x : Rest) × Contains rests x × InRegion x.region fields
 
 abbrev pub regions_in : List Rest → List Region
 regions_in rests = map (λ x. x.region) rests
@@ -129,7 +129,7 @@ regions_in rests = map (λ x. x.region) rests
 -- the state of a search
 pub record IsState (start : List Region) (rivals : List Rival) (rests : List Rest) (names : List ℕ) (unreceived : Option Region) : Type 0 where
   pub passed : (x : Rest) → Contains rests x → AreApartBefore rivals x.region x.from
-  pub within : (x : Rest) → Contains rests x → (fields : Field → Option ℕ) → In x.region fields → InSome start fields
+  pub within : (x : Rest) → Contains rests x → (fields : Field → Option ℕ) → InRegion x.region fields → InSome start fields
   pub covered : unreceived ≡ None → (s : Shape) (t : Tagging) (fields : Field → Option ℕ) → HasShape s fields → IsTagging t fields → InSome start fields → InRests rests fields ⊎ IsRivalled rivals names fields
   pub named : (j : ℕ) → Contains names j → (q : Rival) × Contains rivals q × (q.name ≡ j)
   pub ascending : AreAscending names

@@ -8,17 +8,17 @@ use Rattle.of_shapes.specs.declared.shape.Shape.{Shape}
 use Rattle.of_shapes.specs.declared.shape.Tagging.{Tagging}
 use Rattle.of_shapes.specs.Rules.{HasShape, IsTagging}
 use Rattle.of_regions.specs.declared.region.Region.{Region}
-use Rattle.of_regions.specs.Regions.{In}
+use Rattle.of_regions.specs.Regions.{InRegion}
 use Rattle.of_regions.specs.Searching.{InSome}
 
 -- none, or one
-abbrev pub listed : Option Region → List Region
-listed None = []
-listed (Some r) = r ∷ []
+abbrev pub region_list : Option Region → List Region
+region_list None = []
+region_list (Some r) = r ∷ []
 
 -- one region more, or two: packets of a shape that a match matches
 pub record IsBegun (own : List MatchField) (s : Shape) (old new : List Region) : Type 0 where
   pub few : length new ≤ length old + 2
   pub kept : (r : Region) → Contains old r → Contains new r
-  pub matched : (r : Region) → Contains new r → Contains old r ⊎ ((fields : Field → Option ℕ) → In r fields → matches_map own fields ≡ true)
+  pub matched : (r : Region) → Contains new r → Contains old r ⊎ ((fields : Field → Option ℕ) → InRegion r fields → matches_map own fields ≡ true)
   pub all : (t : Tagging) (fields : Field → Option ℕ) → HasShape s fields → IsTagging t fields → matches_map own fields ≡ true → InSome new fields

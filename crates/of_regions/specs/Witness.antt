@@ -9,11 +9,11 @@ use Rattle.of_oxm.specs.Masks.{mask_at}
 use Rattle.of_rewrite.specs.Frames.{IsFrame}
 use Rattle.of_regions.specs.declared.region.Region.{Region}
 use Rattle.of_regions.specs.declared.witness.Packet.{Packet}
-use Rattle.of_regions.specs.Regions.{In}
+use Rattle.of_regions.specs.Regions.{InRegion}
 
 -- a port that a switch may have, or CONTROLLER, which a PACKET_OUT may give as that of its frame (OpenFlow 1.3.5, 7.2.1 and 7.3.7)
-abbrev pub IsIngress : ℕ → Type 0
-IsIngress port = ((1 ≤ port) × (port ≤ OFPP_MAX)) ⊎ (port ≡ OFPP_CONTROLLER)
+abbrev pub IsIngressPort : ℕ → Type 0
+IsIngressPort port = ((1 ≤ port) × (port ≤ OFPP_MAX)) ⊎ (port ≡ OFPP_CONTROLLER)
 
 -- a number that a field of a packet of the region may have
 abbrev pub MayBe : Region → Field → ℕ → Type 0
@@ -23,7 +23,7 @@ MayBe r f v = seen (mask_at r.masks f) (Some v) ≡ value r.known f
 pub record IsFrameIn (r : Region) (frame : List ℕ) : Type 0 where
   pub frame_is : IsFrame frame
   pub short : length frame ≤ 9216
-  pub within : (port metadata : ℕ) → MayBe r InPort port → MayBe r Metadata metadata → In r (field_map (layers_of frame) port metadata)
+  pub within : (port metadata : ℕ) → MayBe r InPort port → MayBe r Metadata metadata → InRegion r (field_map (layers_of frame) port metadata)
 
 -- ---- packets
 
@@ -35,9 +35,9 @@ fields_in p = field_map (layers_of p.frame.items) p.in_port p.metadata
 pub record IsReceived (p : Packet) : Type 0 where
   pub frame_is : IsFrame p.frame.items
   pub short : length p.frame.items ≤ 9216
-  pub ingress : IsIngress p.in_port
+  pub ingress : IsIngressPort p.in_port
   pub metadata_fits : p.metadata < 2 ^ 64
 
 -- no packet of the region comes in by a port that a switch may have
 abbrev pub HasNoIngress : Region → Type 0
-HasNoIngress r = (map : Field → Option ℕ) → In r map → IfSome (map InPort) (λ port. ¬ (IsIngress port))
+HasNoIngress r = (map : Field → Option ℕ) → InRegion r map → IfSome (map InPort) (λ port. ¬ (IsIngressPort port))

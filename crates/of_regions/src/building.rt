@@ -10,10 +10,10 @@ ghost use Rattle.of_shapes.specs.Rules.{HasShape};
 ghost use Rattle.of_headers.specs.FieldMap.{seen};
 ghost use Rattle.of_shapes.specs.Rules.{Obeys};
 ghost use Rattle.of_shapes.specs.declared.shape.Rule.TheVariants.{Free};
-ghost use Rattle.of_regions.specs.Building.{AreOthers, IsBegun, IsUnknown, bits_at};
+ghost use Rattle.of_regions.specs.Building.{AreOthers, IsBegunField, IsUnknown, bits_at};
 ghost use Rattle.of_regions.specs.Joining.{IsAsked, IsRule, Joined};
 ghost use Rattle.of_regions.specs.Known.{rule_in as rule_is};
-ghost use Rattle.of_regions.specs.Regions.{HasTagging, In, InOne};
+ghost use Rattle.of_regions.specs.Regions.{HasTagging, InRegion, InOneRegion};
 
 use crate::joining::{Bits, joined};
 use crate::region::Region;
@@ -108,7 +108,7 @@ fn every_field() -> &'static [Field]
 // What is known of packets of a shape and a tagging that a match matches. None if there are none.
 fn begun(shape: Shape, tagging: Option<Tagging>, m: &Match) -> Option<Fields>
     requires tags { tagging ≡ None → (looked_at m.now VlanVid ≡ None) × (looked_at m.now VlanPcp ≡ None) }
-    ensures some { IfSome result (λ fields. (f : TheField) → IsBegun shape tagging m.now fields f) }
+    ensures some { IfSome result (λ fields. (f : TheField) → IsBegunField shape tagging m.now fields f) }
     ensures none { IfNone result ((map : TheField → Option ℕ) → matches_map m.now map ≡ true → HasShape shape map → HasTagging tagging map → ⊥) }
 {
     m.known();
@@ -132,8 +132,8 @@ impl Region {
     pub fn of_match(shape: Shape, tagging: Option<Tagging>, m: &Match) -> Option<Region>
         requires tags { tagging ≡ None → (looked_at m.now VlanVid ≡ None) × (looked_at m.now VlanPcp ≡ None) }
         ensures is { IfSome result (λ r. (r.shape ≡ shape) × (r.tagging ≡ tagging)) }
-        ensures matched { IfSome result (λ r. (map : TheField → Option ℕ) → In r map → matches_map m.now map ≡ true) }
-        ensures all { (map : TheField → Option ℕ) → matches_map m.now map ≡ true → HasShape shape map → HasTagging tagging map → InOne result map }
+        ensures matched { IfSome result (λ r. (map : TheField → Option ℕ) → InRegion r map → matches_map m.now map ≡ true) }
+        ensures all { (map : TheField → Option ℕ) → matches_map m.now map ≡ true → HasShape shape map → HasTagging tagging map → InOneRegion result map }
     {
         m.known();
         matched_is_seen();

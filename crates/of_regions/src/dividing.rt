@@ -12,7 +12,7 @@ ghost use Rattle.of_regions.specs.Conditions.{IsCondition};
 ghost use Rattle.of_regions.specs.Dividing.{AreWithout, IsBitOf};
 ghost use Rattle.of_regions.specs.Known.{is_known_by, rule_in};
 ghost use Rattle.of_regions.specs.Meeting.{IsCrossed};
-ghost use Rattle.of_regions.specs.Regions.{AreParts, In, IsEither};
+ghost use Rattle.of_regions.specs.Regions.{AreParts, InRegion, IsEither};
 
 use crate::meeting::{is_apart, looked_at};
 use crate::region::Region;
@@ -76,9 +76,9 @@ impl Region {
         requires crossed { IsCrossed self e.now }
         requires mask { mask_at self.masks e.now.field ≡ Some mask }
         requires known { value self.known e.now.field ≡ Some known }
-        ensures within { (map : TheField → Option ℕ) → In result.0 map ⊎ In result.1 map → In self map }
-        ensures all { (map : TheField → Option ℕ) → In self map → In result.0 map ⊎ In result.1 map }
-        ensures apart { (map : TheField → Option ℕ) → In result.0 map → In result.1 map → ⊥ }
+        ensures within { (map : TheField → Option ℕ) → InRegion result.0 map ⊎ InRegion result.1 map → InRegion self map }
+        ensures all { (map : TheField → Option ℕ) → InRegion self map → InRegion result.0 map ⊎ InRegion result.1 map }
+        ensures apart { (map : TheField → Option ℕ) → InRegion result.0 map → InRegion result.1 map → ⊥ }
     {
         let bit = one_of(e.field, without(looked_at(e), mask));
         (
@@ -90,9 +90,9 @@ impl Region {
     // Those without a tag (OpenFlow 1.3.5, 7.2.3.7: VLAN_VID is OFPVID_NONE).
     pub fn untagged(self) -> Region
         requires { self.tagging ≡ None }
-        ensures within { (map : TheField → Option ℕ) → In result map → In self map }
-        ensures all { (map : TheField → Option ℕ) → IsTagging Untagged map → In self map → In result map }
-        ensures vid { (map : TheField → Option ℕ) → In result map → seen (Some 0x1fff) (map VlanVid) ≡ Some 0 }
+        ensures within { (map : TheField → Option ℕ) → InRegion result map → InRegion self map }
+        ensures all { (map : TheField → Option ℕ) → IsTagging Untagged map → InRegion self map → InRegion result map }
+        ensures vid { (map : TheField → Option ℕ) → InRegion result map → seen (Some 0x1fff) (map VlanVid) ≡ Some 0 }
         ensures known { result.tagging ≡ Some Untagged }
     {
         Region {
@@ -112,9 +112,9 @@ impl Region {
     // Those with a tag (7.2.3.7: VLAN_VID has the bit OFPVID_PRESENT).
     pub fn tagged(self) -> Region
         requires { self.tagging ≡ None }
-        ensures within { (map : TheField → Option ℕ) → In result map → In self map }
-        ensures all { (map : TheField → Option ℕ) → IsTagging Tagged map → In self map → In result map }
-        ensures vid { (map : TheField → Option ℕ) → In result map → seen (Some 0x1000) (map VlanVid) ≡ Some 0x1000 }
+        ensures within { (map : TheField → Option ℕ) → InRegion result map → InRegion self map }
+        ensures all { (map : TheField → Option ℕ) → IsTagging Tagged map → InRegion self map → InRegion result map }
+        ensures vid { (map : TheField → Option ℕ) → InRegion result map → seen (Some 0x1000) (map VlanVid) ≡ Some 0x1000 }
         ensures known { result.tagging ≡ Some Tagged }
     {
         Region {

@@ -8,7 +8,7 @@ ghost use Rattle.of_oxm.specs.Masks.{mask_at};
 ghost use Rattle.of_oxm.specs.Relations.{agrees, matches_map};
 ghost use Rattle.of_regions.specs.Conditions.{AreConditions, IsCondition};
 ghost use Rattle.of_regions.specs.Narrowing.{AreNarrowed, IsNarrowedBy, is_tag_field};
-ghost use Rattle.of_regions.specs.Regions.{In, InOne};
+ghost use Rattle.of_regions.specs.Regions.{InRegion, InOneRegion};
 
 use crate::meeting::looked_at;
 use crate::region::Region;
@@ -23,8 +23,8 @@ impl Region {
         requires condition { IsCondition e.now }
         requires mask { mask_at self.masks e.now.field ≡ Some mask }
         requires known { value self.known e.now.field ≡ Some known }
-        ensures within { IfSome result (λ r. (map : TheField → Option ℕ) → In r map → In self map × (agrees e.now (map e.now.field) ≡ true)) }
-        ensures all { (map : TheField → Option ℕ) → In self map → agrees e.now (map e.now.field) ≡ true → InOne result map }
+        ensures within { IfSome result (λ r. (map : TheField → Option ℕ) → InRegion r map → InRegion self map × (agrees e.now (map e.now.field) ≡ true)) }
+        ensures all { (map : TheField → Option ℕ) → InRegion self map → agrees e.now (map e.now.field) ≡ true → InOneRegion result map }
         ensures same { IfSome result (λ r. (r.shape ≡ self.shape) × (r.tagging ≡ self.tagging)) }
     {
         let bits = looked_at(e);
@@ -38,8 +38,8 @@ impl Region {
     fn with_condition(self, e: &MatchField) -> Option<Region>
         requires condition { IsCondition e.now }
         requires known { mask_at self.masks e.now.field ≢ None }
-        ensures within { IfSome result (λ r. (map : TheField → Option ℕ) → In r map → In self map × (agrees e.now (map e.now.field) ≡ true)) }
-        ensures all { (map : TheField → Option ℕ) → In self map → agrees e.now (map e.now.field) ≡ true → InOne result map }
+        ensures within { IfSome result (λ r. (map : TheField → Option ℕ) → InRegion r map → InRegion self map × (agrees e.now (map e.now.field) ≡ true)) }
+        ensures all { (map : TheField → Option ℕ) → InRegion self map → agrees e.now (map e.now.field) ≡ true → InOneRegion result map }
         ensures same { IfSome result (λ r. (r.shape ≡ self.shape) × (r.tagging ≡ self.tagging)) }
     {
         match (self.masks.masks.get(e.field), self.known.get(e.field)) {
@@ -53,8 +53,8 @@ impl Region {
     fn with_conditions(self, fields: &[MatchField]) -> Option<Region>
         requires conditions { AreConditions fields.now }
         requires tags { self.tagging ≡ None → list_any is_tag_field fields.now ≡ false }
-        ensures within { IfSome result (λ r. (map : TheField → Option ℕ) → In r map → In self map × (matches_map fields.now map ≡ true)) }
-        ensures all { (map : TheField → Option ℕ) → In self map → matches_map fields.now map ≡ true → InOne result map }
+        ensures within { IfSome result (λ r. (map : TheField → Option ℕ) → InRegion r map → InRegion self map × (matches_map fields.now map ≡ true)) }
+        ensures all { (map : TheField → Option ℕ) → InRegion self map → matches_map fields.now map ≡ true → InOneRegion result map }
     {
         let mut region = self;
         for e in fields {

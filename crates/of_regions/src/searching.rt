@@ -5,8 +5,8 @@ ghost use Rattle.of_regions.specs.declared.region.Region.{Region as TheRegion};
 ghost use Rattle.of_regions.specs.declared.rival.Rival.{Rival as TheRival};
 ghost use Rattle.of_regions.specs.declared.searching.Found.TheVariants.{Undecided};
 ghost use Rattle.of_regions.specs.Conditions.{AreConditions};
-ghost use Rattle.of_regions.specs.Naming.{named};
-ghost use Rattle.of_regions.specs.Searching.{AreApartBefore, Finds, IsFound, IsFreePacket, IsState, IsStep, regions_in};
+ghost use Rattle.of_regions.specs.Naming.{with_place};
+ghost use Rattle.of_regions.specs.Searching.{AreApartBefore, Finds, IsFoundBySearch, IsFreePacket, IsState, IsStep, regions_in};
 
 use crate::looking::{Look, Rest, look_at};
 use crate::region::Region;
@@ -46,7 +46,7 @@ fn first_from(names: &[usize], name: usize) -> Option<usize>
 
 // Adds a name, in ascending order, once.
 fn add_name(names: &mut Vec<usize>, name: usize) -> Result<(), AllocError>
-    ensures { OnOk result (names.new.items ≡ named name names.old.items) }
+    ensures { OnOk result (names.new.items ≡ with_place name names.old.items) }
 {
     match first_from(names, name) {
         None => names.push(name)?,
@@ -142,7 +142,7 @@ impl State {
     fn ended(self) -> Found
         ensures left { ¬ (self.rests.items ≡ []) → result ≡ Undecided }
         ensures found { (start : List TheRegion) (rivals : List TheRival) (steps : ℕ) → IsState start rivals self.rests.items self.names.items self.unreceived →
-            self.rests.items ≡ [] → IsFound start rivals steps result }
+            self.rests.items ≡ [] → IsFoundBySearch start rivals steps result }
     {
         let State {
             rests,
@@ -169,7 +169,7 @@ pub fn search_among(
     steps: usize,
 ) -> Result<Found, AllocError>
     requires { (q : TheRival) → Contains rivals.now q → AreConditions q.fields.now }
-    ensures { IfOk result (IsFound regions.now rivals.now steps) }
+    ensures { IfOk result (IsFoundBySearch regions.now rivals.now steps) }
 {
     let mut search = State::begin(alloc, regions)?;
     for turn in 0..steps {

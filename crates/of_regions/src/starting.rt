@@ -5,7 +5,7 @@ ghost use Rattle.of_layers.specs.declared.field.Field.TheVariants.{VlanPcp, Vlan
 ghost use Rattle.of_oxm.specs.Masks.{looked_at, mask_at};
 ghost use Rattle.of_shapes.specs.declared.shape.Shape.{Shape as TheShape};
 ghost use Rattle.of_regions.specs.Searching.{IsStart};
-ghost use Rattle.of_regions.specs.Starting.{IsBegun, listed};
+ghost use Rattle.of_regions.specs.Starting.{IsBegun, region_list};
 
 use crate::region::Region;
 use of_headers::Field;
@@ -69,7 +69,7 @@ fn asks_tag(own: &Match) -> bool
 
 // Appends a region, if there is one.
 pub fn push_some(regions: &mut Vec<Region>, region: Option<Region>) -> Result<(), AllocError>
-    ensures { OnOk result (regions.new.items ≡ regions.old.items ++ listed region) }
+    ensures { OnOk result (regions.new.items ≡ regions.old.items ++ region_list region) }
 {
     match region {
         None => Ok(()),

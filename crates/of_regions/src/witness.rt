@@ -1,8 +1,8 @@
 //! Packets of a region.
 ghost use Rattle.std.specs.Prelude.{◌≡◌, ℕ, IfNone, IfOk, IfSome, bit_and};
 ghost use Rattle.of_layers.specs.declared.field.Field.TheVariants.{InPort, Metadata};
-ghost use Rattle.of_regions.specs.Regions.{In};
-ghost use Rattle.of_regions.specs.Witness.{HasNoIngress, IsFrameIn, IsIngress, IsReceived, MayBe, fields_in};
+ghost use Rattle.of_regions.specs.Regions.{InRegion};
+ghost use Rattle.of_regions.specs.Witness.{HasNoIngress, IsFrameIn, IsIngressPort, IsReceived, MayBe, fields_in};
 
 use crate::dividing::{lowest, without};
 use crate::region::Region;
@@ -22,7 +22,7 @@ pub struct Packet {
 
 // A port whose number has none of the bits of a mask.
 fn port_outside(mask: u128) -> Option<u32>
-    ensures some { IfSome result (λ port. IsIngress port × (bit_and port mask ≡ 0)) }
+    ensures some { IfSome result (λ port. IsIngressPort port × (bit_and port mask ≡ 0)) }
     ensures none { IfNone result (bit_and 0xffffffff mask ≡ 0xffffffff) }
 {
     let bits = without(0xffff_ffff, mask);
@@ -35,8 +35,8 @@ fn port_outside(mask: u128) -> Option<u32>
 // A port that a switch may have, of whose number these bits are known under a mask.
 fn port_under(mask: u128, known: u128) -> Option<u32>
     requires { bit_and known mask ≡ known }
-    ensures some { IfSome result (λ port. IsIngress port × (bit_and port mask ≡ known)) }
-    ensures none { IfNone result ((port : ℕ) → bit_and port mask ≡ known → ¬ (IsIngress port)) }
+    ensures some { IfSome result (λ port. IsIngressPort port × (bit_and port mask ≡ known)) }
+    ensures none { IfNone result ((port : ℕ) → bit_and port mask ≡ known → ¬ (IsIngressPort port)) }
 {
     if known == 0 {
         return port_outside(mask);
@@ -53,7 +53,7 @@ fn port_under(mask: u128, known: u128) -> Option<u32>
 impl Region {
     // A port by which packets of the region come in. None if a switch has no such port.
     fn ingress(&self) -> Option<u32>
-        ensures some { IfSome result (λ port. IsIngress port × MayBe self.now InPort port) }
+        ensures some { IfSome result (λ port. IsIngressPort port × MayBe self.now InPort port) }
         ensures none { IfNone result (HasNoIngress self.now) }
     {
         match (
@@ -86,7 +86,7 @@ impl Region {
     /// A packet of the region that a switch may receive (OpenFlow 1.3.5, 7.2.1 and 7.3.7). None if no packet of the region comes in by a port
     /// that a switch may have.
     pub fn packet(&self, alloc: Global) -> Result<Option<Packet>, AllocError>
-        ensures some { IfOk result (λ found. IfSome found (λ p. IsReceived p × In self.now (fields_in p))) }
+        ensures some { IfOk result (λ found. IfSome found (λ p. IsReceived p × InRegion self.now (fields_in p))) }
         ensures none { IfOk result (λ found. IfNone found (HasNoIngress self.now)) }
     {
         let Some(in_port) = self.ingress() else {

@@ -12,7 +12,7 @@ use Rattle.of_text.specs.Kept.{IsEntry, instruction_of}
 use Rattle.of_text.specs.Configs.{Configuration, IsConfig}
 use Rattle.of_text.proofs.EntryLemmas.{config_entries}
 use Rattle.of_text.proofs.FillLemmas.{sixteen}
-use Rattle.of_remarks.specs.Tables.{IsReached, flows_at, goes_to, is_led_to, is_reached, is_way, leads, reached_below}
+use Rattle.of_remarks.specs.Tables.{IsReached, flows_at, goes_to, is_led_to, is_reached, is_way, leads_to_table, reached_below}
 
 or_left : (a b : Bool) → a ≡ true → (a || b) ≡ true
 or_left true b e = refl
@@ -28,23 +28,23 @@ is_in ns t = list_any (λ n. eqb n t) ns
 module _ (tables : List (List Flow)) where
   -- ---- what is counted is led to
 
-  way_more : (from next to : ℕ) (way : List ℕ) → is_way tables from way next ≡ true → leads tables next to ≡ true → is_way tables from (way ++ to ∷ []) to ≡ true
+  way_more : (from next to : ℕ) (way : List ℕ) → is_way tables from way next ≡ true → leads_to_table tables next to ≡ true → is_way tables from (way ++ to ∷ []) to ≡ true
   way_more from next to [] w l =
       let same : from ≡ next = eqb-true from next w in
-      and_from (leads tables from to) (eqb to to) (subst (λ (x : ℕ). leads tables x to ≡ true) (sym same) l) (eq-eqb to to refl)
+      and_from (leads_to_table tables from to) (eqb to to) (subst (λ (x : ℕ). leads_to_table tables x to ≡ true) (sym same) l) (eq-eqb to to refl)
   way_more from next to (x ∷ way) w l =
-      let both = and_parts (leads tables from x) (is_way tables x way next) w in
-      and_from (leads tables from x) (is_way tables x (way ++ to ∷ []) to) both.0 (way_more x next to way both.1 l)
+      let both = and_parts (leads_to_table tables from x) (is_way tables x way next) w in
+      and_from (leads_to_table tables from x) (is_way tables x (way ++ to ∷ []) to) both.0 (way_more x next to way both.1 l)
 
-  led_on : (k : ℕ) (froms : List ℕ) → ((t : ℕ) → is_in froms t ≡ true → IsReached tables t) → list_any (λ from. leads tables from k) froms ≡ true → IsReached tables k
+  led_on : (k : ℕ) (froms : List ℕ) → ((t : ℕ) → is_in froms t ≡ true → IsReached tables t) → list_any (λ from. leads_to_table tables from k) froms ≡ true → IsReached tables k
   led_on k [] all h = absurd cc
-  led_on k (x ∷ froms) all h = elim (or_cases (leads tables x k) (list_any (λ from. leads tables from k) froms) h) as (λ w. IsReached tables k) [
+  led_on k (x ∷ froms) all h = elim (or_cases (leads_to_table tables x k) (list_any (λ from. leads_to_table tables from k) froms) h) as (λ w. IsReached tables k) [
     | inl here ↦ (let first = all x (or_left (eqb x x) (is_in froms x) (eq-eqb x x refl)) in (first.0 ++ k ∷ [], way_more 0 x k first.0 first.1 here))
     | inr later ↦ led_on k froms (λ t i. all t (or_right (eqb x t) (is_in froms t) i)) later
   ]
 
   led_to : (k : ℕ) (froms : List ℕ) → ((t : ℕ) → is_in froms t ≡ true → IsReached tables t) → is_led_to tables froms k ≡ true → IsReached tables k
-  led_to k froms all h = elim (or_cases (eqb k 0) (list_any (λ from. leads tables from k) froms) h) as (λ w. IsReached tables k) [
+  led_to k froms all h = elim (or_cases (eqb k 0) (list_any (λ from. leads_to_table tables from k) froms) h) as (λ w. IsReached tables k) [
     | inl start ↦ ([], eq-eqb 0 k (sym (eqb-true k 0 start)))
     | inr led ↦ led_on k froms all led
   ]
@@ -84,11 +84,11 @@ module _ (tables : List (List Flow)) where
       let same : (m - k) + k ≡ m = omega arith in
       subst (λ (x : ℕ). is_in (reached_below tables x) t ≡ true) same (stays k t (m - k) i)
 
-  led_by : (from to : ℕ) (froms : List ℕ) → is_in froms from ≡ true → leads tables from to ≡ true → list_any (λ x. leads tables x to) froms ≡ true
+  led_by : (from to : ℕ) (froms : List ℕ) → is_in froms from ≡ true → leads_to_table tables from to ≡ true → list_any (λ x. leads_to_table tables x to) froms ≡ true
   led_by from to [] i l = absurd cc
-  led_by from to (x ∷ froms) i l = elim (or_cases (eqb x from) (is_in froms from) i) as (λ w. list_any (λ y. leads tables y to) (x ∷ froms) ≡ true) [
-    | inl same ↦ or_left (leads tables x to) (list_any (λ y. leads tables y to) froms) (subst (λ (y : ℕ). leads tables y to ≡ true) (sym (eqb-true x from same)) l)
-    | inr later ↦ or_right (leads tables x to) (list_any (λ y. leads tables y to) froms) (led_by from to froms later l)
+  led_by from to (x ∷ froms) i l = elim (or_cases (eqb x from) (is_in froms from) i) as (λ w. list_any (λ y. leads_to_table tables y to) (x ∷ froms) ≡ true) [
+    | inl same ↦ or_left (leads_to_table tables x to) (list_any (λ y. leads_to_table tables y to) froms) (subst (λ (y : ℕ). leads_to_table tables y to ≡ true) (sym (eqb-true x from same)) l)
+    | inr later ↦ or_right (leads_to_table tables x to) (list_any (λ y. leads_to_table tables y to) froms) (led_by from to froms later l)
   ]
 
   is_last : (k : ℕ) (old : List ℕ) (b : Bool) → b ≡ true → is_in (cond b (old ++ k ∷ []) old) k ≡ true
@@ -99,17 +99,17 @@ module _ (tables : List (List Flow)) where
   unfolding reached_below
   counted_itself k h = is_last k (reached_below tables k) (is_led_to tables (reached_below tables k) k) h
 
-  module _ (rising : (from to : ℕ) → leads tables from to ≡ true → from < to) where
+  module _ (rising : (from to : ℕ) → leads_to_table tables from to ≡ true → from < to) where
     along : (way : List ℕ) (from to : ℕ) → is_in (reached_below tables (suc from)) from ≡ true → is_way tables from way to ≡ true → is_in (reached_below tables (suc to)) to ≡ true
     along [] from to i w = subst (λ (x : ℕ). is_in (reached_below tables (suc x)) x ≡ true) (eqb-true from to w) i
     along (x ∷ way) from to i w =
-        let both = and_parts (leads tables from x) (is_way tables x way to) w in
+        let both = and_parts (leads_to_table tables from x) (is_way tables x way to) w in
         let lt : from < x = rising from x both.0 in
         let there = stays_to (suc from) x from (omega arith) i in
-        along way x to (counted_itself x (or_right (eqb x 0) (list_any (λ y. leads tables y x) (reached_below tables x)) (led_by from x (reached_below tables x) there both.0))) both.1
+        along way x to (counted_itself x (or_right (eqb x 0) (list_any (λ y. leads_to_table tables y x) (reached_below tables x)) (led_by from x (reached_below tables x) there both.0))) both.1
 
     reached_are_counted : (t : ℕ) → t < 16 → IsReached tables t → is_in (reached_below tables 16) t ≡ true
-    reached_are_counted t lt r = stays_to (suc t) 16 t (omega arith) (along r.0 0 t (counted_itself 0 (or_left (eqb 0 0) (list_any (λ y. leads tables y 0) (reached_below tables 0)) refl)) r.1)
+    reached_are_counted t lt r = stays_to (suc t) 16 t (omega arith) (along r.0 0 t (counted_itself 0 (or_left (eqb 0 0) (list_any (λ y. leads_to_table tables y 0) (reached_below tables 0)) refl)) r.1)
 
 -- ---- GOTO_TABLE of a configuration
 
@@ -136,7 +136,7 @@ flows_rise from to (f ∷ flows) all some = elim (or_cases (list_any (goes_to to
   | inr later ↦ flows_rise from to flows all.1 later
 ]
 
-config_rises : (c : Configuration) → IsConfig c → (from to : ℕ) → leads c.tables from to ≡ true → from < to
+config_rises : (c : Configuration) → IsConfig c → (from to : ℕ) → leads_to_table c.tables from to ≡ true → from < to
 config_rises c k from to l = elim (cases_lt from 16) as (λ w. from < to) [
   | inl lt ↦ flows_rise from to (flows_at c.tables from) (config_entries c k from lt) l
   | inr le ↦ (

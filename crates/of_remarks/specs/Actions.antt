@@ -11,17 +11,17 @@ use Rattle.of_text.specs.Flows.{Step, Apply, Clear, Write, Metadata, Goto, Flow}
 
 -- ---- OUTPUT to the ingress port: nothing leaves there, since only IN_PORT sends a packet back (4.5 and 7.2.1)
 
-abbrev pub is_ingress : Field → Bool
-is_ingress InPort = true
-is_ingress other = false
+abbrev pub is_in_port : Field → Bool
+is_in_port InPort = true
+is_in_port other = false
 
 -- the port of the switch that a field of a match requires as ingress port
 abbrev pub required_port : MatchField → Option ℕ
-required_port e = if is_ingress e.field && (is_none e.mask && is_number e.value) then Some e.value else None
+required_port e = if is_in_port e.field && (is_none e.mask && is_number e.value) then Some e.value else None
 
-abbrev pub is_output_to : ℕ → Action → Bool
-is_output_to port (Output to max_len) = to == port
-is_output_to port other = false
+abbrev pub is_output_to_port : ℕ → Action → Bool
+is_output_to_port port (Output to max_len) = to == port
+is_output_to_port port other = false
 
 -- an action of APPLY_ACTIONS or of WRITE_ACTIONS passes the test
 abbrev pub some_action : (Action → Bool) → Step → Bool
@@ -31,24 +31,24 @@ some_action test other = false
 
 -- some action sends to the port
 abbrev pub some_output_to : ℕ → List Step → Bool
-some_output_to port steps = list_any (some_action (is_output_to port)) steps
+some_output_to port steps = list_any (some_action (is_output_to_port port)) steps
 
 -- ---- actions that nobody sees
 
 -- it sends the packet as it is then: OUTPUT and GROUP, and DEC_NW_TTL, which sends a packet of an invalid TTL to the controllers
-abbrev pub may_send : Action → Bool
-may_send (Output port max_len) = true
-may_send (Group group) = true
-may_send DecNwTtl = true
-may_send other = false
+abbrev pub may_send_packet : Action → Bool
+may_send_packet (Output port max_len) = true
+may_send_packet (Group group) = true
+may_send_packet DecNwTtl = true
+may_send_packet other = false
 
 -- how many actions follow the last that may send
 abbrev pub silent : List Action → ℕ
-silent actions = suffix_len (λ a. not (may_send a)) actions
+silent actions = suffix_len (λ a. not (may_send_packet a)) actions
 
 -- it puts an action into the action set that may send
 abbrev pub writes_sending : Step → Bool
-writes_sending (Write actions) = list_any may_send actions
+writes_sending (Write actions) = list_any may_send_packet actions
 writes_sending other = false
 
 abbrev pub some_writes_sending : List Flow → Bool

@@ -7,7 +7,7 @@ use Rattle.of_text.specs.Groups.{TextGroup}
 use Rattle.of_text.specs.Configs.{Configuration}
 use Rattle.of_remarks.specs.declared.remark.Remark.{Remark}
 use Rattle.of_remarks.specs.declared.remark.Remark.TheVariants.{Unreachable, NoTableMiss, EmptyGoto, IngressOutput, UnseenActions, UnusedGroup, NoBuckets}
-use Rattle.of_remarks.specs.Tables.{flows_at, is_reached, is_miss, is_empty}
+use Rattle.of_remarks.specs.Tables.{flows_at, is_reached, is_table_miss_flow, is_empty}
 use Rattle.of_remarks.specs.Actions.{required_port, some_output_to, silent, is_used_later}
 use Rattle.of_remarks.specs.Groups.{is_named}
 
@@ -57,7 +57,7 @@ abbrev pub is_unreachable : List (List Flow) → ℕ → Bool
 is_unreachable tables table = has_entries tables table && not (is_reached tables table)
 
 abbrev pub has_no_miss : List (List Flow) → ℕ → Bool
-has_no_miss tables table = has_entries tables table && not (list_any is_miss (flows_at tables table))
+has_no_miss tables table = has_entries tables table && not (list_any is_table_miss_flow (flows_at tables table))
 
 unfoldable pub table_remarks : List (List Flow) → ℕ → List Remark
 table_remarks tables table =

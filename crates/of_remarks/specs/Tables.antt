@@ -13,13 +13,13 @@ goes_to to (Goto table) = table == to
 goes_to to other = false
 
 -- some entry of one table goes on at the other
-abbrev pub leads : List (List Flow) → ℕ → ℕ → Bool
-leads tables from to = list_any (λ f. list_any (goes_to to) f.steps) (flows_at tables from)
+abbrev pub leads_to_table : List (List Flow) → ℕ → ℕ → Bool
+leads_to_table tables from to = list_any (λ f. list_any (goes_to to) f.steps) (flows_at tables from)
 
 -- each of these tables leads to the next, and the last is the one asked for
 abbrev pub is_way : List (List Flow) → ℕ → List ℕ → ℕ → Bool
 is_way tables from [] to = from == to
-is_way tables from (next ∷ others) to = leads tables from next && is_way tables next others to
+is_way tables from (next ∷ others) to = leads_to_table tables from next && is_way tables next others to
 
 -- A TABLE THAT PACKETS COME TO: some way leads there from table 0
 abbrev pub IsReached : List (List Flow) → ℕ → Type 0
@@ -28,7 +28,7 @@ IsReached tables table = (way : List ℕ) × (is_way tables 0 way table ≡ true
 -- ---- the same, as it is computed: GOTO_TABLE leads to later tables alone (5.9)
 
 abbrev pub is_led_to : List (List Flow) → List ℕ → ℕ → Bool
-is_led_to tables froms to = (to == 0) || list_any (λ from. leads tables from to) froms
+is_led_to tables froms to = (to == 0) || list_any (λ from. leads_to_table tables from to) froms
 
 -- those of the first k tables
 unfoldable pub reached_below : List (List Flow) → ℕ → List ℕ
@@ -41,8 +41,8 @@ is_reached tables table = list_any (λ n. n == table) (reached_below tables 16)
 -- ---- entries
 
 -- THE TABLE-MISS FLOW ENTRY has priority 0 and matches each packet (5.4)
-abbrev pub is_miss : Flow → Bool
-is_miss f = (f.head.priority == 0) && (length f.fields == 0)
+abbrev pub is_table_miss_flow : Flow → Bool
+is_table_miss_flow f = (f.head.priority == 0) && (length f.fields == 0)
 
 abbrev pub is_empty : {A : Type 0} → List A → Bool
 is_empty [] = true

@@ -2,7 +2,7 @@
 ghost use Rattle.std.specs.Prelude.{◌≡◌, take};
 ghost use Rattle.std.specs.List.{list_any};
 ghost use Rattle.of_text.specs.Views.{view, view_flows, view_step};
-ghost use Rattle.of_remarks.specs.Actions.{is_clear as is_clearing, is_goto as is_going_on, is_ingress as is_ingress_field, is_output_to as is_sending_to, is_used_later as is_looked_at_later, may_send as may_be_sent, required_port as ingress_required, silent as silent_count, some_action, some_output_to as is_some_output, some_writes_sending, writes_sending as is_writing};
+ghost use Rattle.of_remarks.specs.Actions.{is_clear as is_clearing, is_goto as is_going_on, is_in_port as is_ingress_field, is_output_to_port as is_sending_to, is_used_later as is_looked_at_later, may_send_packet as may_be_sent, required_port as ingress_required, silent as silent_count, some_action, some_output_to as is_some_output, some_writes_sending, writes_sending as is_writing};
 
 use crate::tables::flows_of;
 use of_actions::{Action, is_number};

@@ -2,7 +2,7 @@
 ghost use Rattle.std.specs.Prelude.{◌≡◌, ◌==◌, IfOk};
 ghost use Rattle.std.specs.List.{list_any};
 ghost use Rattle.of_text.specs.Views.{view, view_flows, view_step};
-ghost use Rattle.of_remarks.specs.Tables.{flows_at, goes_to as is_going_to, leads as is_leading, is_led_to as are_leading, is_miss as is_table_miss, is_reached as is_reached_in, reached_below};
+ghost use Rattle.of_remarks.specs.Tables.{flows_at, goes_to as is_going_to, leads_to_table as is_leading, is_led_to as are_leading, is_table_miss_flow as is_table_miss, is_reached as is_reached_in, reached_below};
 
 use of_text::{Config, FlowText, StepText};
 use of_wire::limits::TABLES;

@@ -6,17 +6,17 @@ use Rattle.of_switch.specs.Runs.{run}
 use Rattle.of_replay.specs.declared.halt.Halt.{Halt}
 use Rattle.of_replay.specs.declared.halt.Halt.TheVariants.{Bad, Memory, Read, Write}
 use Rattle.of_replay.specs.Told.{Known, given}
-use Rattle.of_replay.specs.Rows.{rows_of}
+use Rattle.of_replay.specs.Rows.{rows_of_lines}
 use Rattle.of_replay.specs.Play.{lines_read, PrintsLines}
 use Rattle.of_replay.specs.RowTexts.{RowText, told}
 use Rattle.of_replay.specs.Stepping.{PlayedAll, ReadsFail, WritesFail, ended_so}
 use Rattle.of_replay.specs.WholeFiles.{Faults}
-use Rattle.of_replay.specs.FileRuns.{Outcome, IsValue, IsBad, HasFault, Reads, event_file}
+use Rattle.of_replay.specs.FileRuns.{FileOutcome, IsValue, IsBad, HasFault, ReadsWhole, event_file}
 use Rattle.of_replay.proofs.WholeRuns.{is_ended}
 use Rattle.of_replay.proofs.FileLemmas.{by_read}
 
-pub played_all : (begun : State) (answers answers' : Known) (ends ends' : ℕ) (s : State) → begun ≡ start 1 → PlayedAll begun answers answers' s → ends' ≡ ends + 1 → Reads event_file (Ok s) answers answers' ends ends'
-played_all begun answers answers' ends ends' s new p e = record { more = p.more; answers_are = p.answers_are; whole = λ _. p.whole; is_read = rw (is_ended ends ends' e) (refl, p.good, p.state ∙ ap (λ (x : State). (run (rows_of (lines_read true (given p.more))).events x).state) new) }
+pub played_all : (begun : State) (answers answers' : Known) (ends ends' : ℕ) (s : State) → begun ≡ start 1 → PlayedAll begun answers answers' s → ends' ≡ ends + 1 → ReadsWhole event_file (Ok s) answers answers' ends ends'
+played_all begun answers answers' ends ends' s new p e = record { more = p.more; answers_are = p.answers_are; whole = λ _. p.whole; is_read = rw (is_ended ends ends' e) (refl, p.good, p.state ∙ ap (λ (x : State). (run (rows_of_lines (lines_read true (given p.more))).events x).state) new) }
 
 -- nothing fails to be written where nothing is
 written : (h : Halt) → WritesFail (Err h) 0 → h ≡ Write → ⊥
@@ -26,12 +26,12 @@ written Read w e = cc
 written Write w e = omega (arith, w)
 
 -- where a fault comes before the end, the rows so far are no switch
-not_yet : (ended : Bool) (file : List ℕ) → ended ≡ false → (rows_of (lines_read ended file)).bad ≡ None → (outcome : Outcome State) → event_file ended file outcome → ⊥
+not_yet : (ended : Bool) (file : List ℕ) → ended ≡ false → (rows_of_lines (lines_read ended file)).bad ≡ None → (outcome : FileOutcome State) → event_file ended file outcome → ⊥
 not_yet ended file early none (IsValue s) is = let e : true ≡ false = sym is.0 ∙ early in cc
 not_yet ended file early none (IsBad n) is = let e : Some n ≡ None = sym is ∙ none in cc
 not_yet ended file early none (HasFault f) is = is
 
-pub played_not : (begun : State) (tale : RowText) (h : Halt) (answers answers' : Known) (ends ends' : ℕ) (taken taken' : Option (List ℕ)) → PrintsLines (told begun tale) (ended_so (Err h)) answers answers' ends ends' taken taken' → WritesFail (Err h) 0 → Reads event_file (Err (ended_so (Err h))) answers answers' ends ends'
+pub played_not : (begun : State) (tale : RowText) (h : Halt) (answers answers' : Known) (ends ends' : ℕ) (taken taken' : Option (List ℕ)) → PrintsLines (told begun tale) (ended_so (Err h)) answers answers' ends ends' taken taken' → WritesFail (Err h) 0 → ReadsWhole event_file (Err (ended_so (Err h))) answers answers' ends ends'
 played_not begun tale (Bad n) answers answers' ends ends' taken taken' r w = record { more = r.more; answers_are = r.answers_are; whole = r.whole; is_read = r.ends_so.0 }
 played_not begun tale Memory answers answers' ends ends' taken taken' r w = record { more = r.more; answers_are = r.answers_are; whole = r.whole; is_read = tt }
 played_not begun tale Read answers answers' ends ends' taken taken' r w = record { more = r.more; answers_are = r.answers_are; whole = r.whole; is_read = (r.ends_so.0, not_yet (nat_lt ends ends') (given r.more) r.ends_so.0 r.ends_so.1) }

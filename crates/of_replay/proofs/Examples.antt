@@ -7,8 +7,8 @@ use lib.Utf8.{encode}
 use Rattle.hex.specs.Hex.{decode_pairs, encode_with}
 use Rattle.of_switch.specs.State.{start}
 use Rattle.of_switch.proofs.OnLiterals.{switch_on_literals}
-use Rattle.of_replay.specs.Lexing.{lines_of}
-use Rattle.of_replay.specs.Rows.{rows_of}
+use Rattle.of_replay.specs.Lexing.{lines_of_file}
+use Rattle.of_replay.specs.Rows.{rows_of_lines}
 use Rattle.of_replay.specs.Output.{printed_from}
 
 -- a text of these lines, each ended by LF
@@ -17,7 +17,7 @@ text_of lines = flat_map (λ line. line ++ 10 ∷ []) lines
 
 -- a file of these lines is played, no line is bad, and lines are printed
 abbrev pub Prints : List (List ℕ) → List (List ℕ) → Type 0
-Prints events lines = ((rows_of (lines_of (text_of events))).bad ≡ None) × (printed_from (start 1) (rows_of (lines_of (text_of events))).events ≡ text_of lines)
+Prints events lines = ((rows_of_lines (lines_of_file (text_of events))).bad ≡ None) × (printed_from (start 1) (rows_of_lines (lines_of_file (text_of events))).events ≡ text_of lines)
 
 abbrev pub hello : List (List ℕ)
 hello = codes "connect" ∷ codes "c 0400000800000001" ∷ []

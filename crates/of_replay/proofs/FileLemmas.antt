@@ -5,14 +5,14 @@ use Rattle.of_replay.specs.declared.halt.Halt.{Halt}
 use Rattle.of_replay.specs.declared.halt.Halt.TheVariants.{Bad, Memory, Read, Write}
 use Rattle.of_replay.specs.declared.event_file.Ended.{Ended}
 use Rattle.of_replay.specs.declared.event_file.Ended.TheVariants.{Done, BadRow, Text, NoMemory, ReadFault, WriteFault}
-use Rattle.of_replay.specs.Told.{Answer, Gave, Known, Answers, NoneLeft, bytes_of, given}
+use Rattle.of_replay.specs.Told.{Answer, Gave, Known, Answers, NoneLeft, answer_bytes, given}
 use Rattle.of_replay.specs.Transfer.{AllAnswers}
 use Rattle.of_replay.specs.Stepping.{ReadsFail, ended_so}
 use Rattle.of_text.specs.Lines.{lines_of, before, behind}
 use Rattle.of_text.proofs.TextLemmas.{first_line}
 use Rattle.of_replay.specs.Lexing.{is_line}
 use Rattle.of_replay.specs.WholeFiles.{unreadable, ReadsFile, Faults}
-use Rattle.of_replay.specs.FileRuns.{Meaning, Outcome, IsRead, Reads, Runs, Writes, ended_as}
+use Rattle.of_replay.specs.FileRuns.{Meaning, FileOutcome, IsRead, ReadsWhole, Runs, Writes, ended_as}
 use Rattle.of_replay.proofs.TellingLemmas.{answers-none, told_more, given-more}
 use Rattle.of_replay.proofs.WholeRuns.{given_same, not_ended, is_ended, not_whole}
 
@@ -27,7 +27,7 @@ pub record FileSoFar (answers answers' : Known) (file : List ℕ) : Type 0 where
 pub file_begun : (answers : Known) (file : List ℕ) → file ≡ [] → FileSoFar answers answers file
 file_begun answers file e = record { more = []; answers_are = answers-none answers; is = e }
 
-pub file_idle : (answers now next : Known) (one : Answer) (file : List ℕ) → FileSoFar answers now file → Answers now next one → bytes_of one ≡ [] → FileSoFar answers next file
+pub file_idle : (answers now next : Known) (one : Answer) (file : List ℕ) → FileSoFar answers now file → Answers now next one → answer_bytes one ≡ [] → FileSoFar answers next file
 file_idle answers now next one file r e none = record {
   more = r.more ++ one ∷ [];
   answers_are = told_more answers now next r.more one r.answers_are e;
@@ -65,25 +65,25 @@ all_good n = refl
 -- ---- what is read of a file, and written
 
 -- nothing was read
-pub read_nothing : {A : Type 0} (is : Meaning A) (answers : Known) (ends : ℕ) → Reads is (Err NoMemory) answers answers ends ends
+pub read_nothing : {A : Type 0} (is : Meaning A) (answers : Known) (ends : ℕ) → ReadsWhole is (Err NoMemory) answers answers ends ends
 read_nothing is answers ends = record { more = []; answers_are = answers-none answers; whole = not_whole ends ends answers refl; is_read = tt }
 
 -- a file that is read whole was not
-pub read_stopped : {A : Type 0} (is : Meaning A) → ((file : List ℕ) (outcome : Outcome A) → is false file outcome → ⊥) → (h : Halt) (answers answers' : Known) (ends ends' : ℕ) (file : List ℕ) → ReadsFile (Err h) answers answers' ends ends' file → Reads is (Err (ended_so (Err h))) answers answers' ends ends'
+pub read_stopped : {A : Type 0} (is : Meaning A) → ((file : List ℕ) (outcome : FileOutcome A) → is false file outcome → ⊥) → (h : Halt) (answers answers' : Known) (ends ends' : ℕ) (file : List ℕ) → ReadsFile (Err h) answers answers' ends ends' file → ReadsWhole is (Err (ended_so (Err h))) answers answers' ends ends'
 read_stopped is none (Bad n) answers answers' ends ends' file r = absurd r.is
 read_stopped is none Memory answers answers' ends ends' file r = record { more = r.more; answers_are = r.answers_are; whole = r.whole; is_read = tt }
 read_stopped is none Read answers answers' ends ends' file r = record { more = r.more; answers_are = r.answers_are; whole = r.whole; is_read = (r.is, λ outcome i. none (given r.more) outcome (rw r.is at i)) }
 read_stopped is none Write answers answers' ends ends' file r = absurd r.is
 
 -- a file was read whole
-pub read_whole : {A : Type 0} (is : Meaning A) (result : Result A Ended) (answers answers' : Known) (ends ends' : ℕ) (file : List ℕ) → ReadsFile (Ok tt) answers answers' ends ends' file → IsRead is result true file → Reads is result answers answers' ends ends'
+pub read_whole : {A : Type 0} (is : Meaning A) (result : Result A Ended) (answers answers' : Known) (ends ends' : ℕ) (file : List ℕ) → ReadsFile (Ok tt) answers answers' ends ends' file → IsRead is result true file → ReadsWhole is result answers answers' ends ends'
 read_whole is result answers answers' ends ends' file r b = record { more = r.more; answers_are = r.answers_are; whole = r.whole; is_read = rw r.is.0 (rw r.is.1 at b) }
 
 -- what was not read is not written
-pub runs_unread : {A : Type 0} (is : Meaning A) (IsText : A → List ℕ → Type 0) (e : Ended) (answers answers' : Known) (ends ends' : ℕ) (taken : Option (List ℕ)) → Reads is (Err e) answers answers' ends ends' → Runs is IsText e answers answers' ends ends' taken taken
+pub runs_unread : {A : Type 0} (is : Meaning A) (IsText : A → List ℕ → Type 0) (e : Ended) (answers answers' : Known) (ends ends' : ℕ) (taken : Option (List ℕ)) → ReadsWhole is (Err e) answers answers' ends ends' → Runs is IsText e answers answers' ends ends' taken taken
 runs_unread is IsText e answers answers' ends ends' taken r = record { read = Err e; reads = r; writes = (refl, refl) }
 
-pub runs_read : {A : Type 0} (is : Meaning A) (IsText : A → List ℕ → Type 0) (value : A) (e : Ended) (answers answers' : Known) (ends ends' : ℕ) (taken taken' : Option (List ℕ)) → Reads is (Ok value) answers answers' ends ends' → Writes (IsText value) e taken taken' → Runs is IsText e answers answers' ends ends' taken taken'
+pub runs_read : {A : Type 0} (is : Meaning A) (IsText : A → List ℕ → Type 0) (value : A) (e : Ended) (answers answers' : Known) (ends ends' : ℕ) (taken taken' : Option (List ℕ)) → ReadsWhole is (Ok value) answers answers' ends ends' → Writes (IsText value) e taken taken' → Runs is IsText e answers answers' ends ends' taken taken'
 runs_read is IsText value e answers answers' ends ends' taken taken' r w = record { read = Ok value; reads = r; writes = w }
 
 -- ---- faults

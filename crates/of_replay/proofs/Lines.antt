@@ -12,10 +12,10 @@ use Rattle.of_replay.specs.declared.halt.Halt.TheVariants.{Bad, Memory, Read, Wr
 use Rattle.std.specs.Io.KnownBytes.{Appends}
 use Rattle.of_replay.specs.Transfer.{WrotePrefix}
 use Rattle.of_replay.specs.Lexing.{whole_from, whole_lines, last_from}
-use Rattle.of_replay.specs.Rows.{Rows, row_of, row_and, rows_of, events_in}
+use Rattle.of_replay.specs.Rows.{Rows, row_of_line, row_and, rows_of_lines, events_in}
 use Rattle.of_replay.specs.Output.{report_text, printed_from}
 use Rattle.of_replay.specs.Play.{lines_read}
-use Rattle.of_replay.specs.RowTexts.{RowText, plain, row_happened, told, told_and, told_from}
+use Rattle.of_replay.specs.RowTexts.{RowText, plain_row_text, row_happened, told, told_and, told_from}
 use Rattle.of_replay.specs.Stepping.{LineTells, LineGoes, Prints, PrintsFirst, Going, Within, WithinChunk, Halts, ChunkGoes, WritesFail}
 use Rattle.of_replay.proofs.TellingLemmas.{appends-none, appends-then}
 use Rattle.of_replay.proofs.Cutting.{kept_more, Parts, parts, first_end, whole_join, last_join}
@@ -102,9 +102,9 @@ row_joined (Some row) a b ab k ih good =
     (sym (append_assoc (events_in row) a.events b.events)) (counted_on k b.bad)
 
 -- lines of which none is bad, and then others
-rows_join : (lines more : List (List ℕ)) → (rows_of lines).bad ≡ None → rows_of (lines ++ more) ≡ joined (rows_of lines) (length lines) (rows_of more)
-rows_join [] more good = same_rows (rows_of more).events (rows_of more).events (rows_of more).bad (option_map (λ m. 0 + m) (rows_of more).bad) refl (counted_same (rows_of more).bad)
-rows_join (line ∷ lines) more good = row_joined (row_of line) (rows_of lines) (rows_of more) (rows_of (lines ++ more)) (length lines) (rows_join lines more) good
+rows_join : (lines more : List (List ℕ)) → (rows_of_lines lines).bad ≡ None → rows_of_lines (lines ++ more) ≡ joined (rows_of_lines lines) (length lines) (rows_of_lines more)
+rows_join [] more good = same_rows (rows_of_lines more).events (rows_of_lines more).events (rows_of_lines more).bad (option_map (λ m. 0 + m) (rows_of_lines more).bad) refl (counted_same (rows_of_lines more).bad)
+rows_join (line ∷ lines) more good = row_joined (row_of_line line) (rows_of_lines lines) (rows_of_lines more) (rows_of_lines (lines ++ more)) (length lines) (rows_join lines more) good
 
 -- EVENTS, ONE AFTER THE OTHER
 
@@ -121,45 +121,45 @@ run_text (e ∷ es) fs s =
 -- WHAT IS PRINTED, line after line
 
 tale_joined : (tale : RowText) (r : Option (Option Event)) (line : List ℕ) (lines more : List (List ℕ)) (s : State)
-    → ((t : State) → (rows_of lines).bad ≡ None → told_from tale (lines ++ more) t ≡ told_from tale lines t ++ told_from tale more (run (rows_of lines).events t).state)
-    → (row_and r (rows_of lines)).bad ≡ None
-    → told_and tale s line r (told_from tale (lines ++ more)) ≡ told_and tale s line r (told_from tale lines) ++ told_from tale more (run (row_and r (rows_of lines)).events s).state
+    → ((t : State) → (rows_of_lines lines).bad ≡ None → told_from tale (lines ++ more) t ≡ told_from tale lines t ++ told_from tale more (run (rows_of_lines lines).events t).state)
+    → (row_and r (rows_of_lines lines)).bad ≡ None
+    → told_and tale s line r (told_from tale (lines ++ more)) ≡ told_and tale s line r (told_from tale lines) ++ told_from tale more (run (row_and r (rows_of_lines lines)).events s).state
 tale_joined tale None line lines more s ih good = cc
 tale_joined tale (Some row) line lines more s ih good =
     let t = (row_happened s row).state in
-    let es = (rows_of lines).events in
+    let es = (rows_of_lines lines).events in
     let same : (run es t).state ≡ (run (events_in row ++ es) s).state = ap (λ (x : State). (run es x).state) (row_state row s) ∙ sym (run_state (events_in row) es s) in
-    ap (λ (x : List ℕ). tale s line row ++ x) (ih t (was_good (rows_of lines).bad good))
+    ap (λ (x : List ℕ). tale s line row ++ x) (ih t (was_good (rows_of_lines lines).bad good))
     ∙ (sym (append_assoc (tale s line row) (told_from tale lines t) (told_from tale more (run es t).state))
     ∙ ap (λ (x : State). (tale s line row ++ told_from tale lines t) ++ told_from tale more x) same)
 
 -- of lines of which none is bad, and then of others
-pub tale_join : (tale : RowText) (lines more : List (List ℕ)) (s : State) → (rows_of lines).bad ≡ None → told_from tale (lines ++ more) s ≡ told_from tale lines s ++ told_from tale more (run (rows_of lines).events s).state
+pub tale_join : (tale : RowText) (lines more : List (List ℕ)) (s : State) → (rows_of_lines lines).bad ≡ None → told_from tale (lines ++ more) s ≡ told_from tale lines s ++ told_from tale more (run (rows_of_lines lines).events s).state
 tale_join tale [] more s good = refl
-tale_join tale (line ∷ lines) more s good = tale_joined tale (row_of line) line lines more s (λ t. tale_join tale lines more t) good
+tale_join tale (line ∷ lines) more s good = tale_joined tale (row_of_line line) line lines more s (λ t. tale_join tale lines more t) good
 
-tale_first : (tale : RowText) (line : List ℕ) (row : Option Event) (more : List (List ℕ)) (s : State) → row_of line ≡ Some row → told_from tale (line ∷ more) s ≡ tale s line row ++ told_from tale more (row_happened s row).state
+tale_first : (tale : RowText) (line : List ℕ) (row : Option Event) (more : List (List ℕ)) (s : State) → row_of_line line ≡ Some row → told_from tale (line ∷ more) s ≡ tale s line row ++ told_from tale more (row_happened s row).state
 tale_first tale line row more s is = ap (λ (r : Option (Option Event)). told_and tale s line r (told_from tale more)) is
 
-tale_bad : (tale : RowText) (line : List ℕ) (more : List (List ℕ)) (s : State) → row_of line ≡ None → told_from tale (line ∷ more) s ≡ []
+tale_bad : (tale : RowText) (line : List ℕ) (more : List (List ℕ)) (s : State) → row_of_line line ≡ None → told_from tale (line ∷ more) s ≡ []
 tale_bad tale line more s is = ap (λ (r : Option (Option Event)). told_and tale s line r (told_from tale more)) is
 
 -- what `replay` prints
 
-plain_and : (r : Option (Option Event)) (line : List ℕ) (lines : List (List ℕ)) (s : State) → ((t : State) → told_from plain lines t ≡ printed_from t (rows_of lines).events)
-    → told_and plain s line r (told_from plain lines) ≡ printed_from s (row_and r (rows_of lines)).events
+plain_and : (r : Option (Option Event)) (line : List ℕ) (lines : List (List ℕ)) (s : State) → ((t : State) → told_from plain_row_text lines t ≡ printed_from t (rows_of_lines lines).events)
+    → told_and plain_row_text s line r (told_from plain_row_text lines) ≡ printed_from s (row_and r (rows_of_lines lines)).events
 plain_and None line lines s ih = refl
 plain_and (Some row) line lines s ih =
     let t = (row_happened s row).state in
-    let es = (rows_of lines).events in
+    let es = (rows_of_lines lines).events in
     ap (λ (x : List ℕ). report_text (row_happened s row).report ++ x) (ih t)
     ∙ (ap (λ (x : List ℕ). x ++ printed_from t es) (row_text row s)
     ∙ (ap (λ (x : State). printed_from s (events_in row) ++ printed_from x es) (row_state row s)
     ∙ sym (run_text (events_in row) es s)))
 
-pub plain_is : (lines : List (List ℕ)) (s : State) → told_from plain lines s ≡ printed_from s (rows_of lines).events
+pub plain_is : (lines : List (List ℕ)) (s : State) → told_from plain_row_text lines s ≡ printed_from s (rows_of_lines lines).events
 plain_is [] s = refl
-plain_is (line ∷ lines) s = plain_and (row_of line) line lines s (λ t. plain_is lines t)
+plain_is (line ∷ lines) s = plain_and (row_of_line line) line lines s (λ t. plain_is lines t)
 
 -- A RUN
 
@@ -191,18 +191,18 @@ prints_front begun tale lines lines' out more first taken taken' p e text after 
 )
 
 -- one more good line
-good_rows : (lines : List (List ℕ)) (line : List ℕ) (row : Option Event) → (rows_of lines).bad ≡ None → row_of line ≡ Some row → rows_of (lines ++ line ∷ []) ≡ record { events = (rows_of lines).events ++ events_in row; bad = None }
+good_rows : (lines : List (List ℕ)) (line : List ℕ) (row : Option Event) → (rows_of_lines lines).bad ≡ None → row_of_line line ≡ Some row → rows_of_lines (lines ++ line ∷ []) ≡ record { events = (rows_of_lines lines).events ++ events_in row; bad = None }
 good_rows lines line row good is =
     rows_join lines (line ∷ []) good
-    ∙ (ap (λ (r : Option (Option Event)). joined (rows_of lines) (length lines) (row_and r (rows_of []))) is
-    ∙ ap (λ (es : List Event). record { events = (rows_of lines).events ++ es; bad = None }) (append-nil (events_in row)))
+    ∙ (ap (λ (r : Option (Option Event)). joined (rows_of_lines lines) (length lines) (row_and r (rows_of_lines []))) is
+    ∙ ap (λ (es : List Event). record { events = (rows_of_lines lines).events ++ es; bad = None }) (append-nil (events_in row)))
 
-going_by : (begun : State) (tale : RowText) (r : Option (Option Event)) (lines : List (List ℕ)) (line : List ℕ) (n n' : ℕ) (s held : State) (out out' : List ℕ) (first taken taken' : Option (List ℕ)) → row_of line ≡ r
+going_by : (begun : State) (tale : RowText) (r : Option (Option Event)) (lines : List (List ℕ)) (line : List ℕ) (n n' : ℕ) (s held : State) (out out' : List ℕ) (first taken taken' : Option (List ℕ)) → row_of_line line ≡ r
     → Going begun tale lines n s out first taken → LineGoes tale (Ok tt) n line r s held out out' taken taken' → n' ≡ n + 1 → Going begun tale (lines ++ line ∷ []) n' held out' first taken'
 going_by begun tale None lines line n n' s held out out' first taken taken' is going h e = absurd h
 going_by begun tale (Some row) lines line n n' s held out out' first taken taken' is going h e =
     let rows = good_rows lines line row going.good is in
-    let es = (rows_of lines).events in
+    let es = (rows_of_lines lines).events in
     let now = (run es begun).state in
     let text : h.0 ++ out' ≡ out ++ tale now line row = h.2 ∙ ap (λ (x : State). out ++ tale x line row) going.state in
     let all : told begun tale (lines ++ line ∷ []) ≡ told begun tale lines ++ tale now line row =
@@ -215,24 +215,24 @@ going_by begun tale (Some row) lines line n n' s held out out' first taken taken
     }
 
 -- some first lines were printed, where these were played before the last read
-prints_first : (begun : State) (tale : RowText) (earlier past lines others all : List (List ℕ)) (out : List ℕ) (first taken : Option (List ℕ)) → lines ≡ earlier ++ past → all ≡ lines ++ others → (rows_of lines).bad ≡ None → Prints begun tale lines out first taken
+prints_first : (begun : State) (tale : RowText) (earlier past lines others all : List (List ℕ)) (out : List ℕ) (first taken : Option (List ℕ)) → lines ≡ earlier ++ past → all ≡ lines ++ others → (rows_of_lines lines).bad ≡ None → Prints begun tale lines out first taken
     → PrintsFirst begun tale earlier all out first taken
 prints_first begun tale earlier past lines others all out first taken same is good p = record {
   more = past;
   others = others;
   lines_are = is ∙ ap (λ (ls : List (List ℕ)). ls ++ others) same;
-  good = subst (λ (ls : List (List ℕ)). (rows_of ls).bad ≡ None) same good;
+  good = subst (λ (ls : List (List ℕ)). (rows_of_lines ls).bad ≡ None) same good;
   prints = subst (λ (ls : List (List ℕ)). Prints begun tale ls out first taken) same p;
 }
 
-halts_by : (begun : State) (tale : RowText) (h : Halt) (r : Option (Option Event)) (earlier past lines : List (List ℕ)) (line : List ℕ) (more : List (List ℕ)) (n : ℕ) (s held : State) (out out' : List ℕ) (first taken taken' : Option (List ℕ)) → lines ≡ earlier ++ past → row_of line ≡ r
+halts_by : (begun : State) (tale : RowText) (h : Halt) (r : Option (Option Event)) (earlier past lines : List (List ℕ)) (line : List ℕ) (more : List (List ℕ)) (n : ℕ) (s held : State) (out out' : List ℕ) (first taken taken' : Option (List ℕ)) → lines ≡ earlier ++ past → row_of_line line ≡ r
     → Going begun tale lines n s out first taken → LineGoes tale (Err h) n line r s held out out' taken taken' → Halts begun tale h earlier (lines ++ line ∷ more) out' first taken'
 halts_by begun tale (Bad m) (Some row) earlier past lines line more n s held out out' first taken taken' same is going h = absurd h
 halts_by begun tale (Bad m) None earlier past lines line more n s held out out' first taken taken' same is going h =
-    let rows : rows_of (lines ++ line ∷ more) ≡ record { events = (rows_of lines).events ++ []; bad = Some (length lines + 1) } =
-    rows_join lines (line ∷ more) going.good ∙ ap (λ (r : Option (Option Event)). joined (rows_of lines) (length lines) (row_and r (rows_of more))) is in
+    let rows : rows_of_lines (lines ++ line ∷ more) ≡ record { events = (rows_of_lines lines).events ++ []; bad = Some (length lines + 1) } =
+    rows_join lines (line ∷ more) going.good ∙ ap (λ (r : Option (Option Event)). joined (rows_of_lines lines) (length lines) (row_and r (rows_of_lines more))) is in
     let all : told begun tale (lines ++ line ∷ more) ≡ told begun tale lines =
-    tale_join tale lines (line ∷ more) begun going.good ∙ (ap (λ (x : List ℕ). told begun tale lines ++ x) (tale_bad tale line more (run (rows_of lines).events begun).state is) ∙ append-nil (told begun tale lines)) in (
+    tale_join tale lines (line ∷ more) begun going.good ∙ (ap (λ (x : List ℕ). told begun tale lines ++ x) (tale_bad tale line more (run (rows_of_lines lines).events begun).state is) ∙ append-nil (told begun tale lines)) in (
       ap (λ (r : Rows). r.bad) rows ∙ ap Some (sym (h.0 ∙ going.number)),
       prints_kept begun tale lines (lines ++ line ∷ more) out out' first taken taken' h.1 h.2 all going.prints,
     )
@@ -241,7 +241,7 @@ halts_by begun tale Memory r earlier past lines line more n s held out out' firs
 halts_by begun tale Read r earlier past lines line more n s held out out' first taken taken' same is going h = absurd h
 halts_by begun tale Write None earlier past lines line more n s held out out' first taken taken' same is going h = absurd h
 halts_by begun tale Write (Some row) earlier past lines line more n s held out out' first taken taken' same is going h =
-    let now = (run (rows_of lines).events begun).state in
+    let now = (run (rows_of_lines lines).events begun).state in
     let later = told_from tale more (row_happened now row).state in
     let text = out ++ tale now line row in
     let all : told_from tale (line ∷ more) now ≡ tale now line row ++ later = tale_first tale line row more now is in
@@ -255,34 +255,34 @@ halts_waiting begun tale earlier past lines more n s out first taken same going 
 
 -- THE ROW OF WHAT IS KEPT
 
-too_long : (line : List ℕ) → nat_le (length line) 1048576 ≡ false → row_of line ≡ None
+too_long : (line : List ℕ) → nat_le (length line) 1048576 ≡ false → row_of_line line ≡ None
 too_long line e = rw e refl
 
-row_kept_by : (line : List ℕ) (t : Bool) → nat_le (length line) 1048576 ≡ t → row_of (take 1048577 line) ≡ row_of line
-row_kept_by line true e = ap row_of (take_all 1048577 line (grind (arith, nat_tests, e)))
+row_kept_by : (line : List ℕ) (t : Bool) → nat_le (length line) 1048576 ≡ t → row_of_line (take 1048577 line) ≡ row_of_line line
+row_kept_by line true e = ap row_of_line (take_all 1048577 line (grind (arith, nat_tests, e)))
 row_kept_by line false e =
     let long : 1048577 ≤ length line = grind (arith, nat_tests, e) in
     let test : nat_le (length (take 1048577 line)) 1048576 ≡ false = grind (arith, nat_tests, length-take-le 1048577 line long) in
     too_long (take 1048577 line) test ∙ sym (too_long line e)
 
 -- it is the row of the line
-row_kept : (line : List ℕ) → row_of (take 1048577 line) ≡ row_of line
+row_kept : (line : List ℕ) → row_of_line (take 1048577 line) ≡ row_of_line line
 row_kept line = row_kept_by line (nat_le (length line) 1048576) refl
 
 -- so does what is printed for it
 goes_by : (tale : RowText) (r : Result (Unit {0}) Halt) (line kept : List ℕ) (t : Bool) (n : ℕ) (s held : State) (out out' : List ℕ) (taken taken' : Option (List ℕ)) → nat_le (length line) 1048576 ≡ t → kept ≡ take 1048577 line
-    → LineGoes tale r n kept (row_of kept) s held out out' taken taken' → LineGoes tale r n line (row_of line) s held out out' taken taken'
+    → LineGoes tale r n kept (row_of_line kept) s held out out' taken taken' → LineGoes tale r n line (row_of_line line) s held out out' taken taken'
 goes_by tale r line kept true n s held out out' taken taken' e k h =
     let same : kept ≡ line = k ∙ take_all 1048577 line (grind (arith, nat_tests, e)) in
-    subst (λ (x : List ℕ). LineGoes tale r n x (row_of x) s held out out' taken taken') same h
+    subst (λ (x : List ℕ). LineGoes tale r n x (row_of_line x) s held out out' taken taken') same h
 goes_by tale r line kept false n s held out out' taken taken' e k h =
-    let bad : row_of line ≡ None = too_long line e in
-    let here : row_of kept ≡ None = ap row_of k ∙ (row_kept line ∙ bad) in
+    let bad : row_of_line line ≡ None = too_long line e in
+    let here : row_of_line kept ≡ None = ap row_of_line k ∙ (row_kept line ∙ bad) in
     let goes : LineGoes tale r n kept None s held out out' taken taken' = subst (λ (x : Option (Option Event)). LineGoes tale r n kept x s held out out' taken taken') here h in
     subst (λ (x : Option (Option Event)). LineGoes tale r n line x s held out out' taken taken') (sym bad) (bad_goes tale r n kept line s held out out' taken taken' goes)
 
 goes_whole : (tale : RowText) (r : Result (Unit {0}) Halt) (line kept : List ℕ) (n : ℕ) (s held : State) (out out' : List ℕ) (taken taken' : Option (List ℕ)) → kept ≡ take 1048577 line
-    → LineGoes tale r n kept (row_of kept) s held out out' taken taken' → LineGoes tale r n line (row_of line) s held out out' taken taken'
+    → LineGoes tale r n kept (row_of_line kept) s held out out' taken taken' → LineGoes tale r n line (row_of_line line) s held out out' taken taken'
 goes_whole tale r line kept n s held out out' taken taken' k h = goes_by tale r line kept (nat_le (length line) 1048576) n s held out out' taken taken' refl k h
 
 -- LINES OF A CHUNK
@@ -338,16 +338,16 @@ kept_line line part kept kept' k e =
 
 -- a line of the chunk was played
 pub within_line : (begun : State) (tale : RowText) (bytes rest rest' part kept kept' kept'' : List ℕ) (k n n' : ℕ) (s held : State) (out out' : List ℕ) (first taken taken' : Option (List ℕ)) → Within begun tale bytes rest kept n s out first taken
-    → Some k ≡ first_end rest → part ≡ take k rest → rest' ≡ drop (suc k) rest → kept' ≡ take 1048577 (kept ++ part) → LineGoes tale (Ok tt) n kept' (row_of kept') s held out out' taken taken' → kept'' ≡ [] → n' ≡ n + 1
+    → Some k ≡ first_end rest → part ≡ take k rest → rest' ≡ drop (suc k) rest → kept' ≡ take 1048577 (kept ++ part) → LineGoes tale (Ok tt) n kept' (row_of_line kept') s held out out' taken taken' → kept'' ≡ [] → n' ≡ n + 1
     → Within begun tale bytes rest' kept'' n' held out' first taken'
 within_line begun tale bytes rest rest' part kept kept' kept'' k n n' s held out out' first taken taken' w some same left kept_is goes empty e =
     let p : Parts w.line rest (Some k) = subst (Parts w.line rest) (sym some) (parts w.line rest) in
     let line = w.line ++ part in
-    let played : LineGoes tale (Ok tt) n line (row_of line) s held out out' taken taken' = goes_whole tale (Ok tt) line kept' n s held out out' taken taken' (kept_line w.line part kept kept' w.kept_is kept_is) goes in
+    let played : LineGoes tale (Ok tt) n line (row_of_line line) s held out out' taken taken' = goes_whole tale (Ok tt) line kept' n s held out out' taken taken' (kept_line w.line part kept kept' w.kept_is kept_is) goes in
     record {
       lines = w.lines ++ line ∷ [];
       line = [];
-      going = going_by begun tale (row_of line) w.lines line n n' s held out out' first taken taken' refl w.going played e;
+      going = going_by begun tale (row_of_line line) w.lines line n n' s held out out' first taken taken' refl w.going played e;
       kept_is = empty;
       whole = w.whole
           ∙ (ap (λ (ls : List (List ℕ)). w.lines ++ ls) (p.1 ∙ (ap (λ (x : List ℕ). (w.line ++ x) ∷ whole_from [] (drop (suc k) rest)) (sym same) ∙ ap (λ (x : List ℕ). line ∷ whole_from [] x) (sym left)))
@@ -361,17 +361,17 @@ open_lines bytes = append-nil (whole_lines bytes)
 
 -- the run halts at a line of the chunk
 pub within_halts : (begun : State) (tale : RowText) (h : Halt) (before bytes rest part kept kept' : List ℕ) (k n : ℕ) (s held : State) (out out' : List ℕ) (first taken taken' : Option (List ℕ)) → WithinChunk begun tale before bytes rest kept n s out first taken
-    → Some k ≡ first_end rest → part ≡ take k rest → kept' ≡ take 1048577 (kept ++ part) → LineGoes tale (Err h) n kept' (row_of kept') s held out out' taken taken'
+    → Some k ≡ first_end rest → part ≡ take k rest → kept' ≡ take 1048577 (kept ++ part) → LineGoes tale (Err h) n kept' (row_of_line kept') s held out out' taken taken'
     → Halts begun tale h (whole_lines before) (lines_read false bytes) out' first taken'
 within_halts begun tale h before bytes rest part kept kept' k n s held out out' first taken taken' p some same kept_is goes =
     let w = p.within in
     let cut : Parts w.line rest (Some k) = subst (Parts w.line rest) (sym some) (parts w.line rest) in
     let line = w.line ++ part in
     let more = whole_from [] (drop (suc k) rest) in
-    let played : LineGoes tale (Err h) n line (row_of line) s held out out' taken taken' = goes_whole tale (Err h) line kept' n s held out out' taken taken' (kept_line w.line part kept kept' w.kept_is kept_is) goes in
+    let played : LineGoes tale (Err h) n line (row_of_line line) s held out out' taken taken' = goes_whole tale (Err h) line kept' n s held out out' taken taken' (kept_line w.line part kept kept' w.kept_is kept_is) goes in
     let lines : lines_read false bytes ≡ w.lines ++ line ∷ more =
     open_lines bytes ∙ (w.whole ∙ ap (λ (ls : List (List ℕ)). w.lines ++ ls) (cut.1 ∙ ap (λ (x : List ℕ). (w.line ++ x) ∷ more) (sym same))) in
-    subst (λ (ls : List (List ℕ)). Halts begun tale h (whole_lines before) ls out' first taken') (sym lines) (halts_by begun tale h (row_of line) (whole_lines before) p.more w.lines line more n s held out out' first taken taken' p.lines_are refl w.going played)
+    subst (λ (ls : List (List ℕ)). Halts begun tale h (whole_lines before) ls out' first taken') (sym lines) (halts_by begun tale h (row_of_line line) (whole_lines before) p.more w.lines line more n s held out out' first taken taken' p.lines_are refl w.going played)
 
 -- memory ran out before the line was kept
 pub within_waits : (begun : State) (tale : RowText) (before bytes rest kept : List ℕ) (n : ℕ) (s : State) (out out' : List ℕ) (first taken : Option (List ℕ)) → WithinChunk begun tale before bytes rest kept n s out first taken → out' ≡ out
@@ -385,36 +385,36 @@ within_waits begun tale before bytes rest kept n s out out' first taken p o =
 
 -- the file ends, and its last line was played
 pub within_ends : (begun : State) (tale : RowText) (bytes kept : List ℕ) (n : ℕ) (s held : State) (out out' : List ℕ) (first taken taken' : Option (List ℕ)) → Within begun tale bytes [] kept n s out first taken
-    → LineGoes tale (Ok tt) n kept (row_of kept) s held out out' taken taken' → ((rows_of (lines_read true bytes)).bad ≡ None) × Prints begun tale (lines_read true bytes) out' first taken'
+    → LineGoes tale (Ok tt) n kept (row_of_line kept) s held out out' taken taken' → ((rows_of_lines (lines_read true bytes)).bad ≡ None) × Prints begun tale (lines_read true bytes) out' first taken'
 within_ends begun tale bytes kept n s held out out' first taken taken' w goes =
-    let played : LineGoes tale (Ok tt) n w.line (row_of w.line) s held out out' taken taken' = goes_whole tale (Ok tt) w.line kept n s held out out' taken taken' w.kept_is goes in
-    let going : Going begun tale (w.lines ++ w.line ∷ []) (n + 1) held out' first taken' = going_by begun tale (row_of w.line) w.lines w.line n (n + 1) s held out out' first taken taken' refl w.going played refl in
+    let played : LineGoes tale (Ok tt) n w.line (row_of_line w.line) s held out out' taken taken' = goes_whole tale (Ok tt) w.line kept n s held out out' taken taken' w.kept_is goes in
+    let going : Going begun tale (w.lines ++ w.line ∷ []) (n + 1) held out' first taken' = going_by begun tale (row_of_line w.line) w.lines w.line n (n + 1) s held out out' first taken taken' refl w.going played refl in
     let lines : lines_read true bytes ≡ w.lines ++ w.line ∷ [] = ap (λ (ls : List (List ℕ)). ls ++ last_from [] bytes ∷ []) (w.whole ∙ append-nil w.lines) ∙ ap (λ (x : List ℕ). w.lines ++ x ∷ []) w.last in
-    subst (λ (ls : List (List ℕ)). ((rows_of ls).bad ≡ None) × Prints begun tale ls out' first taken') (sym lines) (going.good, going.prints)
+    subst (λ (ls : List (List ℕ)). ((rows_of_lines ls).bad ≡ None) × Prints begun tale ls out' first taken') (sym lines) (going.good, going.prints)
 
 -- and the switch is as its lines left it
 pub within_played : (begun : State) (tale : RowText) (bytes kept : List ℕ) (n : ℕ) (s held : State) (out out' : List ℕ) (first taken taken' : Option (List ℕ)) → Within begun tale bytes [] kept n s out first taken
-    → LineGoes tale (Ok tt) n kept (row_of kept) s held out out' taken taken' → ((rows_of (lines_read true bytes)).bad ≡ None) × (held ≡ (run (rows_of (lines_read true bytes)).events begun).state)
+    → LineGoes tale (Ok tt) n kept (row_of_line kept) s held out out' taken taken' → ((rows_of_lines (lines_read true bytes)).bad ≡ None) × (held ≡ (run (rows_of_lines (lines_read true bytes)).events begun).state)
 within_played begun tale bytes kept n s held out out' first taken taken' w goes =
-    let played : LineGoes tale (Ok tt) n w.line (row_of w.line) s held out out' taken taken' = goes_whole tale (Ok tt) w.line kept n s held out out' taken taken' w.kept_is goes in
-    let going : Going begun tale (w.lines ++ w.line ∷ []) (n + 1) held out' first taken' = going_by begun tale (row_of w.line) w.lines w.line n (n + 1) s held out out' first taken taken' refl w.going played refl in
+    let played : LineGoes tale (Ok tt) n w.line (row_of_line w.line) s held out out' taken taken' = goes_whole tale (Ok tt) w.line kept n s held out out' taken taken' w.kept_is goes in
+    let going : Going begun tale (w.lines ++ w.line ∷ []) (n + 1) held out' first taken' = going_by begun tale (row_of_line w.line) w.lines w.line n (n + 1) s held out out' first taken taken' refl w.going played refl in
     let lines : lines_read true bytes ≡ w.lines ++ w.line ∷ [] = ap (λ (ls : List (List ℕ)). ls ++ last_from [] bytes ∷ []) (w.whole ∙ append-nil w.lines) ∙ ap (λ (x : List ℕ). w.lines ++ x ∷ []) w.last in
-    subst (λ (ls : List (List ℕ)). ((rows_of ls).bad ≡ None) × (held ≡ (run (rows_of ls).events begun).state)) (sym lines) (going.good, going.state)
+    subst (λ (ls : List (List ℕ)). ((rows_of_lines ls).bad ≡ None) × (held ≡ (run (rows_of_lines ls).events begun).state)) (sym lines) (going.good, going.state)
 
 pub within_end_halts : (begun : State) (tale : RowText) (h : Halt) (bytes kept : List ℕ) (n : ℕ) (s held : State) (out out' : List ℕ) (first taken taken' : Option (List ℕ)) → Within begun tale bytes [] kept n s out first taken
-    → LineGoes tale (Err h) n kept (row_of kept) s held out out' taken taken' → Halts begun tale h (whole_lines bytes) (lines_read true bytes) out' first taken'
+    → LineGoes tale (Err h) n kept (row_of_line kept) s held out out' taken taken' → Halts begun tale h (whole_lines bytes) (lines_read true bytes) out' first taken'
 within_end_halts begun tale h bytes kept n s held out out' first taken taken' w goes =
-    let played : LineGoes tale (Err h) n w.line (row_of w.line) s held out out' taken taken' = goes_whole tale (Err h) w.line kept n s held out out' taken taken' w.kept_is goes in
+    let played : LineGoes tale (Err h) n w.line (row_of_line w.line) s held out out' taken taken' = goes_whole tale (Err h) w.line kept n s held out out' taken taken' w.kept_is goes in
     let lines : lines_read true bytes ≡ w.lines ++ w.line ∷ [] = ap (λ (ls : List (List ℕ)). ls ++ last_from [] bytes ∷ []) (w.whole ∙ append-nil w.lines) ∙ ap (λ (x : List ℕ). w.lines ++ x ∷ []) w.last in
     let all : w.lines ≡ whole_lines bytes ++ [] = sym (append-nil (whole_lines bytes) ∙ (w.whole ∙ append-nil w.lines)) in
-    subst (λ (ls : List (List ℕ)). Halts begun tale h (whole_lines bytes) ls out' first taken') (sym lines) (halts_by begun tale h (row_of w.line) (whole_lines bytes) [] w.lines w.line [] n s held out out' first taken taken' all refl w.going played)
+    subst (λ (ls : List (List ℕ)). Halts begun tale h (whole_lines bytes) ls out' first taken') (sym lines) (halts_by begun tale h (row_of_line w.line) (whole_lines bytes) [] w.lines w.line [] n s held out out' first taken taken' all refl w.going played)
 
 -- the source tells no end: the line that has begun is none
 pub within_open : (begun : State) (tale : RowText) (bytes kept : List ℕ) (n : ℕ) (s : State) (out : List ℕ) (first taken : Option (List ℕ)) → Within begun tale bytes [] kept n s out first taken
-    → ((rows_of (lines_read false bytes)).bad ≡ None) × Prints begun tale (lines_read false bytes) out first taken
+    → ((rows_of_lines (lines_read false bytes)).bad ≡ None) × Prints begun tale (lines_read false bytes) out first taken
 within_open begun tale bytes kept n s out first taken w =
     let lines : lines_read false bytes ≡ w.lines = open_lines bytes ∙ (w.whole ∙ append-nil w.lines) in
-    subst (λ (ls : List (List ℕ)). ((rows_of ls).bad ≡ None) × Prints begun tale ls out first taken) (sym lines) (w.going.good, w.going.prints)
+    subst (λ (ls : List (List ℕ)). ((rows_of_lines ls).bad ≡ None) × Prints begun tale ls out first taken) (sym lines) (w.going.good, w.going.prints)
 
 -- STEPS OF A CHUNK
 
@@ -443,7 +443,7 @@ chunk_place chunk rest at k le is some =
 
 pub chunk_line : (begun : State) (tale : RowText) (before bytes chunk rest part kept kept' kept'' : List ℕ) (at k n n' n'' : ℕ) (s s' held : State) (out out' out'' : List ℕ) (first taken taken' : Option (List ℕ)) → WithinChunk begun tale before bytes (drop at chunk) kept n s out first taken
     → rest ≡ drop at chunk → Some k ≡ first_end rest → part ≡ take k rest → kept' ≡ take 1048577 (kept ++ part) → (n' ≡ n) × (s' ≡ s) × (out' ≡ out)
-    → LineGoes tale (Ok tt) n' kept' (row_of kept') s' held out' out'' taken taken' → kept'' ≡ [] → n'' ≡ n' + 1 → WithinChunk begun tale before bytes (drop (at + (k + 1)) chunk) kept'' n'' held out'' first taken'
+    → LineGoes tale (Ok tt) n' kept' (row_of_line kept') s' held out' out'' taken taken' → kept'' ≡ [] → n'' ≡ n' + 1 → WithinChunk begun tale before bytes (drop (at + (k + 1)) chunk) kept'' n'' held out'' first taken'
 unfolding within_line
 chunk_line begun tale before bytes chunk rest part kept kept' kept'' at k n n' n'' s s' held out out' out'' first taken taken' p is some same kept_is e goes empty number =
     let here : WithinChunk begun tale before bytes (drop at chunk) kept n' s' out' first taken = rw (e.0, e.1, e.2) p in
@@ -457,7 +457,7 @@ chunk_line begun tale before bytes chunk rest part kept kept' kept'' at k n n' n
 
 pub chunk_halts : (begun : State) (tale : RowText) (h : Halt) (before bytes chunk rest part kept kept' : List ℕ) (at k n n' : ℕ) (s s' held : State) (out out' out'' : List ℕ) (first taken taken' : Option (List ℕ)) → WithinChunk begun tale before bytes (drop at chunk) kept n s out first taken
     → rest ≡ drop at chunk → Some k ≡ first_end rest → part ≡ take k rest → kept' ≡ take 1048577 (kept ++ part) → (n' ≡ n) × (s' ≡ s) × (out' ≡ out)
-    → LineGoes tale (Err h) n' kept' (row_of kept') s' held out' out'' taken taken' → Halts begun tale h (whole_lines before) (lines_read false bytes) out'' first taken'
+    → LineGoes tale (Err h) n' kept' (row_of_line kept') s' held out' out'' taken taken' → Halts begun tale h (whole_lines before) (lines_read false bytes) out'' first taken'
 chunk_halts begun tale h before bytes chunk rest part kept kept' at k n n' s s' held out out' out'' first taken taken' p is some same kept_is e goes =
     let here : WithinChunk begun tale before bytes (drop at chunk) kept n' s' out' first taken = rw (e.0, e.1, e.2) p in
     within_halts begun tale h before bytes (drop at chunk) part kept kept' k n' s' held out' out'' first taken taken' here (some ∙ ap first_end is) (same ∙ ap (take k) is) kept_is goes

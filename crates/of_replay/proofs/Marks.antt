@@ -6,13 +6,13 @@ use lib.Utf8.{encode}
 use Rattle.of_switch.specs.State.{State}
 use Rattle.of_switch.specs.declared.port_change.PortChange.TheVariants.{Remove}
 use Rattle.of_switch.specs.declared.event.Event.TheVariants.{Ports}
-use Rattle.of_replay.specs.Rows.{row_of}
-use Rattle.of_replay.specs.RowTexts.{plain}
+use Rattle.of_replay.specs.Rows.{row_of_line}
+use Rattle.of_replay.specs.RowTexts.{plain_row_text}
 
-pub mark_row : row_of (codes "port remove 0") ≡ Some (Some (Ports (Remove 0)))
+pub mark_row : row_of_line (codes "port remove 0") ≡ Some (Some (Ports (Remove 0)))
 unfolding is_utf8 chars encode
 mark_row = refl
 
-pub mark_text : (s : State) → plain s (codes "port remove 0") (Some (Ports (Remove 0))) ≡ codes "refused 8" ++ 10 ∷ []
+pub mark_text : (s : State) → plain_row_text s (codes "port remove 0") (Some (Ports (Remove 0))) ≡ codes "refused 8" ++ 10 ∷ []
 unfolding digits
 mark_text s = refl

@@ -5,8 +5,8 @@ use Rattle.std.proofs.lemmas.List.{append-nil, drop-drop, take_all}
 use Rattle.std.proofs.lemmas.List.Sums.{sum_by-cons}
 use Rattle.std.proofs.lemmas.Grind.{flat_map-append}
 use Rattle.std.specs.List.{sum}
-use Rattle.of_replay.specs.Told.{Answer, Gave, Ended, Failed, bytes_of, given}
-use Rattle.of_replay.specs.Memory.{chunks_of, told}
+use Rattle.of_replay.specs.Told.{Answer, Gave, Ended, Failed, answer_bytes, given}
+use Rattle.of_replay.specs.Memory.{chunks_of, source_answers}
 use Rattle.of_replay.specs.declared.memory.MemorySource.{MemorySource}
 
 -- one more chunk
@@ -33,7 +33,7 @@ given-faults (suc n) = given-faults n
 
 -- ends and faults give nothing
 pub given-told : (bs ns : List ℕ) (at ends failures : ℕ) → at ≡ sum ns → given (chunks_of bs ns ++ (replicate ends Ended ++ replicate failures Failed)) ≡ take at bs
-given-told bs ns at ends failures e = rw (flat_map-append bytes_of (chunks_of bs ns), flat_map-append bytes_of (replicate ends Ended), given-ends, given-faults, append-nil, given-chunks bs ns, e) refl
+given-told bs ns at ends failures e = rw (flat_map-append answer_bytes (chunks_of bs ns), flat_map-append answer_bytes (replicate ends Ended), given-ends, given-faults, append-nil, given-chunks bs ns, e) refl
 
 -- a chunk is recorded before there is an end or a fault
 pub told-more : (bs ns : List ℕ) (n ends failures : ℕ) (chunk : List ℕ) → ends ≡ 0 → failures ≡ 0 → chunk ≡ take n (drop (sum ns) bs)
@@ -48,12 +48,12 @@ read-front copied rest from bs at n place h f p l =
     ap (λ (k : ℕ). take k (copied ++ rest)) (sym l) ∙ (take-append_seam copied rest ∙ (h ∙ rw (← f, ← p) (ap (λ (k : ℕ). take k (drop at from)) (omega arith))))
 
 -- what a source gave is a prefix of its bytes
-pub given-source : (s : MemorySource) → given (told s) ≡ take s.at s.bytes.items
+pub given-source : (s : MemorySource) → given (source_answers s) ≡ take s.at s.bytes.items
 given-source s = given-told s.bytes.items s.lengths.items s.at s.ends s.failures s.place
 
 at-the-end : (at len ends : ℕ) → (at < len → ends ≡ 0) → 0 < ends → len ≤ at
 at-the-end at len ends = grind arith
 
 -- all of them, once a read found the end
-pub given-whole : (s : MemorySource) → 0 < s.ends → given (told s) ≡ s.bytes.items
+pub given-whole : (s : MemorySource) → 0 < s.ends → given (source_answers s) ≡ s.bytes.items
 given-whole s h = given-source s ∙ take_all s.at s.bytes.items (at-the-end s.at (length s.bytes.items) s.ends s.ended h)

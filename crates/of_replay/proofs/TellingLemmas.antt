@@ -2,7 +2,7 @@
 use Rattle.std.proofs.Common.{◌≡◌, ℕ, List, [], ◌∷◌, ◌++◌, Option, Some, None, refl, sym, ◌∙◌, ap, subst, append_assoc}
 use Rattle.std.proofs.lemmas.List.{append-nil}
 use Rattle.std.specs.Io.KnownBytes.{Appends, Consumes}
-use Rattle.of_replay.specs.Told.{Answer, Gave, Known, Told, Left, Answers, bytes_of, given}
+use Rattle.of_replay.specs.Told.{Answer, Gave, Known, Told, Left, Answers, answer_bytes, given}
 use Rattle.of_replay.specs.Transfer.{AllAnswers}
 
 -- BYTES
@@ -29,9 +29,9 @@ consumes-then (Some a) (Some b) (Some c) x y p q = p ∙ (ap (λ (bs : List ℕ)
 
 -- ANSWERS
 
-pub given-more : (more : List Answer) (one : Answer) → given (more ++ one ∷ []) ≡ given more ++ bytes_of one
-given-more [] one = append-nil (bytes_of one)
-given-more (a ∷ more) one = ap (λ (x : List ℕ). bytes_of a ++ x) (given-more more one) ∙ sym (append_assoc (bytes_of a) (given more) (bytes_of one))
+pub given-more : (more : List Answer) (one : Answer) → given (more ++ one ∷ []) ≡ given more ++ answer_bytes one
+given-more [] one = append-nil (answer_bytes one)
+given-more (a ∷ more) one = ap (λ (x : List ℕ). answer_bytes a ++ x) (given-more more one) ∙ sym (append_assoc (answer_bytes a) (given more) (answer_bytes one))
 
 pub answers-none : (k : Known) → AllAnswers k k []
 answers-none (Told answers) = sym (append-nil answers)
@@ -44,7 +44,7 @@ told_more (Told a) (Told b) (Left c) more one p q = absurd q
 told_more (Told a) (Left b) c more one p q = absurd p
 told_more (Left a) (Told b) c more one p q = absurd p
 told_more (Left a) (Left b) (Told c) more one p q = absurd q
-told_more (Left a) (Left b) (Left c) more one p q = subst (Consumes a c) (sym (given-more more one)) (consumes-then a b c (given more) (bytes_of one) p q)
+told_more (Left a) (Left b) (Left c) more one p q = subst (Consumes a c) (sym (given-more more one)) (consumes-then a b c (given more) (answer_bytes one) p q)
 
 -- a chunk that equals what was given
 pub gave_front : (now next : Known) (chunk front : List ℕ) → front ≡ chunk → Answers now next (Gave chunk) → Answers now next (Gave front)

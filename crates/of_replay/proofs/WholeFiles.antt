@@ -8,9 +8,9 @@ use Rattle.of_replay.specs.declared.event_file.Ended.{Ended}
 use Rattle.of_replay.specs.declared.event_file.Ended.TheVariants.{Done, BadRow, Text, NoMemory, ReadFault, WriteFault}
 use Rattle.of_replay.specs.Told.{Answer, Known, Told, Left, NoneLeft, given}
 use Rattle.of_replay.specs.Transfer.{AllAnswers}
-use Rattle.of_replay.specs.Lexing.{lines_of}
+use Rattle.of_replay.specs.Lexing.{lines_of_file}
 use Rattle.of_replay.specs.Play.{lines_read, PrintsLines}
-use Rattle.of_replay.specs.FileRuns.{Meaning, IsValue, Reads, Runs, WritesOf, TextOf}
+use Rattle.of_replay.specs.FileRuns.{Meaning, IsValue, ReadsWhole, Runs, WritesOf, TextOf}
 
 -- all that was left was given
 all_given : (file : List ℕ) (known : Known) (more : List Answer) → AllAnswers (Left (Some file)) known more → NoneLeft known → given more ≡ file
@@ -18,16 +18,16 @@ all_given file (Told answers) more are none = absurd are
 all_given file (Left None) more are none = absurd are
 all_given file (Left (Some rest)) more are none = sym (are ∙ (ap (λ (x : List ℕ). given more ++ x) none ∙ append-nil (given more)))
 
-pub lines_whole : (text_of : List (List ℕ) → List ℕ) (file : List ℕ) (known : Known) (ends ends' : ℕ) (old new : Option (List ℕ)) → PrintsLines text_of Done (Left (Some file)) known ends ends' old new → Appends old new (text_of (lines_of file))
+pub lines_whole : (text_of : List (List ℕ) → List ℕ) (file : List ℕ) (known : Known) (ends ends' : ℕ) (old new : Option (List ℕ)) → PrintsLines text_of Done (Left (Some file)) known ends ends' old new → Appends old new (text_of (lines_of_file file))
 lines_whole text_of file known ends ends' old new h =
     let all : given h.more ≡ file = all_given file known h.more h.answers_are (h.whole h.ends_so.0) in
-    subst (λ (f : List ℕ). Appends old new (text_of (lines_of f))) all (subst (λ (t : Bool). Appends old new (text_of (lines_read t (given h.more)))) h.ends_so.0 h.ends_so.2)
+    subst (λ (f : List ℕ). Appends old new (text_of (lines_of_file f))) all (subst (λ (t : Bool). Appends old new (text_of (lines_read t (given h.more)))) h.ends_so.0 h.ends_so.2)
 
 -- the end was read where there are more ends
 ended : (ends ends' : ℕ) → ends < ends' → nat_lt ends ends' ≡ true
 ended ends ends' lt = grind (arith, nat_tests, lt)
 
-text_whole_by : {A : Type 0} (is : Meaning A) (IsText : A → List ℕ → Type 0) (file : List ℕ) (known : Known) (ends ends' : ℕ) (old new : Option (List ℕ)) (read : Result A Ended) → Reads is read (Left (Some file)) known ends ends' → WritesOf IsText read Done old new → nat_lt ends ends' ≡ true
+text_whole_by : {A : Type 0} (is : Meaning A) (IsText : A → List ℕ → Type 0) (file : List ℕ) (known : Known) (ends ends' : ℕ) (old new : Option (List ℕ)) (read : Result A Ended) → ReadsWhole is read (Left (Some file)) known ends ends' → WritesOf IsText read Done old new → nat_lt ends ends' ≡ true
     → TextOf is IsText file old new
 text_whole_by is IsText file known ends ends' old new (Ok value) r w t =
     let all : given r.more ≡ file = all_given file known r.more r.answers_are (r.whole t) in

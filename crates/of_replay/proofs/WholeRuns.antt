@@ -9,13 +9,13 @@ use Rattle.of_replay.specs.declared.halt.Halt.{Halt}
 use Rattle.of_replay.specs.declared.halt.Halt.TheVariants.{Bad, Memory, Read, Write}
 use Rattle.of_replay.specs.declared.event_file.Ended.{Ended}
 use Rattle.of_replay.specs.declared.event_file.Ended.TheVariants.{Done, BadRow, Text, NoMemory, ReadFault, WriteFault}
-use Rattle.of_replay.specs.Told.{Answer, Gave, Known, Answers, NoneLeft, bytes_of, given}
+use Rattle.of_replay.specs.Told.{Answer, Gave, Known, Answers, NoneLeft, answer_bytes, given}
 use Rattle.std.specs.Io.KnownBytes.{Appends}
 use Rattle.of_replay.specs.Transfer.{AllAnswers, WrotePrefix}
-use Rattle.of_replay.specs.Rows.{row_of, rows_of}
+use Rattle.of_replay.specs.Rows.{row_of_line, rows_of_lines}
 use Rattle.of_replay.specs.Play.{lines_read, but_last, earlier_lines, EndsPrinting, PrintsLines}
 use Rattle.of_replay.specs.Output.{printed_from}
-use Rattle.of_replay.specs.RowTexts.{RowText, plain, told}
+use Rattle.of_replay.specs.RowTexts.{RowText, plain_row_text, told}
 use Rattle.of_replay.specs.WholeFiles.{RunFaults}
 use Rattle.of_replay.specs.Stepping.{LineGoes, Prints, Within, Halts, ChunkGoes, Plays, PlayedAll, PlaysRead, ReadSoFar, WritesFail, ReadsFail, ended_so}
 use Rattle.of_replay.proofs.Lines.{within_start, within_ends, within_played, within_end_halts, within_open, prints_front, tale_join, plain_is}
@@ -42,11 +42,11 @@ chunk_reads most begun tale Read earlier lines out first taken reads ends ends' 
 chunk_reads most begun tale Write earlier lines out first taken reads ends ends' failures failures' h e = omega (arith, e)
 
 -- a read that gave no bytes
-pub given_same : (more : List Answer) (one : Answer) → bytes_of one ≡ [] → given (more ++ one ∷ []) ≡ given more
+pub given_same : (more : List Answer) (one : Answer) → answer_bytes one ≡ [] → given (more ++ one ∷ []) ≡ given more
 given_same more one e = given-more more one ∙ (ap (λ (x : List ℕ). given more ++ x) e ∙ append-nil (given more))
 
 pub read_idle : (begun : State) (tale : RowText) (answers now next : Known) (one : Answer) (kept : List ℕ) (n : ℕ) (s : State) (out : List ℕ) (first taken : Option (List ℕ)) → ReadSoFar begun tale answers now kept n s out first taken
-    → Answers now next one → bytes_of one ≡ [] → ReadSoFar begun tale answers next kept n s out first taken
+    → Answers now next one → answer_bytes one ≡ [] → ReadSoFar begun tale answers next kept n s out first taken
 read_idle begun tale answers now next one kept n s out first taken r e none = record {
   more = r.more ++ one ∷ [];
   answers_are = told_more answers now next r.more one r.answers_are e;
@@ -107,20 +107,20 @@ read_halts begun tale h answers now next ends ends' chunk kept kept' n n' s s' o
 
 -- the source's end was read
 ends_by : (begun : State) (tale : RowText) (result : Result (Unit {0}) Halt) (bytes kept : List ℕ) (n : ℕ) (s held : State) (out out' : List ℕ) (first taken taken' : Option (List ℕ)) → Within begun tale bytes [] kept n s out first taken
-    → LineGoes tale result n kept (row_of kept) s held out out' taken taken' → Plays begun tale result true (whole_lines bytes) (lines_read true bytes) out' first taken'
+    → LineGoes tale result n kept (row_of_line kept) s held out out' taken taken' → Plays begun tale result true (whole_lines bytes) (lines_read true bytes) out' first taken'
 ends_by begun tale (Ok u) bytes kept n s held out out' first taken taken' w goes = let h = within_ends begun tale bytes kept n s held out out' first taken taken' w goes in (refl, h.0, h.1)
 ends_by begun tale (Err h) bytes kept n s held out out' first taken taken' w goes =
     plays_halt begun tale h true (whole_lines bytes) (lines_read true bytes) out' first taken' (within_end_halts begun tale h bytes kept n s held out out' first taken taken' w goes)
 
 pub read_ends : (begun : State) (tale : RowText) (result : Result (Unit {0}) Halt) (answers now next : Known) (one : Answer) (ends ends' : ℕ) (kept : List ℕ) (n : ℕ) (s held : State) (out out' : List ℕ) (first taken taken' : Option (List ℕ)) → ReadSoFar begun tale answers now kept n s out first taken
-    → Answers now next one → bytes_of one ≡ [] → NoneLeft next → ends' ≡ ends + 1 → LineGoes tale result n kept (row_of kept) s held out out' taken taken' → PlaysRead begun tale result answers next ends ends' out' first taken'
+    → Answers now next one → answer_bytes one ≡ [] → NoneLeft next → ends' ≡ ends + 1 → LineGoes tale result n kept (row_of_line kept) s held out out' taken taken' → PlaysRead begun tale result answers next ends ends' out' first taken'
 read_ends begun tale result answers now next one ends ends' kept n s held out out' first taken taken' r e none left ended goes =
     plays_read begun tale result answers next ends ends' (r.more ++ one ∷ []) (whole_lines (given r.more)) (given r.more) out' first taken' true (told_more answers now next r.more one r.answers_are e) (λ _. left) (is_ended ends ends' ended)
     (given_same r.more one none) (before_one r.more one) (ends_by begun tale result (given r.more) kept n s held out out' first taken taken' r.within goes)
 
 -- all lines were played
 pub read_played : (begun : State) (tale : RowText) (result : Result (Unit {0}) Halt) (answers now next : Known) (one : Answer) (kept : List ℕ) (n : ℕ) (s held : State) (out out' : List ℕ) (first taken taken' : Option (List ℕ)) → ReadSoFar begun tale answers now kept n s out first taken
-    → Answers now next one → bytes_of one ≡ [] → NoneLeft next → LineGoes tale result n kept (row_of kept) s held out out' taken taken' → OnOk result (PlayedAll begun answers next held)
+    → Answers now next one → answer_bytes one ≡ [] → NoneLeft next → LineGoes tale result n kept (row_of_line kept) s held out out' taken taken' → OnOk result (PlayedAll begun answers next held)
 read_played begun tale (Ok u) answers now next one kept n s held out out' first taken taken' r e none left goes =
     let h = within_played begun tale (given r.more) kept n s held out out' first taken taken' r.within goes in
     let same : given (r.more ++ one ∷ []) ≡ given r.more = given_same r.more one none in
@@ -177,7 +177,7 @@ flushed begun tale (Ok u) before bytes kept n s out out' first taken taken' w al
 flushed begun tale (Err h) before bytes kept n s out out' first taken taken' w all front is =
     rw is (unwritten_all begun tale (lines_read false bytes) out first taken taken' (within_open begun tale bytes kept n s out first taken w).1 front)
 
-unwritten : (begun : State) (tale : RowText) (lines others : List (List ℕ)) (out : List ℕ) (first taken taken' : Option (List ℕ)) → (rows_of lines).bad ≡ None → Prints begun tale lines out first taken → WrotePrefix taken out taken' → WrotePrefix first (told begun tale (lines ++ others)) taken'
+unwritten : (begun : State) (tale : RowText) (lines others : List (List ℕ)) (out : List ℕ) (first taken taken' : Option (List ℕ)) → (rows_of_lines lines).bad ≡ None → Prints begun tale lines out first taken → WrotePrefix taken out taken' → WrotePrefix first (told begun tale (lines ++ others)) taken'
 unwritten begun tale lines others out first taken taken' good p w =
     prints_front begun tale lines (lines ++ others) out _ first taken taken' p (tale_join tale lines others begun good) out _ refl w
 
@@ -232,13 +232,13 @@ same_end f g same ReadFault ended earlier lines old new h = (h.0, h.1, subst (Ap
 same_end f g same WriteFault ended earlier lines old new h = subst (λ (x : List ℕ). WrotePrefix old x new) (same lines) h
 same_end f g same NoMemory ended earlier lines old new h = record { more = h.more; others = h.others; lines_are = h.lines_are; good = h.good; wrote = subst (Appends old new) (same (earlier ++ h.more)) h.wrote }
 
-pub replays_plain : (begun : State) (e : Ended) (answers answers' : Known) (ends ends' : ℕ) (taken taken' : Option (List ℕ)) → PrintsLines (told begun plain) e answers answers' ends ends' taken taken'
-    → PrintsLines (λ lines. printed_from begun (rows_of lines).events) e answers answers' ends ends' taken taken'
+pub replays_plain : (begun : State) (e : Ended) (answers answers' : Known) (ends ends' : ℕ) (taken taken' : Option (List ℕ)) → PrintsLines (told begun plain_row_text) e answers answers' ends ends' taken taken'
+    → PrintsLines (λ lines. printed_from begun (rows_of_lines lines).events) e answers answers' ends ends' taken taken'
 replays_plain begun e answers answers' ends ends' taken taken' h = record {
   more = h.more;
   answers_are = h.answers_are;
   whole = h.whole;
-  ends_so = same_end (told begun plain) (λ (lines : List (List ℕ)). printed_from begun (rows_of lines).events) (λ (lines : List (List ℕ)). plain_is lines begun) e (nat_lt ends ends') (earlier_lines h.more) (lines_read (nat_lt ends ends') (given h.more)) taken taken' h.ends_so;
+  ends_so = same_end (told begun plain_row_text) (λ (lines : List (List ℕ)). printed_from begun (rows_of_lines lines).events) (λ (lines : List (List ℕ)). plain_is lines begun) e (nat_lt ends ends') (earlier_lines h.more) (lines_read (nat_lt ends ends') (given h.more)) taken taken' h.ends_so;
 }
 
 -- FAULTS

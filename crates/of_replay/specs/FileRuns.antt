@@ -4,7 +4,7 @@ use Rattle.of_text.specs.declared.assembling.TextFault.{TextFault}
 use Rattle.of_text.specs.declared.assembling.TextFault.TheVariants as fault
 use Rattle.of_text.specs.Lines.{lines_of}
 use Rattle.of_text.specs.Texts.{IsSyntax}
-use Rattle.of_text.specs.First.{IsRefused}
+use Rattle.of_text.specs.First.{AreRefusedLines}
 use Rattle.of_text.specs.Configs.{Configuration, EncodeConfig, config_text}
 use Rattle.of_switch.specs.State.{State, start}
 use Rattle.of_switch.specs.Runs.{run}
@@ -14,35 +14,35 @@ use Rattle.of_replay.specs.declared.event_file.Ended.TheVariants.{Done, BadRow, 
 use Rattle.of_replay.specs.Told.{Answer, Known, NoneLeft, given}
 use Rattle.std.specs.Io.KnownBytes.{Appends}
 use Rattle.of_replay.specs.Transfer.{AllAnswers, WrotePrefix}
-use Rattle.of_replay.specs.Rows.{Rows, rows_of}
+use Rattle.of_replay.specs.Rows.{Rows, rows_of_lines}
 use Rattle.of_replay.specs.Play.{lines_read}
 use Rattle.of_replay.specs.WholeFiles.{bad_line}
 
 -- WHAT A FILE IS READ AS: a value; or there is none, since a line is bad, or since the text has a fault
-pub data Outcome (A : Type 0) : Type 0 where
-  IsValue : (value : A) → Outcome A
-  IsBad : (line : ℕ) → Outcome A
-  HasFault : (fault : TextFault) → Outcome A
+pub data FileOutcome (A : Type 0) : Type 0 where
+  IsValue : (value : A) → FileOutcome A
+  IsBad : (line : ℕ) → FileOutcome A
+  HasFault : (fault : TextFault) → FileOutcome A
 
 -- by whether the file's end was read, and the bytes that were read
 abbrev pub Meaning : Type 0 → Type 1
-Meaning A = Bool → List ℕ → Outcome A → Type 0
+Meaning A = Bool → List ℕ → FileOutcome A → Type 0
 
-abbrev pub IsFault : List ℕ → TextFault → Type 0
-IsFault file fault.NoMemory = ⊥
-IsFault file (fault.Syntax n) = IsSyntax (lines_of file) n
-IsFault file (fault.Refused line code) = IsRefused (lines_of file) line code
+abbrev pub IsTextFault : List ℕ → TextFault → Type 0
+IsTextFault file fault.NoMemory = ⊥
+IsTextFault file (fault.Syntax n) = IsSyntax (lines_of file) n
+IsTextFault file (fault.Refused line code) = AreRefusedLines (lines_of file) line code
 
 -- a flow text, which is read whole, is its configuration
 abbrev pub flow_text : Meaning Configuration
 flow_text false file outcome = ⊥
 flow_text true file (IsValue config) = (bad_line file ≡ None) × EncodeConfig (lines_of file) config
 flow_text true file (IsBad n) = bad_line file ≡ Some n
-flow_text true file (HasFault f) = (bad_line file ≡ None) × IsFault file f
+flow_text true file (HasFault f) = (bad_line file ≡ None) × IsTextFault file f
 
 -- the switch after rows: a new one with datapath_id 1, on which their events happened
-abbrev pub after : Rows → State
-after rows = (run rows.events (start 1)).state
+abbrev pub state_after_rows : Rows → State
+state_after_rows rows = (run rows.events (start 1)).state
 
 -- the groups and flows of a switch, as flow text
 abbrev pub switch_text : State → List ℕ
@@ -50,8 +50,8 @@ switch_text s = config_text (config_of s)
 
 -- an event file is the switch after its rows
 abbrev pub event_file : Meaning State
-event_file ended file (IsValue s) = (ended ≡ true) × ((rows_of (lines_read ended file)).bad ≡ None) × (s ≡ after (rows_of (lines_read ended file)))
-event_file ended file (IsBad n) = (rows_of (lines_read ended file)).bad ≡ Some n
+event_file ended file (IsValue s) = (ended ≡ true) × ((rows_of_lines (lines_read ended file)).bad ≡ None) × (s ≡ state_after_rows (rows_of_lines (lines_read ended file)))
+event_file ended file (IsBad n) = (rows_of_lines (lines_read ended file)).bad ≡ Some n
 event_file ended file (HasFault f) = ⊥
 
 -- HOW READING ENDS: at a fault the bytes before it are nothing yet
@@ -60,12 +60,12 @@ IsRead is (Ok value) ended file = is ended file (IsValue value)
 IsRead is (Err Done) ended file = ⊥
 IsRead is (Err (BadRow n)) ended file = is ended file (IsBad n)
 IsRead is (Err (Text f)) ended file = is ended file (HasFault f)
-IsRead {A} is (Err ReadFault) ended file = (ended ≡ false) × ((outcome : Outcome A) → is ended file outcome → ⊥)
+IsRead {A} is (Err ReadFault) ended file = (ended ≡ false) × ((outcome : FileOutcome A) → is ended file outcome → ⊥)
 IsRead is (Err WriteFault) ended file = ⊥
 IsRead is (Err NoMemory) ended file = Unit {0}
 
 -- from what a source answered
-pub record Reads {A : Type 0} (is : Meaning A) (result : Result A Ended) (answers answers' : Known) (ends ends' : ℕ) : Type 0 where
+pub record ReadsWhole {A : Type 0} (is : Meaning A) (result : Result A Ended) (answers answers' : Known) (ends ends' : ℕ) : Type 0 where
   pub more : List Answer
   pub answers_are : AllAnswers answers answers' more
   pub whole : nat_lt ends ends' ≡ true → NoneLeft answers'
@@ -86,7 +86,7 @@ WritesOf IsText (Err read) ended old new = (ended ≡ read) × (new ≡ old)
 -- HOW A RUN ENDS, from what a source answered to what a sink took
 pub record Runs {A : Type 0} (is : Meaning A) (IsText : A → List ℕ → Type 0) (ended : Ended) (answers answers' : Known) (ends ends' : ℕ) (taken taken' : Option (List ℕ)) : Type 0 where
   pub read : Result A Ended
-  pub reads : Reads is read answers answers' ends ends'
+  pub reads : ReadsWhole is read answers answers' ends ends'
   pub writes : WritesOf IsText read ended taken taken'
 
 -- a text of what a whole file is read as was added to what a writer held

@@ -5,7 +5,7 @@ use Rattle.hex.specs.Hex.{encode_lower}
 use Rattle.of_datapath.specs.declared.effect.Effect.{Effect}
 use Rattle.of_datapath.specs.declared.effect.Effect.TheVariants.{Answer, Sent, Closed}
 use Rattle.of_switch.specs.declared.switch_error.SwitchError.{SwitchError}
-use Rattle.of_switch.specs.Calls.{number_of}
+use Rattle.of_switch.specs.Calls.{error_number}
 use Rattle.of_switch.specs.declared.event.Event.{Event}
 use Rattle.of_switch.specs.State.{State}
 use Rattle.of_switch.specs.Runs.{Report, Gives, IsRefused, run}
@@ -21,7 +21,7 @@ text_of effects = flat_map line_of effects
 
 -- `refused N`
 abbrev pub refused_line : SwitchError → List ℕ
-refused_line refusal = codes "refused " ++ decimal (number_of refusal) ++ 10 ∷ []
+refused_line refusal = codes "refused " ++ decimal (error_number refusal) ++ 10 ∷ []
 
 abbrev pub report_text : Report → List ℕ
 report_text (Gives effects) = text_of effects

@@ -6,7 +6,7 @@ use Rattle.of_replay.specs.Told.{Answer, Known, NoneLeft, given}
 use Rattle.std.specs.Io.KnownBytes.{Appends}
 use Rattle.of_replay.specs.Transfer.{AllAnswers, WrotePrefix}
 use Rattle.of_replay.specs.Lexing.{whole_lines, last_from}
-use Rattle.of_replay.specs.Rows.{rows_of}
+use Rattle.of_replay.specs.Rows.{rows_of_lines}
 
 -- the line that no LF ends yet: it is a line where the file ends
 abbrev pub open_line : Bool → List ℕ → List (List ℕ)
@@ -31,15 +31,15 @@ pub record PrintedFirst (text_of : List (List ℕ) → List ℕ) (earlier lines 
   pub more : List (List ℕ)
   pub others : List (List ℕ)
   pub lines_are : lines ≡ (earlier ++ more) ++ others
-  pub good : (rows_of (earlier ++ more)).bad ≡ None
+  pub good : (rows_of_lines (earlier ++ more)).bad ≡ None
   pub wrote : Appends old new (text_of (earlier ++ more))
 
 -- by the lines that were read, and those that were whole before the last read
 abbrev pub EndsPrinting : (List (List ℕ) → List ℕ) → Ended → Bool → List (List ℕ) → List (List ℕ) → Option (List ℕ) → Option (List ℕ) → Type 0
-EndsPrinting text_of Done ended earlier lines old new = (ended ≡ true) × ((rows_of lines).bad ≡ None) × Appends old new (text_of lines)
-EndsPrinting text_of (BadRow n) ended earlier lines old new = ((rows_of lines).bad ≡ Some n) × Appends old new (text_of lines)
+EndsPrinting text_of Done ended earlier lines old new = (ended ≡ true) × ((rows_of_lines lines).bad ≡ None) × Appends old new (text_of lines)
+EndsPrinting text_of (BadRow n) ended earlier lines old new = ((rows_of_lines lines).bad ≡ Some n) × Appends old new (text_of lines)
 EndsPrinting text_of (Text f) ended earlier lines old new = ⊥
-EndsPrinting text_of ReadFault ended earlier lines old new = (ended ≡ false) × ((rows_of lines).bad ≡ None) × Appends old new (text_of lines)
+EndsPrinting text_of ReadFault ended earlier lines old new = (ended ≡ false) × ((rows_of_lines lines).bad ≡ None) × Appends old new (text_of lines)
 EndsPrinting text_of WriteFault ended earlier lines old new = WrotePrefix old (text_of lines) new
 EndsPrinting text_of NoMemory ended earlier lines old new = PrintedFirst text_of earlier lines old new
 

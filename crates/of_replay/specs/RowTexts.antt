@@ -3,7 +3,7 @@ use Rattle.std.specs.Prelude.{ℕ, List, [], ◌∷◌, ◌++◌, Option, Some, 
 use Rattle.of_switch.specs.declared.event.Event.{Event}
 use Rattle.of_switch.specs.State.{State}
 use Rattle.of_switch.specs.Runs.{Happened, Gives, happened}
-use Rattle.of_replay.specs.Rows.{row_of}
+use Rattle.of_replay.specs.Rows.{row_of_line}
 use Rattle.of_replay.specs.Output.{report_text}
 
 -- what happens at a row; an empty line and a comment report nothing
@@ -16,8 +16,8 @@ abbrev pub RowText : Type 0
 RowText = State → List ℕ → Option Event → List ℕ
 
 -- what `replay` prints: the text of the report
-abbrev pub plain : RowText
-plain s line row = report_text (row_happened s row).report
+abbrev pub plain_row_text : RowText
+plain_row_text s line row = report_text (row_happened s row).report
 
 -- for a line, and then for others on the switch after it; nothing for a bad line and for those after it
 abbrev pub told_and : RowText → State → List ℕ → Option (Option Event) → (State → List ℕ) → List ℕ
@@ -27,7 +27,7 @@ told_and tale s line (Some row) rest = tale s line row ++ rest (row_happened s r
 -- for lines, from a state of the switch on
 abbrev pub told_from : RowText → List (List ℕ) → State → List ℕ
 told_from tale [] s = []
-told_from tale (line ∷ lines) s = told_and tale s line (row_of line) (told_from tale lines)
+told_from tale (line ∷ lines) s = told_and tale s line (row_of_line line) (told_from tale lines)
 
 -- for lines, where the run began on a switch in this state
 abbrev pub told : State → RowText → List (List ℕ) → List ℕ

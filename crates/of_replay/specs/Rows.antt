@@ -17,49 +17,44 @@ use Rattle.of_switch.specs.declared.port_change.PortChange.TheVariants.{Add, Rem
 use Rattle.of_replay.specs.declared.rows.Row.{Row}
 use Rattle.of_replay.specs.declared.rows.Row.TheVariants as row
 use Rattle.of_text.specs.Lines.{is_passed}
-use Rattle.of_replay.specs.Lexing.{is_line, first_word, after_word, number_of, moment_of, bytes_of, hw_of, name_of, state_of}
-
--- the second step, if the first gave a value
-infixl 10 ◌>>=◌
-abbrev pub ◌>>=◌ : {A B : Type 0} → Option A → (A → Option B) → Option B
-None >>= f = None
-(Some a) >>= f = f a
+use Rattle.of_text.specs.Reading.{◌>>=◌}
+use Rattle.of_replay.specs.Lexing.{is_line, first_word, after_first_word, word_number, moment_of, hex_bytes, hw_of, name_in_word, state_of}
 
 abbrev pub chunk_row : List ℕ → Option Event
 chunk_row word = do
-  bytes ← bytes_of word
+  bytes ← hex_bytes word
   Some (Chunk bytes)
 
 abbrev pub frame_row : List ℕ → Option Event
 frame_row words = do
-  port ← number_of (first_word words)
-  word ← after_word words
-  bytes ← bytes_of word
+  port ← word_number (first_word words)
+  word ← after_first_word words
+  bytes ← hex_bytes word
   Some (Frame port bytes)
 
 -- after `port add`
 abbrev pub added_port : List ℕ → Option PortChange
 added_port words = do
-  number ← number_of (first_word words)
-  more ← after_word words
+  number ← word_number (first_word words)
+  more ← after_first_word words
   hw ← hw_of (first_word more)
-  last ← after_word more
-  name ← name_of (first_word last)
-  word ← after_word last
+  last ← after_first_word more
+  name ← name_in_word (first_word last)
+  word ← after_first_word last
   up ← state_of word
   Some (Add number hw name up)
 
 -- after `port remove`
 abbrev pub removed_port : List ℕ → Option PortChange
 removed_port word = do
-  number ← number_of word
+  number ← word_number word
   Some (Remove number)
 
 -- after `port link`
 abbrev pub linked_port : List ℕ → Option PortChange
 linked_port words = do
-  number ← number_of (first_word words)
-  word ← after_word words
+  number ← word_number (first_word words)
+  word ← after_first_word words
   up ← state_of word
   Some (Link number up)
 
@@ -74,7 +69,7 @@ change_of name words =
 -- after `port`
 abbrev pub port_of : List ℕ → Option PortChange
 port_of words = do
-  more ← after_word words
+  more ← after_first_word words
   change_of (first_word words) more
 
 -- a row of that name, and its other words
@@ -86,19 +81,19 @@ named_row name words =
     else (if bytes_eq name (codes "port") then option_map Ports (port_of words)
     else None)))
 
-abbrev pub row_in : List ℕ → Option (List ℕ) → Option Event
-row_in name None =
+abbrev pub event_row_in : List ℕ → Option (List ℕ) → Option Event
+event_row_in name None =
     if bytes_eq name (codes "connect") then Some Connect
     else (if bytes_eq name (codes "lost") then Some Lost
     else None)
-row_in name (Some words) = named_row name words
+event_row_in name (Some words) = named_row name words
 
 -- THE ROW OF A LINE: an event, or none for an empty line and a comment; None for a bad row
-abbrev pub row_of : List ℕ → Option (Option Event)
-row_of line =
+abbrev pub row_of_line : List ℕ → Option (Option Event)
+row_of_line line =
     if not (is_line line) then None
     else (if is_passed line then Some None
-    else option_map Some (row_in (first_word line) (after_word line)))
+    else option_map Some (event_row_in (first_word line) (after_first_word line)))
 
 -- THE EVENTS OF LINES
 
@@ -116,9 +111,9 @@ abbrev pub row_and : Option (Option Event) → Rows → Rows
 row_and None others = record { events = []; bad = Some 1 }
 row_and (Some row) others = record { events = events_in row ++ others.events; bad = option_map (λ n. n + 1) others.bad }
 
-abbrev pub rows_of : List (List ℕ) → Rows
-rows_of [] = record { events = []; bad = None }
-rows_of (line ∷ lines) = row_and (row_of line) (rows_of lines)
+abbrev pub rows_of_lines : List (List ℕ) → Rows
+rows_of_lines [] = record { events = []; bad = None }
+rows_of_lines (line ∷ lines) = row_and (row_of_line line) (rows_of_lines lines)
 
 -- IN CODE
 

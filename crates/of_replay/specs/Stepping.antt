@@ -15,7 +15,7 @@ use Rattle.of_replay.specs.Told.{Answer, Known, NoneLeft, given}
 use Rattle.std.specs.Io.KnownBytes.{Appends}
 use Rattle.of_replay.specs.Transfer.{AllAnswers, WrotePrefix}
 use Rattle.of_replay.specs.Lexing.{whole_lines, whole_from, last_from}
-use Rattle.of_replay.specs.Rows.{rows_of}
+use Rattle.of_replay.specs.Rows.{rows_of_lines}
 use Rattle.of_replay.specs.Output.{text_of, refused_line}
 use Rattle.of_replay.specs.Play.{lines_read, earlier_lines}
 pub use Rattle.of_replay.specs.RowTexts.{row_happened}
@@ -77,14 +77,14 @@ pub record PrintsFirst (begun : State) (tale : RowText) (earlier lines : List (L
   pub more : List (List ℕ)
   pub others : List (List ℕ)
   pub lines_are : lines ≡ (earlier ++ more) ++ others
-  pub good : (rows_of (earlier ++ more)).bad ≡ None
+  pub good : (rows_of_lines (earlier ++ more)).bad ≡ None
   pub prints : Prints begun tale (earlier ++ more) out first taken
 
 -- these lines were played, and none of them is bad
 pub record Going (begun : State) (tale : RowText) (lines : List (List ℕ)) (n : ℕ) (s : State) (out : List ℕ) (first taken : Option (List ℕ)) : Type 0 where
-  pub good : (rows_of lines).bad ≡ None
+  pub good : (rows_of_lines lines).bad ≡ None
   pub number : n ≡ length lines + 1
-  pub state : s ≡ (run (rows_of lines).events begun).state
+  pub state : s ≡ (run (rows_of_lines lines).events begun).state
   pub prints : Prints begun tale lines out first taken
 
 -- of these bytes `rest` is not read yet; of the line that has begun no more is kept than shows that it is too long
@@ -104,7 +104,7 @@ pub record WithinChunk (begun : State) (tale : RowText) (before bytes rest kept 
 
 -- why a run halts at a line, by the lines that were read, and those that were whole before the last read
 abbrev pub Halts : State → RowText → Halt → List (List ℕ) → List (List ℕ) → List ℕ → Option (List ℕ) → Option (List ℕ) → Type 0
-Halts begun tale (halt.Bad n) earlier lines out first taken = ((rows_of lines).bad ≡ Some n) × Prints begun tale lines out first taken
+Halts begun tale (halt.Bad n) earlier lines out first taken = ((rows_of_lines lines).bad ≡ Some n) × Prints begun tale lines out first taken
 Halts begun tale halt.Memory earlier lines out first taken = PrintsFirst begun tale earlier lines out first taken
 Halts begun tale halt.Read earlier lines out first taken = ⊥
 Halts begun tale halt.Write earlier lines out first taken = WrotePrefix first (told begun tale lines) taken
@@ -116,10 +116,10 @@ ChunkGoes begun tale (Err h) before bytes kept n s out first taken = Halts begun
 
 -- the lines of a source are played to the end, or the run halts
 abbrev pub Plays : State → RowText → Result (Unit {0}) Halt → Bool → List (List ℕ) → List (List ℕ) → List ℕ → Option (List ℕ) → Option (List ℕ) → Type 0
-Plays begun tale (Ok u) ended earlier lines out first taken = (ended ≡ true) × ((rows_of lines).bad ≡ None) × Prints begun tale lines out first taken
+Plays begun tale (Ok u) ended earlier lines out first taken = (ended ≡ true) × ((rows_of_lines lines).bad ≡ None) × Prints begun tale lines out first taken
 Plays begun tale (Err (halt.Bad n)) ended earlier lines out first taken = Halts begun tale (halt.Bad n) earlier lines out first taken
 Plays begun tale (Err halt.Memory) ended earlier lines out first taken = Halts begun tale halt.Memory earlier lines out first taken
-Plays begun tale (Err halt.Read) ended earlier lines out first taken = (ended ≡ false) × ((rows_of lines).bad ≡ None) × Prints begun tale lines out first taken
+Plays begun tale (Err halt.Read) ended earlier lines out first taken = (ended ≡ false) × ((rows_of_lines lines).bad ≡ None) × Prints begun tale lines out first taken
 Plays begun tale (Err halt.Write) ended earlier lines out first taken = Halts begun tale halt.Write earlier lines out first taken
 
 pub record PlaysRead (begun : State) (tale : RowText) (result : Result (Unit {0}) Halt) (answers answers' : Known) (ends ends' : ℕ) (out : List ℕ) (first taken : Option (List ℕ)) : Type 0 where
@@ -165,5 +165,5 @@ pub record PlayedAll (begun : State) (answers answers' : Known) (s : State) : Ty
   pub more : List Answer
   pub answers_are : AllAnswers answers answers' more
   pub whole : NoneLeft answers'
-  pub good : (rows_of (lines_read true (given more))).bad ≡ None
-  pub state : s ≡ (run (rows_of (lines_read true (given more))).events begun).state
+  pub good : (rows_of_lines (lines_read true (given more))).bad ≡ None
+  pub state : s ≡ (run (rows_of_lines (lines_read true (given more))).events begun).state

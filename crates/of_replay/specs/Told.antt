@@ -22,12 +22,12 @@ answer_of reading.End buffer = Ended
 answer_of reading.Fault buffer = Failed
 
 -- the bytes that answers gave
-abbrev pub bytes_of : Answer → List ℕ
-bytes_of (Gave bytes) = bytes
-bytes_of other = []
+abbrev pub answer_bytes : Answer → List ℕ
+answer_bytes (Gave bytes) = bytes
+answer_bytes other = []
 
 abbrev pub given : List Answer → List ℕ
-given answers = flat_map bytes_of answers
+given answers = flat_map answer_bytes answers
 
 -- what is known of a source: all that its reads answered; or the bytes that it has left, as far as those are known
 pub data Known : Type 0 where
@@ -37,7 +37,7 @@ pub data Known : Type 0 where
 -- a read answered so: that is the last answer; or the bytes that were left began with what it gave, and lost that
 abbrev pub Answers : Known → Known → Answer → Type 0
 Answers (Told before) (Told after) answer = after ≡ before ++ answer ∷ []
-Answers (Left before) (Left after) answer = Consumes before after (bytes_of answer)
+Answers (Left before) (Left after) answer = Consumes before after (answer_bytes answer)
 Answers before after answer = ⊥
 
 -- no byte is known to be left

@@ -1,6 +1,6 @@
 //! Flow text from a source, as a configuration.
 ghost use Rattle.std.specs.Prelude.{◌≡◌, ◌≤◌, true};
-ghost use Rattle.of_replay.specs.FileRuns.{IsRead, Reads, ended_as, flow_text};
+ghost use Rattle.of_replay.specs.FileRuns.{IsRead, ReadsWhole, ended_as, flow_text};
 ghost use Rattle.of_replay.specs.WholeFiles.{Faults};
 
 use crate::event_file::{Ended, READ_SIZE, ended_by, zeros};
@@ -26,7 +26,7 @@ fn configured(alloc: Global, file: &[u8]) -> Result<Config, Ended>
 /// Reads a whole flow text (docs/FLOWTEXT.md), and returns its configuration; or how a run ends that needs one.
 pub fn read_config<S: Source>(alloc: Global, reader: &mut S) -> Result<Config, Ended>
     requires { S.reads reader.old ≡ 0 }
-    ensures config { Reads flow_text result (S.answers reader.old) (S.answers reader.new) (S.ends reader.old) (S.ends reader.new) }
+    ensures config { ReadsWhole flow_text result (S.answers reader.old) (S.answers reader.new) (S.ends reader.old) (S.ends reader.new) }
     ensures faults { Faults (ended_as result) (S.reads reader.new) (S.ends reader.old) (S.ends reader.new) (S.failures reader.old) (S.failures reader.new) 0 }
     ensures reads { S.reads reader.new ≤ 1000000 }
 {

@@ -1,6 +1,6 @@
 //! Event files from a source, as flow text to a sink.
 ghost use Rattle.std.specs.Prelude.{◌≡◌, ◌≤◌, ◌<◌, ◌↔◌, None};
-ghost use Rattle.of_replay.specs.FileRuns.{Reads, Runs, Writes, ended_as, event_file, is_text, switch_text};
+ghost use Rattle.of_replay.specs.FileRuns.{ReadsWhole, Runs, Writes, ended_as, event_file, is_text, switch_text};
 ghost use Rattle.of_replay.specs.WholeFiles.{Faults};
 
 use crate::event_file::{Ended, MOST_READS, READ_SIZE, ended_by, zeros};
@@ -35,7 +35,7 @@ impl Sink for Nowhere {
 /// Its datapath_id is 1. Where there is none, how the run of `dis` ends: at the first bad row, at a fault, or without memory.
 pub fn read_switch<L: Lookup, S: Source>(alloc: Global, reader: &mut S) -> Result<Switch<L>, Ended>
     requires { S.reads reader.old ≡ 0 }
-    ensures played { Reads event_file result (S.answers reader.old) (S.answers reader.new) (S.ends reader.old) (S.ends reader.new) }
+    ensures played { ReadsWhole event_file result (S.answers reader.old) (S.answers reader.new) (S.ends reader.old) (S.ends reader.new) }
     ensures faults { Faults (ended_as result) (S.reads reader.new) (S.ends reader.old) (S.ends reader.new) (S.failures reader.old) (S.failures reader.new) 0 }
     ensures reads { S.reads reader.new ≤ 1000000 }
 {

@@ -4,7 +4,7 @@ ghost use Rattle.of_switch.specs.State.{start};
 ghost use Rattle.of_replay.specs.Output.{printed_from};
 ghost use Rattle.of_replay.specs.Play.{PrintsLines, WrittenEarly};
 ghost use Rattle.of_replay.specs.RowTexts.{told};
-ghost use Rattle.of_replay.specs.Rows.{rows_of};
+ghost use Rattle.of_replay.specs.Rows.{rows_of_lines};
 ghost use Rattle.of_replay.specs.Ended.{status_of};
 ghost use Rattle.of_replay.specs.Stepping.{ended_so};
 ghost use Rattle.of_replay.specs.WholeFiles.{RunFaults};
@@ -124,11 +124,11 @@ pub fn replay<L: Lookup, S: Source, W: Sink>(
 ) -> Ended
     requires reads { S.reads reader.old ≡ 0 }
     requires failures { W.failures writer.old ≡ 0 }
-    ensures output { PrintsLines (λ lines. printed_from (start dpid) (rows_of lines).events) result (S.answers reader.old) (S.answers reader.new)
+    ensures output { PrintsLines (λ lines. printed_from (start dpid) (rows_of_lines lines).events) result (S.answers reader.old) (S.answers reader.new)
         (S.ends reader.old) (S.ends reader.new) (W.taken writer.old) (W.taken writer.new) }
     ensures faults { RunFaults 1000000 result (S.reads reader.new) (S.ends reader.old) (S.ends reader.new) (S.failures reader.old) (S.failures reader.new)
         (W.failures writer.new) }
-    ensures early { WrittenEarly (λ lines. printed_from (start dpid) (rows_of lines).events) (S.answers reader.old) (S.answers reader.new)
+    ensures early { WrittenEarly (λ lines. printed_from (start dpid) (rows_of_lines lines).events) (S.answers reader.old) (S.answers reader.new)
         (W.taken writer.old) (W.taken writer.new) }
 {
     print_file::<L, _, _, _>(alloc, dpid, MOST_READS, &Plain, reader, writer)

@@ -8,19 +8,19 @@ ghost use Rattle.of_switch.specs.declared.switch_error.SwitchError.TheVariants.{
 ghost use Rattle.of_switch.specs.declared.port_change.PortChange.TheVariants.{Remove};
 ghost use Rattle.of_switch.specs.declared.event.Event.TheVariants.{Ports};
 ghost use Rattle.of_replay.specs.Told.{Known, Left};
-ghost use Rattle.of_replay.specs.Lexing.{lines_of};
+ghost use Rattle.of_replay.specs.Lexing.{lines_of_file};
 ghost use Rattle.of_replay.specs.Play.{PrintsLines};
 ghost use Rattle.of_replay.specs.FileRuns.{Runs, TextOf, event_file, flow_text, is_text, switch_text};
 ghost use Rattle.of_replay.specs.declared.event_file.Ended.TheVariants.{Done};
-ghost use Rattle.of_replay.specs.Rows.{row_of};
-ghost use Rattle.of_replay.specs.RowTexts.{plain, row_happened};
+ghost use Rattle.of_replay.specs.Rows.{row_of_line};
+ghost use Rattle.of_replay.specs.RowTexts.{plain_row_text, row_happened};
 
 /// `port remove 0` changes nothing and always prints `refused 8`: where rows are sent one by one, it marks the end of what the rows
 /// before it print.
 pub fn mark_changes_nothing()
-    ensures row { row_of (codes "port remove 0") ≡ Some (Some (Ports (Remove 0))) }
+    ensures row { row_of_line (codes "port remove 0") ≡ Some (Some (Ports (Remove 0))) }
     ensures same { (s : State) → row_happened s (Some (Ports (Remove 0))) ≡ record { report = IsRefused BadPortNumber; state = s } }
-    ensures text { (s : State) → plain s (codes "port remove 0") (Some (Ports (Remove 0))) ≡ codes "refused 8" ++ 10 ∷ [] }
+    ensures text { (s : State) → plain_row_text s (codes "port remove 0") (Some (Ports (Remove 0))) ≡ codes "refused 8" ++ 10 ∷ [] }
 {}
 
 /// From the bytes of a file to the bytes of the output, where no read and no write fails and memory suffices: where a reader has `file` left, and all of
@@ -30,7 +30,7 @@ pub fn mark_changes_nothing()
 /// holds (std's `contents`) of a [`WriterSink`](crate::streams::WriterSink).
 pub fn files_come_whole()
     ensures lines { (text_of : List (List ℕ) → List ℕ) (file : List ℕ) (known : Known) (ends ends' : ℕ) (old new : Option (List ℕ)) →
-        PrintsLines text_of Done (Left (Some file)) known ends ends' old new → Appends old new (text_of (lines_of file)) }
+        PrintsLines text_of Done (Left (Some file)) known ends ends' old new → Appends old new (text_of (lines_of_file file)) }
     ensures asm { (file : List ℕ) (known : Known) (ends ends' : ℕ) (old new : Option (List ℕ)) →
         Runs flow_text (is_text build_text) Done (Left (Some file)) known ends ends' old new → ends < ends' →
         TextOf flow_text (is_text build_text) file old new }

@@ -5,7 +5,7 @@ ghost use Rattle.std.specs.Result.{result_ok};
 ghost use Rattle.hex.specs.Hex.{decode_of};
 ghost use Rattle.std.specs.List.{list_all};
 ghost use Rattle.std.specs.Str.{is_utf8};
-ghost use Rattle.of_replay.specs.Lexing.{first_word, after_word, is_line, number_of, moment_of, decimal, below, digits_value, bytes_of, hw_of, name_of, state_of, is_name_byte};
+ghost use Rattle.of_replay.specs.Lexing.{first_word, after_first_word, is_line, word_number, moment_of, decimal, below_limit, value_of_decimal, hex_bytes, hw_of, name_in_word, state_of, is_name_byte};
 
 use of_text::is;
 use of_wire::{front_of, rest_from};
@@ -25,7 +25,7 @@ fn space_in(line: &[u8]) -> Option<usize>
 /// The first word of a line, and what follows the space after it.
 pub fn cut_word(line: &[u8]) -> (&[u8], Option<&[u8]>)
     ensures word { result.0.now ≡ first_word line.now }
-    ensures rest { option_copied result.1 ≡ after_word line.now }
+    ensures rest { option_copied result.1 ≡ after_first_word line.now }
 {
     match space_in(line) {
         None => (line, None),
@@ -51,7 +51,7 @@ fn is_text(line: &[u8]) -> bool
 
 /// A decimal number of 32 bits, without leading zeros.
 pub fn read_number(word: &[u8]) -> Option<u32>
-    ensures { result ≡ number_of word.now }
+    ensures { result ≡ word_number word.now }
 {
     match read_decimal(word, 1 << 32) {
         Some(value) => Some(value as u32),
@@ -86,7 +86,7 @@ fn read_decimal(word: &[u8], limit: u128) -> Option<u128>
 fn read_digits(word: &[u8], limit: u128) -> Option<u128>
     requires some { 0 < limit }
     requires most { limit ≤ 2 ^ 64 }
-    ensures value { result ≡ below limit (digits_value 0 word.now) }
+    ensures value { result ≡ below_limit limit (value_of_decimal 0 word.now) }
     ensures below { IfSome result (λ value. value < limit) }
 {
     let mut value: u128 = 0;
@@ -104,7 +104,7 @@ fn read_digits(word: &[u8], limit: u128) -> Option<u128>
 
 /// Decodes a word of hex digits, or `-` for no bytes, into the buffer; returns whether it is one.
 pub fn read_bytes(word: &[u8], bytes: &mut Vec<u8>) -> Result<bool, AllocError>
-    ensures { IfOk result (λ found. bytes_of word.now ≡ (if found then Some bytes.new.items else None)) }
+    ensures { IfOk result (λ found. hex_bytes word.now ≡ (if found then Some bytes.new.items else None)) }
 {
     if is(word, b"-") {
         bytes.clear();
@@ -144,7 +144,7 @@ fn is_name_text(word: &[u8]) -> bool
 
 /// A port's name: 1 to 15 of a to z and 0 to 9, padded with zeros.
 pub fn read_name(word: &[u8]) -> Option<[u8; 16]>
-    ensures { result ≡ name_of word.now }
+    ensures { result ≡ name_in_word word.now }
 {
     if word.is_empty() || word.len() > 15 || !is_name_text(word) {
         return None;

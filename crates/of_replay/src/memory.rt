@@ -32,7 +32,7 @@ pub struct MemorySource {
 
 impl MemorySource {
     ghost use Rattle.of_replay.specs.Told.{Gave};
-    ghost use Rattle.of_replay.specs.Memory.{told, reads_of, Fails};
+    ghost use Rattle.of_replay.specs.Memory.{source_answers, reads_of, CallFails};
 
     /// A source of these bytes, in chunks of `chunk` bytes at most. From the read `fails_at` on, counted from 1, each
     /// read fails; 0: none does. Fails only where memory runs out.
@@ -45,7 +45,7 @@ impl MemorySource {
         requires { 0 < chunk }
         ensures bytes { IfOk result (λ s. s.bytes.items ≡ bytes.now) }
         ensures settings { IfOk result (λ s. (s.chunk ≡ chunk) × (s.fails_at ≡ fails_at)) }
-        ensures told { IfOk result (λ s. told s ≡ []) }
+        ensures told { IfOk result (λ s. source_answers s ≡ []) }
         ensures counts { IfOk result (λ s. (s.at ≡ 0) × (reads_of s ≡ 0) × (s.ends ≡ 0) × (s.failures ≡ 0)) }
     {
         Ok(MemorySource {
@@ -62,7 +62,7 @@ impl MemorySource {
     /// Whether the next read fails.
     fn fails_now(&self) -> bool
         requires { reads_of self.now < 2 ^ 63 }
-        ensures { IsTrue result ↔ Fails self.now.fails_at (reads_of self.now + 1) }
+        ensures { IsTrue result ↔ CallFails self.now.fails_at (reads_of self.now + 1) }
     {
         let reads = self.lengths.len() as u64 + self.ends + self.failures;
         self.fails_at != 0 && self.fails_at <= reads + 1
@@ -74,7 +74,7 @@ impl MemorySource {
         requires left { self.old.at < length self.old.bytes.items }
         requires well { self.old.failures ≡ 0 }
         ensures chunk { result ≡ min self.old.chunk (min (length buffer.old) (length self.old.bytes.items - self.old.at)) }
-        ensures told { told self.new ≡ told self.old ++ Gave (take result buffer.new) ∷ [] }
+        ensures told { source_answers self.new ≡ source_answers self.old ++ Gave (take result buffer.new) ∷ [] }
         ensures reads { reads_of self.new ≡ reads_of self.old + 1 }
         ensures ends { self.new.ends ≡ self.old.ends }
         ensures failures { self.new.failures ≡ self.old.failures }
@@ -96,9 +96,9 @@ impl MemorySource {
 
 impl Source for MemorySource {
     ghost use Rattle.of_replay.specs.Told.{Told, answer_of, read_count, read_ends, read_faults, IsReading, given};
-    ghost use Rattle.of_replay.specs.Memory.{told, reads_of, IsNext};
+    ghost use Rattle.of_replay.specs.Memory.{source_answers, reads_of, IsNext};
 
-    ghost answers = { λ s. Told (told s) };
+    ghost answers = { λ s. Told (source_answers s) };
 
     ghost reads = { reads_of };
 
@@ -112,13 +112,13 @@ impl Source for MemorySource {
         requires few { reads_of self.old < 2 ^ 63 }
         ensures fits { IsReading result (length buffer.new) }
         ensures waits { result ≢ Reading.Nothing }
-        ensures answers { told self.new ≡ told self.old ++ answer_of result buffer.new ∷ [] }
+        ensures answers { source_answers self.new ≡ source_answers self.old ++ answer_of result buffer.new ∷ [] }
         ensures reads { reads_of self.new ≡ reads_of self.old + 1 }
         ensures ends { self.new.ends ≡ self.old.ends + read_ends result }
         ensures failures { self.new.failures ≡ self.old.failures + read_faults result }
         ensures next { IsNext self.old (length buffer.old) result }
         ensures at { self.new.at ≡ self.old.at + read_count result }
-        ensures given { given (told self.new) ≡ take self.new.at self.new.bytes.items }
+        ensures given { given (source_answers self.new) ≡ take self.new.at self.new.bytes.items }
         ensures same { (self.new.bytes.items ≡ self.old.bytes.items) × (self.new.chunk ≡ self.old.chunk) × (self.new.fails_at ≡ self.old.fails_at) }
     {
         if self.fails_now() {

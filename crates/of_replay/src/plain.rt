@@ -1,5 +1,5 @@
 //! What `replay` prints of a row: what the switch gives.
-ghost use Rattle.of_replay.specs.RowTexts.{plain};
+ghost use Rattle.of_replay.specs.RowTexts.{plain_row_text};
 
 use crate::output::push_report;
 use crate::play::play_row;
@@ -14,7 +14,7 @@ use std::alloc::Global;
 pub struct Plain;
 
 impl<L: Lookup> RowPrinter<L> for Plain {
-    ghost tale = { plain };
+    ghost tale = { plain_row_text };
 
     fn tell(
         &self,

@@ -1,7 +1,7 @@
 //! Rows as they are read, played on a switch, and what is printed for them.
 ghost use Rattle.std.specs.Prelude.{◌≡◌, ◌+◌, ◌<◌, ◌≤◌, ◌^◌, ◌++◌, ◌≢◌, ℕ, List, [], Option, IfErr, OnOk, length, take, position, ◌==◌};
 ghost use Rattle.of_switch.specs.State.{State};
-ghost use Rattle.of_replay.specs.Rows.{row_of};
+ghost use Rattle.of_replay.specs.Rows.{row_of_line};
 ghost use Rattle.of_replay.specs.Play.{PrintsLines, WrittenEarly};
 ghost use Rattle.of_replay.specs.Transfer.{Grows};
 ghost use Rattle.of_replay.specs.RowTexts.{told};
@@ -65,7 +65,7 @@ impl<L: Lookup> Replaying<L> {
 
     // Plays the open line, and prints its text.
     fn tell<T: RowPrinter<L>>(&mut self, teller: &T) -> Result<(), Halt>
-        ensures tells { LineTells T.tale result self.old.number self.old.open (row_of self.old.open) self.old.switch self.new.switch self.old.printer
+        ensures tells { LineTells T.tale result self.old.number self.old.open (row_of_line self.old.open) self.old.switch self.new.switch self.old.printer
             self.new.printer }
         ensures number { self.new.number ≡ self.old.number }
     {
@@ -93,7 +93,7 @@ impl<L: Lookup> Replaying<L> {
     fn line<T: RowPrinter<L>, W: Sink>(&mut self, teller: &T, writer: &mut W) -> Result<(), Halt>
         requires few { self.old.number < 2 ^ 63 }
         requires well { W.failures writer.old ≡ 0 }
-        ensures goes { LineGoes T.tale result self.old.number self.old.open (row_of self.old.open) self.old.switch self.new.switch self.old.printer
+        ensures goes { LineGoes T.tale result self.old.number self.old.open (row_of_line self.old.open) self.old.switch self.new.switch self.old.printer
             self.new.printer (W.taken writer.old) (W.taken writer.new) }
         ensures open { OnOk result (self.new.open ≡ []) }
         ensures number { OnOk result (self.new.number ≡ self.old.number + 1) }

@@ -1,7 +1,7 @@
 //! The rows of event files.
 ghost use Rattle.std.specs.Prelude.{◌≡◌, Some, IfOk};
 ghost use Rattle.std.specs.Option.{option_map};
-ghost use Rattle.of_replay.specs.Rows.{row_of, with_bytes, chunk_row, frame_row, port_of, change_of, added_port, removed_port, linked_port, named_row};
+ghost use Rattle.of_replay.specs.Rows.{row_of_line, with_bytes, chunk_row, frame_row, port_of, change_of, added_port, removed_port, linked_port, named_row};
 
 use crate::lexing::{
     cut_word, is_readable, read_bytes, read_hw, read_moment, read_name, read_number, read_state,
@@ -140,7 +140,7 @@ fn read_named(name: &[u8], words: &[u8], bytes: &mut Vec<u8>) -> Result<Option<R
 
 /// The row of a line, whose bytes it decodes into the buffer; None for a bad row.
 pub fn read_row(line: &[u8], bytes: &mut Vec<u8>) -> Result<Option<Row>, AllocError>
-    ensures { IfOk result (λ row. row_of line.now ≡ option_map (with_bytes bytes.new.items) row) }
+    ensures { IfOk result (λ row. row_of_line line.now ≡ option_map (with_bytes bytes.new.items) row) }
 {
     if !is_readable(line) {
         return Ok(None);

@@ -1,7 +1,7 @@
 //! Readers and writers, as files and standard output are, as sources and sinks.
 ghost use Rattle.std.specs.Prelude.{◌≡◌, ◌≢◌, ◌≤◌, ◌<◌, ◌+◌, ◌^◌, length, take};
 ghost use Rattle.std.specs.Io.KnownBytes.{Appends, Consumes, IsAtEnd};
-ghost use Rattle.of_replay.specs.Told.{IsReading, IsWriting, Left, answer_of, bytes_of, read_ends, read_faults, write_count, write_faults};
+ghost use Rattle.of_replay.specs.Told.{IsReading, IsWriting, Left, answer_of, answer_bytes, read_ends, read_faults, write_count, write_faults};
 
 use crate::io::{Reading, Sink, Source, Writing};
 use std::io::{ErrorKind, Read, Write};
@@ -57,7 +57,7 @@ impl<R: Read + Drop> Source for ReaderSource<R> {
         requires few { self.old.reads < 2 ^ 63 }
         ensures fits { IsReading result (length buffer.new) }
         ensures waits { result ≢ Reading.Nothing }
-        ensures answers { Consumes (R.remaining self.old.reader) (R.remaining self.new.reader) (bytes_of (answer_of result buffer.new)) }
+        ensures answers { Consumes (R.remaining self.old.reader) (R.remaining self.new.reader) (answer_bytes (answer_of result buffer.new)) }
         ensures end { result ≡ Reading.End → IsAtEnd (R.remaining self.new.reader) }
         ensures reads { self.new.reads ≡ self.old.reads + 1 }
         ensures ends { self.new.ends ≡ self.old.ends + read_ends result }

@@ -9,7 +9,7 @@ use Rattle.of_switch.specs.Loading.{config_of}
 use Rattle.of_replay.specs.declared.event_file.Ended.{Ended}
 use Rattle.of_check.specs.declared.finding.Finding.{Finding}
 use Rattle.of_check.specs.Findings.{Checks}
-use Rattle.of_check.specs.Files.{IsFound, tables_in}
+use Rattle.of_check.specs.Files.{IsFindingResult, tables_in}
 use Rattle.of_remarks.specs.declared.remark.Remark.{Remark}
 use Rattle.of_remarks.specs.Remarks.{remarks_on}
 use Rattle.of_report.specs.declared.reporting.Form.{Form}
@@ -18,22 +18,22 @@ use Rattle.of_report.specs.Report.{report_words, is_found}
 use Rattle.of_report.specs.Json.{report_json}
 
 -- in words, without the entries that win or with them, or as JSON
-abbrev pub report_text : Form → List (List ℕ) → List (List Flow) → List Finding → List Remark → List ℕ
-report_text Findings lines tables findings remarks = report_words false lines tables findings remarks
-report_text All lines tables findings remarks = report_words true lines tables findings remarks
-report_text Json lines tables findings remarks = report_json lines tables findings remarks
+abbrev pub check_report_text : Form → List (List ℕ) → List (List Flow) → List Finding → List Remark → List ℕ
+check_report_text Findings lines tables findings remarks = report_words false lines tables findings remarks
+check_report_text All lines tables findings remarks = report_words true lines tables findings remarks
+check_report_text Json lines tables findings remarks = report_json lines tables findings remarks
 
 -- the text of the report on these tables, after so many steps at most for each entry, and on this configuration, whose entries have these lines; and whether something was found
-abbrev pub IsReport : Result Bool Ended → ℕ → Form → List (List ℕ) → Tables → Configuration → List ℕ → Type 0
-IsReport result steps form lines ts c text =
-    (findings : List Finding) × Checks ts steps findings × (text ≡ report_text form lines c.tables findings (remarks_on c)) × IsFound result (is_found findings (remarks_on c))
+abbrev pub IsCheckReport : Result Bool Ended → ℕ → Form → List (List ℕ) → Tables → Configuration → List ℕ → Type 0
+IsCheckReport result steps form lines ts c text =
+    (findings : List Finding) × Checks ts steps findings × (text ≡ check_report_text form lines c.tables findings (remarks_on c)) × IsFindingResult result (is_found findings (remarks_on c))
 
 -- of a configuration, and of a switch
 abbrev pub report_in : Result Bool Ended → ℕ → Form → List (List ℕ) → Configuration → List ℕ → Type 0
-report_in result steps form lines c = IsReport result steps form lines (tables_in c) c
+report_in result steps form lines c = IsCheckReport result steps form lines (tables_in c) c
 
 abbrev pub report_on : Result Bool Ended → ℕ → Form → State → List ℕ → Type 0
-report_on result steps form s = IsReport result steps form [] s.core.forwarding.tables (config_of s)
+report_on result steps form s = IsCheckReport result steps form [] s.core.forwarding.tables (config_of s)
 
 -- as they lie in memory
 abbrev pub view_lines : List (Vec ℕ) → List (List ℕ)

@@ -21,13 +21,13 @@ abbrev pub line_member : Option ℕ → List ℕ
 line_member None = []
 line_member (Some n) = number_member (codes "line") n
 
-unfoldable pub flow_members : Option ℕ → Option Flow → List ℕ
-flow_members line None = []
-flow_members line (Some f) = line_member line ++ number_member (codes "priority") f.head.priority ++ 44 ∷ key (codes "match") ++ match_object f.fields
+unfoldable pub reported_flow_members : Option ℕ → Option Flow → List ℕ
+reported_flow_members line None = []
+reported_flow_members line (Some f) = line_member line ++ number_member (codes "priority") f.head.priority ++ 44 ∷ key (codes "match") ++ match_object f.fields
 
 unfoldable pub entry_members : List (List ℕ) → List (List Flow) → ℕ → ℕ → List ℕ
 entry_members lines tables table place =
-    key (codes "table") ++ decimal table ++ number_member (codes "entry") place ++ flow_members (line_at lines table place) (slice_get (flows_at tables table) place)
+    key (codes "table") ++ decimal table ++ number_member (codes "entry") place ++ reported_flow_members (line_at lines table place) (slice_get (flows_at tables table) place)
 
 unfoldable pub entry_object : List (List ℕ) → List (List Flow) → ℕ → ℕ → List ℕ
 entry_object lines tables table place = 123 ∷ entry_members lines tables table place ++ 125 ∷ []
@@ -91,8 +91,8 @@ summary_members findings =
 unfoldable pub summary_member : List Finding → List ℕ
 summary_member findings = 44 ∷ key (codes "summary") ++ 123 ∷ summary_members findings ++ 125 ∷ []
 
-unfoldable pub head_members : List Finding → List Remark → List ℕ
-head_members findings remarks = key (codes "command") ++ quoted (codes "check") ++ truth_member (codes "found") (is_found findings remarks) ++ summary_member findings
+unfoldable pub report_head_members : List Finding → List Remark → List ℕ
+report_head_members findings remarks = key (codes "command") ++ quoted (codes "check") ++ truth_member (codes "found") (is_found findings remarks) ++ summary_member findings
 
 unfoldable pub flows_member : List (List ℕ) → List (List Flow) → List Finding → List ℕ
 flows_member lines tables findings = 44 ∷ key (codes "flows") ++ 91 ∷ listed (finding_object lines tables) findings ++ 93 ∷ []
@@ -102,4 +102,4 @@ remarks_member lines tables remarks = 44 ∷ key (codes "remarks") ++ 91 ∷ lis
 
 unfoldable pub report_json : List (List ℕ) → List (List Flow) → List Finding → List Remark → List ℕ
 report_json lines tables findings remarks =
-    123 ∷ head_members findings remarks ++ flows_member lines tables findings ++ remarks_member lines tables remarks ++ 125 ∷ 10 ∷ []
+    123 ∷ report_head_members findings remarks ++ flows_member lines tables findings ++ remarks_member lines tables remarks ++ 125 ∷ 10 ∷ []

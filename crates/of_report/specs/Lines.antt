@@ -4,8 +4,8 @@ use Rattle.std.specs.Str.{bytes_eq}
 use Rattle.of_text.specs.Lines.{lines_of, before, behind}
 
 -- the first word of a line is `flow`, and the second one the number of the table
-abbrev pub begins_flow : ℕ → List ℕ → Bool
-begins_flow table line = bytes_eq (before 32 line) (codes "flow") && bytes_eq (before 32 (behind 32 line)) (decimal table)
+abbrev pub begins_flow_of_table : ℕ → List ℕ → Bool
+begins_flow_of_table table line = bytes_eq (before 32 line) (codes "flow") && bytes_eq (before 32 (behind 32 line)) (decimal table)
 
 abbrev pub number_if : Bool → ℕ → List ℕ
 number_if b n = if b then n ∷ [] else []
@@ -13,7 +13,7 @@ number_if b n = if b then n ∷ [] else []
 -- of these lines, before which there are n
 abbrev pub numbers_from : ℕ → ℕ → List (List ℕ) → List ℕ
 numbers_from table n [] = []
-numbers_from table n (line ∷ lines) = number_if (begins_flow table line) (n + 1) ++ numbers_from table (n + 1) lines
+numbers_from table n (line ∷ lines) = number_if (begins_flow_of_table table line) (n + 1) ++ numbers_from table (n + 1) lines
 
 -- A TABLE'S LINES: the one at place K begins its entry K, since entries are in the order of the text
 unfoldable pub flow_lines : ℕ → List ℕ → List ℕ

@@ -9,13 +9,13 @@ use Rattle.of_check.specs.declared.finding.Finding.{Finding}
 use Rattle.of_check.specs.declared.verdict.Verdict.{Verdict}
 use Rattle.of_check.specs.declared.verdict.Verdict.TheVariants.{Wins, Never, Open}
 use Rattle.of_check.specs.Text.{is_never}
-use Rattle.of_values.specs.Numbers.{hexadecimal, port}
+use Rattle.of_values.specs.Numbers.{hexadecimal, port_in_words}
 use Rattle.of_report.specs.Entries.{entry}
 
 -- ---- entries that never win, each with those that shadow it
 
-unfoldable pub reason_words : Bool → List ℕ
-reason_words tie =
+unfoldable pub tie_words : Bool → List ℕ
+tie_words tie =
     (if tie then codes " never wins (tie: OpenFlow does not say which of two entries of one priority wins): shadowed by" else codes " never wins: shadowed by")
     ++ 10 ∷ []
 
@@ -26,7 +26,7 @@ abbrev pub shadow_lines : List (List ℕ) → List (List Flow) → ℕ → List 
 shadow_lines lines tables table places = flat_map (shadow_line lines tables table) places
 
 unfoldable pub never_words : List (List ℕ) → List (List Flow) → ℕ → ℕ → Verdict → List ℕ
-never_words lines tables table place (Never by tie) = entry lines tables table place ++ reason_words tie ++ shadow_lines lines tables table by.items
+never_words lines tables table place (Never by tie) = entry lines tables table place ++ tie_words tie ++ shadow_lines lines tables table by.items
 never_words lines tables table place (Wins frame in_port metadata) = []
 never_words lines tables table place Open = []
 
@@ -39,11 +39,11 @@ open_words lines tables table place (Never by tie) = []
 
 -- ---- entries that win, each with a packet
 
-unfoldable pub packet_words : List ℕ → ℕ → ℕ → List ℕ
-packet_words frame in_port metadata = codes "in_port " ++ port in_port ++ codes ", metadata " ++ hexadecimal 1 metadata ++ codes ", frame " ++ encode_lower frame
+unfoldable pub reported_packet_words : List ℕ → ℕ → ℕ → List ℕ
+reported_packet_words frame in_port metadata = codes "in_port " ++ port_in_words in_port ++ codes ", metadata " ++ hexadecimal 1 metadata ++ codes ", frame " ++ encode_lower frame
 
 unfoldable pub win_words : List (List ℕ) → List (List Flow) → ℕ → ℕ → Verdict → List ℕ
-win_words lines tables table place (Wins frame in_port metadata) = entry lines tables table place ++ codes " wins: " ++ packet_words frame.items in_port metadata ++ 10 ∷ []
+win_words lines tables table place (Wins frame in_port metadata) = entry lines tables table place ++ codes " wins: " ++ reported_packet_words frame.items in_port metadata ++ 10 ∷ []
 win_words lines tables table place (Never by tie) = []
 win_words lines tables table place Open = []
 
@@ -53,20 +53,20 @@ of_findings words findings = flat_map (λ f. words f.table f.place f.verdict) fi
 
 -- ---- what is remarked of tables and groups
 
-abbrev pub table_words : ℕ → List ℕ
-table_words table = codes "table " ++ decimal table
+abbrev pub report_table_words : ℕ → List ℕ
+report_table_words table = codes "table " ++ decimal table
 
-abbrev pub group_words : ℕ → List ℕ
-group_words id = codes "group " ++ decimal id
+abbrev pub report_group_words : ℕ → List ℕ
+report_group_words id = codes "group " ++ decimal id
 
-unfoldable pub remark_words : List (List ℕ) → List (List Flow) → Remark → List ℕ
-remark_words lines tables (Unreachable table) = table_words table ++ codes " is unreachable: no goto leads to it from table 0"
-remark_words lines tables (NoTableMiss table) = table_words table ++ codes " has no table-miss entry: packets that match none of its entries are dropped"
-remark_words lines tables (EmptyGoto table place to) = entry lines tables table place ++ (codes " goes to table " ++ decimal to ++ codes ", which has no entries: its packets are dropped")
-remark_words lines tables (IngressOutput table place number) = entry lines tables table place ++ (codes " sends to port " ++ port number ++ codes ", the ingress port that its match requires: nothing leaves")
-remark_words lines tables (UnseenActions table place n) = entry lines tables table place ++ (codes " has at the end of its apply " ++ decimal n ++ codes " actions that nothing sees")
-remark_words lines tables (UnusedGroup id) = group_words id ++ codes " is unused: no entry and no group names it"
-remark_words lines tables (NoBuckets id) = group_words id ++ codes " has no buckets: packets end there"
+unfoldable pub reported_remark_words : List (List ℕ) → List (List Flow) → Remark → List ℕ
+reported_remark_words lines tables (Unreachable table) = report_table_words table ++ codes " is unreachable: no goto leads to it from table 0"
+reported_remark_words lines tables (NoTableMiss table) = report_table_words table ++ codes " has no table-miss entry: packets that match none of its entries are dropped"
+reported_remark_words lines tables (EmptyGoto table place to) = entry lines tables table place ++ (codes " goes to table " ++ decimal to ++ codes ", which has no entries: its packets are dropped")
+reported_remark_words lines tables (IngressOutput table place number) = entry lines tables table place ++ (codes " sends to port " ++ port_in_words number ++ codes ", the ingress port that its match requires: nothing leaves")
+reported_remark_words lines tables (UnseenActions table place n) = entry lines tables table place ++ (codes " has at the end of its apply " ++ decimal n ++ codes " actions that nothing sees")
+reported_remark_words lines tables (UnusedGroup id) = report_group_words id ++ codes " is unused: no entry and no group names it"
+reported_remark_words lines tables (NoBuckets id) = report_group_words id ++ codes " has no buckets: packets end there"
 
 abbrev pub says_unreachable : ℕ → Remark → Bool
 says_unreachable table (Unreachable other) = other == table
@@ -77,8 +77,8 @@ abbrev pub is_finding : List Remark → Remark → Bool
 is_finding remarks (NoTableMiss table) = not (table == 0) && not (list_any (says_unreachable table) remarks)
 is_finding remarks other = true
 
-unfoldable pub remark_line : Bool → List Remark → List (List ℕ) → List (List Flow) → Remark → List ℕ
-remark_line all remarks lines tables r = if all || is_finding remarks r then remark_words lines tables r ++ 10 ∷ [] else []
+unfoldable pub reported_remark_line : Bool → List Remark → List (List ℕ) → List (List Flow) → Remark → List ℕ
+reported_remark_line all remarks lines tables r = if all || is_finding remarks r then reported_remark_words lines tables r ++ 10 ∷ [] else []
 
 -- ---- the summary: `12 flows: 9 win, 3 never win, 0 undecided`
 
@@ -95,13 +95,13 @@ is_open (Never by tie) = false
 abbrev pub count : (Verdict → Bool) → List Finding → ℕ
 count is findings = length (filter (λ f. is f.verdict) findings)
 
-unfoldable pub counted : ℕ → List ℕ → List ℕ
-counted n words = decimal n ++ words
+unfoldable pub counted_words : ℕ → List ℕ → List ℕ
+counted_words n words = decimal n ++ words
 
 unfoldable pub summary : List Finding → List ℕ
 summary findings =
-    counted (length findings) (codes " flows: ") ++ counted (count is_win findings) (codes " win, ") ++ counted (count is_never findings) (codes " never win, ")
-    ++ counted (count is_open findings) (codes " undecided") ++ 10 ∷ []
+    counted_words (length findings) (codes " flows: ") ++ counted_words (count is_win findings) (codes " win, ") ++ counted_words (count is_never findings) (codes " never win, ")
+    ++ counted_words (count is_open findings) (codes " undecided") ++ 10 ∷ []
 
 -- ---- THE REPORT: on these findings and remarks, where entries have these lines, and tables these flows
 
@@ -111,7 +111,7 @@ wins_if all lines tables findings = if all then of_findings (win_words lines tab
 unfoldable pub report_words : Bool → List (List ℕ) → List (List Flow) → List Finding → List Remark → List ℕ
 report_words all lines tables findings remarks =
     of_findings (never_words lines tables) findings ++ of_findings (open_words lines tables) findings
-    ++ flat_map (remark_line all remarks lines tables) remarks ++ summary findings ++ wins_if all lines tables findings
+    ++ flat_map (reported_remark_line all remarks lines tables) remarks ++ summary findings ++ wins_if all lines tables findings
 
 -- SOMETHING IS FOUND: an entry that does not win, or a remark that is a finding
 abbrev pub is_found : List Finding → List Remark → Bool

@@ -2,7 +2,7 @@
 ghost use Rattle.std.specs.Prelude.{◌≡◌, ◌++◌, ◌∷◌, IfOk, OnOk};
 ghost use Rattle.std.specs.List.{flat_map};
 ghost use Rattle.of_json.specs.Parts.{listed};
-ghost use Rattle.of_report.specs.Json.{finding_object, flows_member, head_members, never_members, packet_members, remarks_member, report_json, shadows_member, summary_member, summary_members, truth_member, verdict_members};
+ghost use Rattle.of_report.specs.Json.{finding_object, flows_member, report_head_members, never_members, packet_members, remarks_member, report_json, shadows_member, summary_member, summary_members, truth_member, verdict_members};
 ghost use Rattle.of_report.specs.Files.{view_lines};
 
 use crate::counting::{count_open, count_shadowed, count_wins, is_found};
@@ -175,9 +175,9 @@ fn push_summary_member(out: &mut Vec<u8>, findings: &[Finding]) -> Result<(), Al
 }
 
 // Appends the members of a report that do not name entries.
-#[tactic(auto, unfolding(crate::specs::Json::head_members))]
+#[tactic(auto, unfolding(crate::specs::Json::report_head_members))]
 fn push_head(out: &mut Vec<u8>, findings: &[Finding], remarks: &[Remark]) -> Result<(), AllocError>
-    ensures { OnOk result (out.new.items ≡ out.old.items ++ head_members findings.now remarks.now) }
+    ensures { OnOk result (out.new.items ≡ out.old.items ++ report_head_members findings.now remarks.now) }
 {
     push_key(out, b"command")?;
     push_quoted(out, b"check")?;

@@ -3,7 +3,7 @@ ghost use Rattle.std.specs.Prelude.{◌≡◌, ◌++◌, ◌∷◌, Some, slice_
 ghost use Rattle.std.specs.List.{flat_map};
 ghost use Rattle.of_text.specs.Views.{view, view_flows};
 ghost use Rattle.of_json.specs.Parts.{listed};
-ghost use Rattle.of_report.specs.Json.{entry_array, entry_members, entry_object, flow_members, line_member};
+ghost use Rattle.of_report.specs.Json.{entry_array, entry_members, entry_object, reported_flow_members, line_member};
 ghost use Rattle.of_report.specs.Files.{view_lines};
 
 use crate::entries::{entries_of, line_at};
@@ -22,9 +22,9 @@ fn push_line(out: &mut Vec<u8>, line: Option<usize>) -> Result<(), AllocError>
 }
 
 // Appends what an entry is.
-#[tactic(auto, unfolding(crate::specs::Json::flow_members))]
+#[tactic(auto, unfolding(crate::specs::Json::reported_flow_members))]
 fn push_flow(out: &mut Vec<u8>, line: Option<usize>, flow: &FlowText) -> Result<(), AllocError>
-    ensures { OnOk result (out.new.items ≡ out.old.items ++ flow_members line (Some (view flow.now))) }
+    ensures { OnOk result (out.new.items ≡ out.old.items ++ reported_flow_members line (Some (view flow.now))) }
 {
     push_line(out, line)?;
     push_number_member(out, b"priority", u128::from(flow.head.priority))?;
@@ -34,14 +34,14 @@ fn push_flow(out: &mut Vec<u8>, line: Option<usize>, flow: &FlowText) -> Result<
 }
 
 // Appends what the entry at a place is, if there is one.
-#[tactic(auto, unfolding(crate::specs::Json::flow_members))]
+#[tactic(auto, unfolding(crate::specs::Json::reported_flow_members))]
 fn push_flow_at(
     out: &mut Vec<u8>,
     line: Option<usize>,
     flows: &[FlowText],
     place: usize,
 ) -> Result<(), AllocError>
-    ensures { OnOk result (out.new.items ≡ out.old.items ++ flow_members line (slice_get (view_flows flows.now) place)) }
+    ensures { OnOk result (out.new.items ≡ out.old.items ++ reported_flow_members line (slice_get (view_flows flows.now) place)) }
 {
     match flows.get(place) {
         None => Ok(()),

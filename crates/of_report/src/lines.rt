@@ -1,7 +1,7 @@
 //! The lines of flow entries in a flow text.
 ghost use Rattle.std.specs.Prelude.{◌≡◌, ◌++◌, IfOk, OnOk};
 ghost use Rattle.of_report.specs.Files.{view_lines};
-ghost use Rattle.of_report.specs.Lines.{begins_flow as is_flow_line, flow_lines as flow_lines_in, lines_below, number_if};
+ghost use Rattle.of_report.specs.Lines.{begins_flow_of_table as is_flow_line, flow_lines as flow_lines_in, lines_below, number_if};
 
 use itoa::Buffer;
 use of_text::{cut, is};

@@ -1,8 +1,8 @@
 //! Remarks in words.
 ghost use Rattle.std.specs.Prelude.{◌≡◌, ◌++◌, OnOk, decimal};
 ghost use Rattle.std.specs.List.{flat_map, list_any};
-ghost use Rattle.of_values.specs.Numbers.{port};
-ghost use Rattle.of_report.specs.Report.{group_words, is_finding as is_finding_among, remark_line, remark_words, says_unreachable as is_saying_unreachable, table_words};
+ghost use Rattle.of_values.specs.Numbers.{port_in_words};
+ghost use Rattle.of_report.specs.Report.{report_group_words, is_finding as is_finding_among, reported_remark_line, reported_remark_words, says_unreachable as is_saying_unreachable, report_table_words};
 ghost use Rattle.of_report.specs.Files.{view_lines};
 
 use crate::entries::push_entry;
@@ -38,21 +38,21 @@ pub fn is_finding(remarks: &[Remark], remark: &Remark) -> bool
 }
 
 fn push_table(out: &mut Vec<u8>, table: u8) -> Result<(), AllocError>
-    ensures { OnOk result (out.new.items ≡ out.old.items ++ table_words table) }
+    ensures { OnOk result (out.new.items ≡ out.old.items ++ report_table_words table) }
 {
     out.extend_from_slice(b"table ")?;
     push_decimal(out, u128::from(table))
 }
 
 fn push_group(out: &mut Vec<u8>, id: u32) -> Result<(), AllocError>
-    ensures { OnOk result (out.new.items ≡ out.old.items ++ group_words id) }
+    ensures { OnOk result (out.new.items ≡ out.old.items ++ report_group_words id) }
 {
     out.extend_from_slice(b"group ")?;
     push_decimal(out, u128::from(id))
 }
 
 fn push_of_table(out: &mut Vec<u8>, table: u8, words: &[u8]) -> Result<(), AllocError>
-    ensures { OnOk result (out.new.items ≡ out.old.items ++ (table_words table ++ words.now)) }
+    ensures { OnOk result (out.new.items ≡ out.old.items ++ (report_table_words table ++ words.now)) }
 {
     push_table(out, table)?;
     out.extend_from_slice(words)?;
@@ -60,7 +60,7 @@ fn push_of_table(out: &mut Vec<u8>, table: u8, words: &[u8]) -> Result<(), Alloc
 }
 
 fn push_of_group(out: &mut Vec<u8>, id: u32, words: &[u8]) -> Result<(), AllocError>
-    ensures { OnOk result (out.new.items ≡ out.old.items ++ (group_words id ++ words.now)) }
+    ensures { OnOk result (out.new.items ≡ out.old.items ++ (report_group_words id ++ words.now)) }
 {
     push_group(out, id)?;
     out.extend_from_slice(words)?;
@@ -89,7 +89,7 @@ fn push_around_port(
     number: u128,
     after: &[u8],
 ) -> Result<(), AllocError>
-    ensures { OnOk result (out.new.items ≡ out.old.items ++ (before.now ++ port number ++ after.now)) }
+    ensures { OnOk result (out.new.items ≡ out.old.items ++ (before.now ++ port_in_words number ++ after.now)) }
 {
     out.extend_from_slice(before)?;
     push_port(out, number)?;
@@ -98,14 +98,14 @@ fn push_around_port(
 }
 
 // Appends a remark.
-#[tactic(auto, unfolding(crate::specs::Report::remark_words))]
+#[tactic(auto, unfolding(crate::specs::Report::reported_remark_words))]
 fn push_remark(
     out: &mut Vec<u8>,
     config: &Config,
     lines: &[Vec<usize>],
     remark: &Remark,
 ) -> Result<(), AllocError>
-    ensures { OnOk result (out.new.items ≡ out.old.items ++ remark_words (view_lines lines.now) config.now.tables remark.now) }
+    ensures { OnOk result (out.new.items ≡ out.old.items ++ reported_remark_words (view_lines lines.now) config.now.tables remark.now) }
 {
     match *remark {
         Remark::Unreachable { table } => {
@@ -161,7 +161,7 @@ fn push_remark(
 }
 
 // Appends the line of a remark, if it is a finding or all are asked for.
-#[tactic(auto, unfolding(crate::specs::Report::remark_line))]
+#[tactic(auto, unfolding(crate::specs::Report::reported_remark_line))]
 fn push_line(
     out: &mut Vec<u8>,
     config: &Config,
@@ -170,7 +170,7 @@ fn push_line(
     remarks: &[Remark],
     remark: &Remark,
 ) -> Result<(), AllocError>
-    ensures { OnOk result (out.new.items ≡ out.old.items ++ remark_line all remarks.now (view_lines lines.now) config.now.tables remark.now) }
+    ensures { OnOk result (out.new.items ≡ out.old.items ++ reported_remark_line all remarks.now (view_lines lines.now) config.now.tables remark.now) }
 {
     if all || is_finding(remarks, remark) {
         push_remark(out, config, lines, remark)?;
@@ -187,7 +187,8 @@ pub fn push_remarks(
     all: bool,
     remarks: &[Remark],
 ) -> Result<(), AllocError>
-    ensures { OnOk result (out.new.items ≡ out.old.items ++ flat_map (remark_line all remarks.now (view_lines lines.now) config.now.tables) remarks.now) }
+    ensures { OnOk result (out.new.items ≡
+        out.old.items ++ flat_map (reported_remark_line all remarks.now (view_lines lines.now) config.now.tables) remarks.now) }
 {
     for remark in remarks {
         push_line(out, config, lines, all, remarks, remark)?;

@@ -1,6 +1,6 @@
 //! The report in words.
 ghost use Rattle.std.specs.Prelude.{◌≡◌, ◌++◌, IfOk, OnOk};
-ghost use Rattle.of_report.specs.Report.{counted, report_words, summary, wins_if};
+ghost use Rattle.of_report.specs.Report.{counted_words, report_words, summary, wins_if};
 ghost use Rattle.of_report.specs.Files.{view_lines};
 
 use crate::counting::{count_open, count_shadowed, count_wins};
@@ -12,9 +12,9 @@ use of_text::Config;
 use of_values::push_decimal;
 use std::alloc::{AllocError, Global};
 
-#[tactic(auto, unfolding(crate::specs::Report::counted))]
+#[tactic(auto, unfolding(crate::specs::Report::counted_words))]
 fn push_count(out: &mut Vec<u8>, number: usize, words: &[u8]) -> Result<(), AllocError>
-    ensures { OnOk result (out.new.items ≡ out.old.items ++ counted number words.now) }
+    ensures { OnOk result (out.new.items ≡ out.old.items ++ counted_words number words.now) }
 {
     push_decimal(out, number as u128)?;
     out.extend_from_slice(words)

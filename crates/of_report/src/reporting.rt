@@ -1,7 +1,7 @@
 //! The report on the flow tables of a switch.
 ghost use Rattle.std.specs.Prelude.{◌≡◌, ◌<◌, ◌↔◌, IfOk};
 ghost use Rattle.of_replay.specs.FileRuns.{Writes, ended_as};
-ghost use Rattle.of_report.specs.Files.{IsReport, report_text, view_lines};
+ghost use Rattle.of_report.specs.Files.{IsCheckReport, check_report_text, view_lines};
 
 use crate::counting::is_found;
 use crate::json::json_of;
@@ -34,7 +34,7 @@ fn text_of(
     findings: &[Finding],
     remarks: &[Remark],
 ) -> Result<Vec<u8>, AllocError>
-    ensures { IfOk result (λ text. text.items ≡ report_text form (view_lines lines.now) config.now.tables findings.now remarks.now) }
+    ensures { IfOk result (λ text. text.items ≡ check_report_text form (view_lines lines.now) config.now.tables findings.now remarks.now) }
 {
     match form {
         Form::Findings => words_of(alloc, false, config, lines, findings, remarks),
@@ -57,7 +57,7 @@ pub fn write_report<L: Lookup, W: Sink>(
     writer: &mut W,
 ) -> Result<bool, Ended>
     requires { W.failures writer.old ≡ 0 }
-    ensures output { Writes (IsReport result steps form (view_lines lines.now) switch.now.core.forwarding.tables config.now) (ended_as result)
+    ensures output { Writes (IsCheckReport result steps form (view_lines lines.now) switch.now.core.forwarding.tables config.now) (ended_as result)
         (W.taken writer.old) (W.taken writer.new) }
     ensures write_fault { (ended_as result ≡ Ended.WriteFault) ↔ (0 < W.failures writer.new) }
 {

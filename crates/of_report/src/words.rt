@@ -1,6 +1,6 @@
 //! Findings in words.
 ghost use Rattle.std.specs.Prelude.{◌≡◌, ◌++◌, ◌∷◌, OnOk};
-ghost use Rattle.of_report.specs.Report.{never_words, of_findings, open_words, packet_words, reason_words, shadow_line, shadow_lines, win_words};
+ghost use Rattle.of_report.specs.Report.{never_words, of_findings, open_words, reported_packet_words, tie_words, shadow_line, shadow_lines, win_words};
 ghost use Rattle.of_report.specs.Files.{view_lines};
 
 use crate::entries::push_entry;
@@ -11,9 +11,9 @@ use of_values::{push_hexadecimal, push_port};
 use std::alloc::{AllocError, Global};
 
 // Appends that an entry never wins.
-#[tactic(auto, unfolding(crate::specs::Report::reason_words))]
+#[tactic(auto, unfolding(crate::specs::Report::tie_words))]
 fn push_reason(out: &mut Vec<u8>, tie: bool) -> Result<(), AllocError>
-    ensures { OnOk result (out.new.items ≡ out.old.items ++ reason_words tie) }
+    ensures { OnOk result (out.new.items ≡ out.old.items ++ tie_words tie) }
 {
     if tie {
         out.extend_from_slice(
@@ -100,7 +100,7 @@ fn push_open(
 }
 
 // Appends the packet with which an entry wins.
-#[tactic(auto, unfolding(crate::specs::Report::packet_words))]
+#[tactic(auto, unfolding(crate::specs::Report::reported_packet_words))]
 fn push_packet(
     alloc: Global,
     out: &mut Vec<u8>,
@@ -108,7 +108,7 @@ fn push_packet(
     in_port: u32,
     metadata: u64,
 ) -> Result<(), AllocError>
-    ensures { OnOk result (out.new.items ≡ out.old.items ++ packet_words frame.now in_port metadata) }
+    ensures { OnOk result (out.new.items ≡ out.old.items ++ reported_packet_words frame.now in_port metadata) }
 {
     out.extend_from_slice(b"in_port ")?;
     push_port(out, u128::from(in_port))?;

@@ -3,15 +3,15 @@ use Rattle.std.proofs.lemmas.List.{append_assoc, append-nil, length-append}
 use Rattle.std.proofs.Common.{◌≡◌, ℕ, ◌+◌, ◌^◌, ◌<◌, ◌≤◌, List, [], ◌∷◌, ◌++◌, length, Result, Ok, Err, refl, sym, ap, subst, ◌∙◌, arith}
 use Rattle.std.specs.Prelude.{IfOk, OnOk}
 use Rattle.std.specs.declared.alloc.AllocError.{AllocError}
-use Rattle.of_messages.specs.Written.{IsMessage, header, message}
+use Rattle.of_messages.specs.Written.{IsMessage, message_header, message}
 use Rattle.of_messages.specs.declared.message.Message.{Message}
 use Rattle.of_messages.specs.declared.message.Message.TheVariants.{Hello, Error, EchoRequest, EchoReply, FeaturesRequest, GetConfigRequest, SetConfig, PacketOut as IsPacketOut, FlowMod as IsFlowMod, GroupMod as IsGroupMod, PortMod as IsPortMod, TableMod as IsTableMod, Multipart, BarrierRequest, RoleRequest as IsRoleRequest, GetAsyncRequest, SetAsync}
 use Rattle.of_messages.proofs.Lengths.{is_message}
-use Rattle.of_laws.specs.Cells.{Cell, byte, u16, u32, Begins, Fits, canonical_cells}
-use Rattle.of_laws.specs.Grammar.{type, version, cells, Tail, IsValid, Encodes}
+use Rattle.of_laws.specs.Cells.{StructCell, byte, u16_cell, u32_cell, Begins, FitsCells, canonical_cells}
+use Rattle.of_laws.specs.Grammar.{type, version, message_cells, Tail, IsValid, Encodes}
 use Rattle.of_laws.proofs.Places.{size}
 use Rattle.of_laws.proofs.Writings.{fronted, length-encoding}
-use Rattle.of_requests.specs.Canonical.{canonical, canonical_tail}
+use Rattle.of_requests.specs.Canonical.{canonical_message, canonical_tail}
 use Rattle.of_requests.specs.Written.{IsWritten}
 
 type_fits : (m : Message) → type m < 256
@@ -34,53 +34,53 @@ type_fits GetAsyncRequest = omega arith
 type_fits (SetAsync masks) = omega arith
 
 -- each message may have version 4
-any_version : (m : Message) (cs : List Cell) (bytes rest : List ℕ) → Begins (byte 4 ∷ cs) bytes rest → Begins (version m ∷ cs) bytes rest
+any_version : (m : Message) (cs : List StructCell) (bytes rest : List ℕ) → Begins (byte 4 ∷ cs) bytes rest → Begins (version m ∷ cs) bytes rest
 any_version Hello cs bytes rest h = (h.0, tt, h.2)
 any_version other cs bytes rest h = h
 
 -- what a writer has to know of a message: that n bytes follow its header, and that these are such as the grammar asks for
 pub record Parts (m : Message) (xid n : ℕ) : Type 0 where
-  pub total : n ≡ size (cells m) + length (canonical_tail m)
+  pub total : n ≡ size (message_cells m) + length (canonical_tail m)
   pub short : n ≤ 65527
   pub xid_fits : xid < 256 ^ 4
-  pub fits : Fits (cells m)
+  pub fits : FitsCells (message_cells m)
   pub behind : Tail m (canonical_tail m)
   pub valid : IsValid m
 
 -- what follows the header
 abbrev pub body : Message → List ℕ
-body m = canonical_cells (cells m) ++ canonical_tail m
+body m = canonical_cells (message_cells m) ++ canonical_tail m
 
 length-body : (m : Message) (xid n : ℕ) → Parts m xid n → n ≡ length (body m)
-length-body m xid n p = omega (arith, p.total, length-append (canonical_cells (cells m)) (canonical_tail m), length-encoding (cells m) p.fits)
+length-body m xid n p = omega (arith, p.total, length-append (canonical_cells (message_cells m)) (canonical_tail m), length-encoding (message_cells m) p.fits)
 
-canonical_encoded : (m : Message) (xid n : ℕ) → Parts m xid n → Encodes xid m (canonical xid m)
-unfolding canonical
+canonical_encoded : (m : Message) (xid n : ℕ) → Parts m xid n → Encodes xid m (canonical_message xid m)
+unfolding canonical_message
 canonical_encoded m xid n p =
-    let front = fronted (type m) xid (cells m) (body m) (canonical_tail m) refl (type_fits m) p.xid_fits p.fits (omega (arith, length-body m xid n p, p.short)) in
-    record { tail = canonical_tail m; front = any_version m (byte (type m) ∷ u16 (length (canonical xid m)) ∷ u32 xid ∷ cells m) (canonical xid m) (canonical_tail m) front; behind = p.behind; valid = p.valid }
+    let front = fronted (type m) xid (message_cells m) (body m) (canonical_tail m) refl (type_fits m) p.xid_fits p.fits (omega (arith, length-body m xid n p, p.short)) in
+    record { tail = canonical_tail m; front = any_version m (byte (type m) ∷ u16_cell (length (canonical_message xid m)) ∷ u32_cell xid ∷ message_cells m) (canonical_message xid m) (canonical_tail m) front; behind = p.behind; valid = p.valid }
 
-pub whole_written : (m : Message) (xid n : ℕ) (bytes : List ℕ) → bytes ≡ header (type m) (8 + n) xid ++ body m → Parts m xid n → IsWritten xid m bytes
-unfolding canonical
+pub whole_written : (m : Message) (xid n : ℕ) (bytes : List ℕ) → bytes ≡ message_header (type m) (8 + n) xid ++ body m → Parts m xid n → IsWritten xid m bytes
+unfolding canonical_message
 whole_written m xid n bytes whole p =
-    let text : bytes ≡ canonical xid m = whole ∙ ap (λ (k : ℕ). header (type m) (8 + k) xid ++ body m) (length-body m xid n p) in
+    let text : bytes ≡ canonical_message xid m = whole ∙ ap (λ (k : ℕ). message_header (type m) (8 + k) xid ++ body m) (length-body m xid n p) in
     record { text = text; encoded = subst (λ (b : List ℕ). Encodes xid m b) (sym text) (canonical_encoded m xid n p) }
 
-pub front_written : (m : Message) (xid n : ℕ) (front bytes : List ℕ) → front ≡ header (type m) (8 + n) xid → bytes ≡ front ++ body m → Parts m xid n → IsWritten xid m bytes
+pub front_written : (m : Message) (xid n : ℕ) (front bytes : List ℕ) → front ≡ message_header (type m) (8 + n) xid → bytes ≡ front ++ body m → Parts m xid n → IsWritten xid m bytes
 front_written m xid n front bytes head rest p = whole_written m xid n bytes (rest ∙ ap (λ (x : List ℕ). x ++ body m) head) p
 
 -- and it is one message, of which the header says the length
 pub is_one_message : (m : Message) (xid : ℕ) (bytes : List ℕ) → IsWritten xid m bytes → IsMessage bytes
-unfolding canonical
+unfolding canonical_message
 is_one_message m xid bytes w =
     let fits : length bytes < 256 ^ 2 = w.encoded.front.2.2.1.0 in
     let total : length bytes ≡ length (message (type m) xid (body m)) = ap length w.text in
     subst (λ (b : List ℕ). IsMessage b) (sym w.text) (is_message (type m) xid (body m) (omega (arith, fits, total)))
 
 -- a message that ends with its fields
-pub fields_written : (m : Message) (xid n : ℕ) (front bytes : List ℕ) → front ≡ header (type m) (8 + n) xid → bytes ≡ front ++ canonical_cells (cells m) → canonical_tail m ≡ [] → Parts m xid n → IsWritten xid m bytes
+pub fields_written : (m : Message) (xid n : ℕ) (front bytes : List ℕ) → front ≡ message_header (type m) (8 + n) xid → bytes ≡ front ++ canonical_cells (message_cells m) → canonical_tail m ≡ [] → Parts m xid n → IsWritten xid m bytes
 fields_written m xid n front bytes head fields none p =
-    let more : body m ≡ canonical_cells (cells m) = ap (λ (t : List ℕ). canonical_cells (cells m) ++ t) none ∙ append-nil (canonical_cells (cells m)) in
+    let more : body m ≡ canonical_cells (message_cells m) = ap (λ (t : List ℕ). canonical_cells (message_cells m) ++ t) none ∙ append-nil (canonical_cells (message_cells m)) in
     front_written m xid n front bytes head (fields ∙ ap (λ (x : List ℕ). front ++ x) (sym more)) p
 
 -- ---- pieces, one after the other

@@ -19,7 +19,7 @@ use Rattle.of_groups.specs.Buckets.{are_fit, fresh, is_fit}
 use Rattle.of_groups.specs.declared.bucket.Bucket.{Bucket}
 use Rattle.of_messages.specs.CanonicalGroups.{canonical_buckets, has_numbers}
 use Rattle.of_messages.specs.Messages.{is_delete}
-use Rattle.of_messages.specs.Written.{header, message, flow_mod_bytes}
+use Rattle.of_messages.specs.Written.{message_header, message, flow_mod_bytes}
 use Rattle.of_messages.specs.declared.group_mod.NewGroup.{NewGroup}
 use Rattle.of_messages.specs.declared.group_mod.GroupMod.TheVariants as group
 use Rattle.of_messages.specs.declared.message.FlowMod.{FlowMod}
@@ -33,14 +33,14 @@ use Rattle.of_messages.specs.declared.multipart.FlowStatsRequest.{FlowStatsReque
 use Rattle.of_messages.specs.declared.multipart.MultipartRequest.TheVariants.{Flow, Aggregate, PortStats, Group}
 use Rattle.of_messages.proofs.BucketsWritten.{buckets_short}
 use Rattle.of_laws.specs.Buckets.{AreBuckets}
-use Rattle.of_laws.specs.Cells.{u16, u32, even, pad, Fits, canonical_cells}
+use Rattle.of_laws.specs.Cells.{u16_cell, u32_cell, even, pad, FitsCells, canonical_cells}
 use Rattle.of_laws.specs.Grammar.{IsData, IsValidData, IsValidFlowMod, IsValidNumber, MayName, Encodes, buffer_of, deletes, flow_mod_cells, group_cells}
 use Rattle.of_laws.specs.Requests.{BeginsMatch, IsOne, flows_cells, or_all}
 use Rattle.of_laws.proofs.FoundLarge.{frame_fits, ingress}
 use Rattle.of_laws.proofs.FoundSmall.{named}
 use Rattle.of_laws.proofs.Writings.{written}
 use Rattle.of_laws.proofs.WrittenRequests.{beginning_is, buckets_encoded, flow_mod_encoded}
-use Rattle.of_requests.specs.Canonical.{canonical, frame_of}
+use Rattle.of_requests.specs.Canonical.{canonical_message, packet_data_bytes}
 use Rattle.of_requests.specs.Sound.{counts_nothing, has_no_instructions, is_one, is_sound, is_sound_command, is_sound_group, is_sound_number, is_sound_packet}
 use Rattle.of_requests.specs.Written.{IsWritten}
 use Rattle.of_requests.proofs.Written.{Parts, body, fields_written, six, three, whole_written}
@@ -67,25 +67,25 @@ data_valid (Buffered number) h = by_test (eqb number 0xffffffff) refl h
     by_test false is e = eqb-false _ _ is
 data_valid (Frame frame) h = frame_fits frame h
 
-data_is : (d : PacketData) → IsData d (frame_of d)
+data_is : (d : PacketData) → IsData d (packet_data_bytes d)
 data_is (Buffered number) = tt
 data_is (Frame frame) = refl
 
-pub packet_out_parts : (m : PacketOut) (xid : ℕ) → xid < 256 ^ 4 → buffer_of m.packet < 256 ^ 4 → m.in_port < 256 ^ 4 → length (canonical_actions m.actions) ≤ 1536 → length (frame_of m.packet) ≤ 9216
-    → AreActions true [] (canonical_actions m.actions) m.actions None → is_sound (IsPacketOut m) ≡ true → Parts (IsPacketOut m) xid (16 + length (canonical_actions m.actions) + length (frame_of m.packet))
+pub packet_out_parts : (m : PacketOut) (xid : ℕ) → xid < 256 ^ 4 → buffer_of m.packet < 256 ^ 4 → m.in_port < 256 ^ 4 → length (canonical_actions m.actions) ≤ 1536 → length (packet_data_bytes m.packet) ≤ 9216
+    → AreActions true [] (canonical_actions m.actions) m.actions None → is_sound (IsPacketOut m) ≡ true → Parts (IsPacketOut m) xid (16 + length (canonical_actions m.actions) + length (packet_data_bytes m.packet))
 packet_out_parts m xid x buffer port few short are sound =
     let actions = canonical_actions m.actions in
-    let frame = frame_of m.packet in
+    let frame = packet_data_bytes m.packet in
     record {
       total = omega (arith, length-append actions frame);
       short = omega arith;
       xid_fits = x;
       fits = (buffer, (port, tt));
-      behind = record { actions = actions; packet = frame; front = written (u16 (length actions) ∷ pad 6 ∷ []) (actions ++ frame) (omega arith, tt); are = are; is = data_is m.packet };
+      behind = record { actions = actions; packet = frame; front = written (u16_cell (length actions) ∷ pad 6 ∷ []) (actions ++ frame) (omega arith, tt); are = are; is = data_is m.packet };
       valid = (ingress m.in_port (first _ _ sound), data_valid m.packet (second _ _ sound));
     }
 
-pub packet_out_text : (m : PacketOut) (front s t u v w bytes actions frame : List ℕ) (buffer len : ℕ) → buffer ≡ buffer_of m.packet → len ≡ length actions → actions ≡ canonical_actions m.actions → frame ≡ frame_of m.packet
+pub packet_out_text : (m : PacketOut) (front s t u v w bytes actions frame : List ℕ) (buffer len : ℕ) → buffer ≡ buffer_of m.packet → len ≡ length actions → actions ≡ canonical_actions m.actions → frame ≡ packet_data_bytes m.packet
     → s ≡ front ++ big_bytes 4 buffer → t ≡ s ++ big_bytes 4 m.in_port → u ≡ t ++ big_bytes 2 len → v ≡ u ++ replicate 6 0 → w ≡ v ++ actions → bytes ≡ w ++ frame → bytes ≡ front ++ body (IsPacketOut m)
 packet_out_text m front s t u v w bytes actions frame buffer len eb el ea ef p q r p' q' r' =
     let whole = six front s t u v w bytes (big_bytes 4 buffer) (big_bytes 4 m.in_port) (big_bytes 2 len) (replicate 6 0) actions frame p q r p' q' r' in
@@ -123,8 +123,8 @@ command_sound m false h =
 low_flags : (n : ℕ) → ltb n 32 ≡ true → n < 32
 low_flags n h = grind (arith, nat_tests)
 
-pub flow_mod_written : (m : FlowMod) (xid : ℕ) (bytes : List ℕ) → xid < 256 ^ 4 → Fits (flow_mod_cells m) → IsMatch m.fields → are_kept m.instructions ≡ true → is_sound (IsFlowMod m) ≡ true → bytes ≡ flow_mod_bytes xid m → IsWritten xid (IsFlowMod m) bytes
-unfolding canonical
+pub flow_mod_written : (m : FlowMod) (xid : ℕ) (bytes : List ℕ) → xid < 256 ^ 4 → FitsCells (flow_mod_cells m) → IsMatch m.fields → are_kept m.instructions ≡ true → is_sound (IsFlowMod m) ≡ true → bytes ≡ flow_mod_bytes xid m → IsWritten xid (IsFlowMod m) bytes
+unfolding canonical_message
 flow_mod_written m xid bytes x fits match kept sound is =
     let tests : (is_sound_command (is_delete m.command) m && ltb m.flags 32) ≡ true = first _ _ sound in
     let command = command_sound m (deletes m.command) (ap (λ (b : Bool). is_sound_command b m) (sym (delete_same m.command)) ∙ first _ _ tests) in
@@ -148,7 +148,7 @@ all_fresh (b ∷ bs) h =
 
 -- what is written of a group, by the command
 abbrev pub group_text : ℕ → ℕ → NewGroup → List ℕ
-group_text command xid g = header 15 (8 + (8 + length (canonical_buckets g.buckets))) xid ++ (canonical_cells (group_cells command g) ++ canonical_buckets g.buckets)
+group_text command xid g = message_header 15 (8 + (8 + length (canonical_buckets g.buckets))) xid ++ (canonical_cells (group_cells command g) ++ canonical_buckets g.buckets)
 
 -- what holds of it
 pub record Grouped (g : NewGroup) : Type 0 where
@@ -169,13 +169,13 @@ grouped g numbers fit sound =
       are = subst (λ (bs : List Bucket). AreBuckets bs (canonical_buckets g.buckets)) (all_fresh g.buckets (second (leb g.id OFPG_MAX) (list_all counts_nothing g.buckets) sound)) (buckets_encoded g.buckets numbers all);
     }
 
-pub add_written : (g : NewGroup) (xid : ℕ) (bytes : List ℕ) → xid < 256 ^ 4 → Fits (group_cells 0 g) → Grouped g → bytes ≡ group_text 0 xid g → IsWritten xid (IsGroupMod (group.Add g)) bytes
+pub add_written : (g : NewGroup) (xid : ℕ) (bytes : List ℕ) → xid < 256 ^ 4 → FitsCells (group_cells 0 g) → Grouped g → bytes ≡ group_text 0 xid g → IsWritten xid (IsGroupMod (group.Add g)) bytes
 add_written g xid bytes x fits h is =
     let short = h.short in
     whole_written (IsGroupMod (group.Add g)) xid (8 + length (canonical_buckets g.buckets)) bytes is
     (record { total = refl; short = omega arith; xid_fits = x; fits = fits; behind = h.are; valid = (h.id, h.few) })
 
-pub modify_written : (g : NewGroup) (xid : ℕ) (bytes : List ℕ) → xid < 256 ^ 4 → Fits (group_cells 1 g) → Grouped g → bytes ≡ group_text 1 xid g → IsWritten xid (IsGroupMod (group.Modify g)) bytes
+pub modify_written : (g : NewGroup) (xid : ℕ) (bytes : List ℕ) → xid < 256 ^ 4 → FitsCells (group_cells 1 g) → Grouped g → bytes ≡ group_text 1 xid g → IsWritten xid (IsGroupMod (group.Modify g)) bytes
 modify_written g xid bytes x fits h is =
     let short = h.short in
     whole_written (IsGroupMod (group.Modify g)) xid (8 + length (canonical_buckets g.buckets)) bytes is
@@ -191,14 +191,14 @@ begins_match r match = record { front = canonical_match r.fields; rest = []; who
 
 -- what is written of a request for flows
 abbrev pub flows_text : ℕ → ℕ → FlowStatsRequest → List ℕ
-flows_text number xid r = header 18 (8 + (40 + length (canonical_match r.fields))) xid ++ (canonical_cells (u16 number ∷ even 2 ∷ pad 4 ∷ flows_cells r) ++ canonical_match r.fields)
+flows_text number xid r = message_header 18 (8 + (40 + length (canonical_match r.fields))) xid ++ (canonical_cells (u16_cell number ∷ even 2 ∷ pad 4 ∷ flows_cells r) ++ canonical_match r.fields)
 
-pub flow_written : (r : FlowStatsRequest) (xid : ℕ) (bytes : List ℕ) → xid < 256 ^ 4 → Fits (flows_cells r) → IsMatch r.fields → is_sound (Multipart (Flow r)) ≡ true → bytes ≡ flows_text 1 xid r → IsWritten xid (Multipart (Flow r)) bytes
+pub flow_written : (r : FlowStatsRequest) (xid : ℕ) (bytes : List ℕ) → xid < 256 ^ 4 → FitsCells (flows_cells r) → IsMatch r.fields → is_sound (Multipart (Flow r)) ≡ true → bytes ≡ flows_text 1 xid r → IsWritten xid (Multipart (Flow r)) bytes
 flow_written r xid bytes x fits match sound is =
     whole_written (Multipart (Flow r)) xid (40 + length (canonical_match r.fields)) bytes is
     (record { total = refl; short = flows_total r (canonical_short r.fields match.rising); xid_fits = x; fits = (omega arith, fits); behind = begins_match r match; valid = named r.table sound })
 
-pub aggregate_written : (r : FlowStatsRequest) (xid : ℕ) (bytes : List ℕ) → xid < 256 ^ 4 → Fits (flows_cells r) → IsMatch r.fields → is_sound (Multipart (Aggregate r)) ≡ true → bytes ≡ flows_text 2 xid r → IsWritten xid (Multipart (Aggregate r)) bytes
+pub aggregate_written : (r : FlowStatsRequest) (xid : ℕ) (bytes : List ℕ) → xid < 256 ^ 4 → FitsCells (flows_cells r) → IsMatch r.fields → is_sound (Multipart (Aggregate r)) ≡ true → bytes ≡ flows_text 2 xid r → IsWritten xid (Multipart (Aggregate r)) bytes
 aggregate_written r xid bytes x fits match sound is =
     whole_written (Multipart (Aggregate r)) xid (40 + length (canonical_match r.fields)) bytes is
     (record { total = refl; short = flows_total r (canonical_short r.fields match.rising); xid_fits = x; fits = (omega arith, fits); behind = begins_match r match; valid = named r.table sound })
@@ -217,7 +217,7 @@ or_same all None = refl
 or_same all (Some number) = refl
 
 abbrev pub asked_text : ℕ → ℕ → ℕ → List ℕ
-asked_text number xid asked = header 18 24 xid ++ canonical_cells (u16 number ∷ even 2 ∷ pad 4 ∷ u32 asked ∷ pad 4 ∷ [])
+asked_text number xid asked = message_header 18 24 xid ++ canonical_cells (u16_cell number ∷ even 2 ∷ pad 4 ∷ u32_cell asked ∷ pad 4 ∷ [])
 
 pub port_written : (which : Option ℕ) (xid asked : ℕ) (bytes : List ℕ) → xid < 256 ^ 4 → asked < 256 ^ 4 → is_sound (Multipart (PortStats which)) ≡ true → asked ≡ unwrap_or which 0xffffffff → bytes ≡ asked_text 4 xid asked → IsWritten xid (Multipart (PortStats which)) bytes
 port_written which xid asked bytes x fits sound e is =
@@ -237,10 +237,10 @@ number_valid : (which : Option ℕ) → is_sound_number which ≡ true → IsVal
 number_valid None h = tt
 number_valid (Some number) h = grind (arith, nat_tests)
 
-pub delete_written : (which : Option ℕ) (xid number : ℕ) (front s t bytes : List ℕ) → xid < 256 ^ 4 → number < 256 ^ 4 → is_sound_number which ≡ true → number ≡ unwrap_or which 0xfffffffc → front ≡ header 15 16 xid
+pub delete_written : (which : Option ℕ) (xid number : ℕ) (front s t bytes : List ℕ) → xid < 256 ^ 4 → number < 256 ^ 4 → is_sound_number which ≡ true → number ≡ unwrap_or which 0xfffffffc → front ≡ message_header 15 16 xid
     → s ≡ front ++ big_bytes 2 2 → t ≡ s ++ big_bytes 2 0 → bytes ≡ t ++ big_bytes 4 number → IsWritten xid (IsGroupMod (group.Delete which)) bytes
 delete_written which xid number front s t bytes x fits sound e head p q r =
     let same : number ≡ or_all OFPG_ALL which = e ∙ or_same OFPG_ALL which in
     let text = three front s t bytes (big_bytes 2 2) (big_bytes 2 0) (big_bytes 4 number) p q r in
-    fields_written (IsGroupMod (group.Delete which)) xid 8 front bytes head (text ∙ ap (λ (n : ℕ). front ++ canonical_cells (u16 2 ∷ pad 2 ∷ u32 n ∷ [])) same) refl
+    fields_written (IsGroupMod (group.Delete which)) xid 8 front bytes head (text ∙ ap (λ (n : ℕ). front ++ canonical_cells (u16_cell 2 ∷ pad 2 ∷ u32_cell n ∷ [])) same) refl
     (record { total = refl; short = omega arith; xid_fits = x; fits = (omega arith, (omega (arith, same), tt)); behind = tt; valid = number_valid which sound })

@@ -13,18 +13,18 @@ use Rattle.of_messages.specs.declared.message.PacketData.TheVariants.{Buffered, 
 use Rattle.of_messages.specs.declared.multipart.MultipartRequest.TheVariants.{Flow, Aggregate}
 use Rattle.of_formats.specs.Tables as tables
 use Rattle.of_laws.specs.Cells.{canonical_cells}
-use Rattle.of_laws.specs.Grammar.{type, cells}
+use Rattle.of_laws.specs.Grammar.{type, message_cells}
 use Rattle.of_laws.specs.StructCells.{cells_of}
 
 -- nothing follows the actions where the packet is held by the switch
-abbrev pub frame_of : PacketData → List ℕ
-frame_of (Buffered number) = []
-frame_of (Frame frame) = frame
+abbrev pub packet_data_bytes : PacketData → List ℕ
+packet_data_bytes (Buffered number) = []
+packet_data_bytes (Frame frame) = frame
 
 -- what follows the fields: the length of the actions stands before them, and of the kinds whose content is not kept (HELLO, ERROR and ECHO_REPLY) there is nothing
 abbrev pub canonical_tail : Message → List ℕ
 canonical_tail (EchoRequest echoed) = echoed
-canonical_tail (IsPacketOut m) = canonical_cells (cells_of (drop 2 tables.packet_out) (length (canonical_actions m.actions) ∷ []) []) ++ (canonical_actions m.actions ++ frame_of m.packet)
+canonical_tail (IsPacketOut m) = canonical_cells (cells_of (drop 2 tables.packet_out) (length (canonical_actions m.actions) ∷ []) []) ++ (canonical_actions m.actions ++ packet_data_bytes m.packet)
 canonical_tail (IsFlowMod m) = canonical_match m.fields ++ canonical_instructions m.instructions
 canonical_tail (IsGroupMod (group.Add g)) = canonical_buckets g.buckets
 canonical_tail (IsGroupMod (group.Modify g)) = canonical_buckets g.buckets
@@ -33,5 +33,5 @@ canonical_tail (Multipart (Aggregate r)) = canonical_match r.fields
 canonical_tail other = []
 
 -- version 4, type, length, transaction id, and then these
-unfoldable pub canonical : ℕ → Message → List ℕ
-canonical xid m = message (type m) xid (canonical_cells (cells m) ++ canonical_tail m)
+unfoldable pub canonical_message : ℕ → Message → List ℕ
+canonical_message xid m = message (type m) xid (canonical_cells (message_cells m) ++ canonical_tail m)

@@ -1,7 +1,7 @@
 //! FLOW_MOD (OpenFlow 1.3.5, 7.3.4.1).
 ghost use Rattle.std.specs.Prelude.{◌≡◌, ◌<◌, ◌^◌, true, IfOk};
 ghost use Rattle.of_messages.specs.declared.message.Message.TheVariants.{FlowMod as IsFlowMod};
-ghost use Rattle.of_laws.specs.Cells.{Fits};
+ghost use Rattle.of_laws.specs.Cells.{FitsCells};
 ghost use Rattle.of_laws.specs.Grammar.{flow_mod_cells};
 ghost use Rattle.of_requests.specs.Sound.{is_sound};
 ghost use Rattle.of_requests.specs.Written.{IsWritten};
@@ -41,7 +41,7 @@ fn last_known(m: &FlowMod)
 }
 
 fn known(m: &FlowMod)
-    ensures { Fits (flow_mod_cells m.now) }
+    ensures { FitsCells (flow_mod_cells m.now) }
 {
     first_known(m);
     last_known(m);

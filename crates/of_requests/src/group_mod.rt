@@ -3,10 +3,10 @@ ghost use Rattle.std.specs.Prelude.{◌≡◌, ◌+◌, ◌++◌, true, length, 
 ghost use Rattle.std.specs.List.{list_all};
 ghost use Rattle.of_groups.specs.Buckets.{are_fit};
 ghost use Rattle.of_messages.specs.CanonicalGroups.{canonical_buckets, has_numbers};
-ghost use Rattle.of_messages.specs.Written.{header};
+ghost use Rattle.of_messages.specs.Written.{message_header};
 ghost use Rattle.of_messages.specs.declared.group_mod.GroupMod.TheVariants.{Delete};
 ghost use Rattle.of_messages.specs.declared.message.Message.TheVariants.{GroupMod as IsGroupMod};
-ghost use Rattle.of_laws.specs.Cells.{canonical_cells, Fits};
+ghost use Rattle.of_laws.specs.Cells.{canonical_cells, FitsCells};
 ghost use Rattle.of_laws.specs.Grammar.{group_cells};
 ghost use Rattle.of_requests.specs.Sound.{is_sound};
 ghost use Rattle.of_requests.specs.Written.{IsWritten};
@@ -21,7 +21,7 @@ use std::alloc::{AllocError, Global};
 // The fields before the buckets, 8 bytes.
 fn put_group(out: &mut Vec<u8>, command: u16, group: &NewGroup) -> Result<(), AllocError>
     ensures text { OnOk result (out.new.items ≡ out.old.items ++ canonical_cells (group_cells command group.now)) }
-    ensures fits { OnOk result (Fits (group_cells command group.now)) }
+    ensures fits { OnOk result (FitsCells (group_cells command group.now)) }
 {
     put_u16(out, command)?;
     out.extend_from_slice(&[group.kind.number(), 0])?;
@@ -31,8 +31,8 @@ fn put_group(out: &mut Vec<u8>, command: u16, group: &NewGroup) -> Result<(), Al
 // The GROUP_MOD of that command for a group.
 fn write_group(alloc: Global, xid: u32, command: u16, group: &NewGroup) -> Result<Bytes, AllocError>
     ensures text { let buckets = canonical_buckets group.now.buckets in
-        IfOk result (λ bytes. bytes ≡ header GROUP_MOD (8 + (8 + length buckets)) xid ++ (canonical_cells (group_cells command group.now) ++ buckets)) }
-    ensures fits { OnOk result (Fits (group_cells command group.now)) }
+        IfOk result (λ bytes. bytes ≡ message_header GROUP_MOD (8 + (8 + length buckets)) xid ++ (canonical_cells (group_cells command group.now) ++ buckets)) }
+    ensures fits { OnOk result (FitsCells (group_cells command group.now)) }
     ensures numbers { OnOk result (list_all has_numbers group.now.buckets ≡ true) }
     ensures fit { OnOk result (are_fit group.now.buckets ≡ true) }
 {

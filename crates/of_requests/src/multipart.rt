@@ -2,9 +2,9 @@
 ghost use Rattle.std.specs.Prelude.{◌≡◌, ◌<◌, ◌^◌, ◌+◌, ◌++◌, ◌∷◌, [], true, length, IfOk, OnOk};
 ghost use Rattle.of_oxm.specs.Canonical.{canonical};
 ghost use Rattle.of_oxm.specs.NormalForm.{IsMatch};
-ghost use Rattle.of_messages.specs.Written.{header};
+ghost use Rattle.of_messages.specs.Written.{message_header};
 ghost use Rattle.of_messages.specs.declared.message.Message.TheVariants.{Multipart};
-ghost use Rattle.of_laws.specs.Cells.{canonical_cells, Fits, byte, u16, u32, u64, even, pad};
+ghost use Rattle.of_laws.specs.Cells.{canonical_cells, FitsCells, byte, u16_cell, u32_cell, u64_cell, even, pad};
 ghost use Rattle.of_laws.specs.Requests.{flows_cells};
 ghost use Rattle.of_requests.specs.Sound.{is_sound};
 ghost use Rattle.of_requests.specs.Written.{IsWritten};
@@ -19,7 +19,7 @@ use std::alloc::{AllocError, Global};
 
 // The type of a request, no flags, and padding.
 fn put_type(out: &mut Vec<u8>, number: u16) -> Result<(), AllocError>
-    ensures { OnOk result (out.new.items ≡ out.old.items ++ canonical_cells (u16 number ∷ even 2 ∷ pad 4 ∷ [])) }
+    ensures { OnOk result (out.new.items ≡ out.old.items ++ canonical_cells (u16_cell number ∷ even 2 ∷ pad 4 ∷ [])) }
 {
     put_u16(out, number)?;
     put_u16(out, 0)?;
@@ -28,7 +28,7 @@ fn put_type(out: &mut Vec<u8>, number: u16) -> Result<(), AllocError>
 
 // A request without a body.
 fn write_bare(alloc: Global, xid: u32, number: u16) -> Result<Bytes, AllocError>
-    ensures { IfOk result (λ bytes. bytes ≡ header MULTIPART_REQUEST 16 xid ++ canonical_cells (u16 number ∷ even 2 ∷ pad 4 ∷ [])) }
+    ensures { IfOk result (λ bytes. bytes ≡ message_header MULTIPART_REQUEST 16 xid ++ canonical_cells (u16_cell number ∷ even 2 ∷ pad 4 ∷ [])) }
 {
     let mut out = begin(alloc, MULTIPART_REQUEST, 8, xid)?;
     put_type(&mut out, number)?;
@@ -37,7 +37,8 @@ fn write_bare(alloc: Global, xid: u32, number: u16) -> Result<Bytes, AllocError>
 
 // A request for a port or a group.
 fn write_asked(alloc: Global, xid: u32, number: u16, asked: u32) -> Result<Bytes, AllocError>
-    ensures text { IfOk result (λ bytes. bytes ≡ header MULTIPART_REQUEST 24 xid ++ canonical_cells (u16 number ∷ even 2 ∷ pad 4 ∷ u32 asked ∷ pad 4 ∷ [])) }
+    ensures text { IfOk result (λ bytes. bytes ≡
+        message_header MULTIPART_REQUEST 24 xid ++ canonical_cells (u16_cell number ∷ even 2 ∷ pad 4 ∷ u32_cell asked ∷ pad 4 ∷ [])) }
     ensures fits { asked < 256 ^ 4 }
 {
     let mut out = begin(alloc, MULTIPART_REQUEST, 16, xid)?;
@@ -57,9 +58,9 @@ fn put_table(out: &mut Vec<u8>, table: u8) -> Result<(), AllocError>
 
 // The first 16 bytes of a request for flows.
 fn put_outputs(out: &mut Vec<u8>, r: &FlowStatsRequest) -> Result<(), AllocError>
-    ensures text { let fields = byte r.now.table ∷ pad 3 ∷ u32 r.now.out_port ∷ u32 r.now.out_group ∷ pad 4 ∷ [] in
+    ensures text { let fields = byte r.now.table ∷ pad 3 ∷ u32_cell r.now.out_port ∷ u32_cell r.now.out_group ∷ pad 4 ∷ [] in
         OnOk result (out.new.items ≡ out.old.items ++ canonical_cells fields) }
-    ensures fits { OnOk result (Fits (byte r.now.table ∷ u32 r.now.out_port ∷ u32 r.now.out_group ∷ [])) }
+    ensures fits { OnOk result (FitsCells (byte r.now.table ∷ u32_cell r.now.out_port ∷ u32_cell r.now.out_group ∷ [])) }
 {
     put_table(out, r.table)?;
     put_u32(out, r.out_port)?;
@@ -69,8 +70,8 @@ fn put_outputs(out: &mut Vec<u8>, r: &FlowStatsRequest) -> Result<(), AllocError
 
 // The next 16 bytes.
 fn put_cookies(out: &mut Vec<u8>, r: &FlowStatsRequest) -> Result<(), AllocError>
-    ensures text { OnOk result (out.new.items ≡ out.old.items ++ canonical_cells (u64 r.now.cookie ∷ u64 r.now.cookie_mask ∷ [])) }
-    ensures fits { OnOk result (Fits (u64 r.now.cookie ∷ u64 r.now.cookie_mask ∷ [])) }
+    ensures text { OnOk result (out.new.items ≡ out.old.items ++ canonical_cells (u64_cell r.now.cookie ∷ u64_cell r.now.cookie_mask ∷ [])) }
+    ensures fits { OnOk result (FitsCells (u64_cell r.now.cookie ∷ u64_cell r.now.cookie_mask ∷ [])) }
 {
     put_u64(out, r.cookie)?;
     put_u64(out, r.cookie_mask)
@@ -79,7 +80,7 @@ fn put_cookies(out: &mut Vec<u8>, r: &FlowStatsRequest) -> Result<(), AllocError
 // The fields of a request for flows before its match, 32 bytes.
 fn put_flows(out: &mut Vec<u8>, r: &FlowStatsRequest) -> Result<(), AllocError>
     ensures text { OnOk result (out.new.items ≡ out.old.items ++ canonical_cells (flows_cells r.now)) }
-    ensures fits { OnOk result (Fits (flows_cells r.now)) }
+    ensures fits { OnOk result (FitsCells (flows_cells r.now)) }
 {
     put_outputs(out, r)?;
     put_cookies(out, r)
@@ -93,9 +94,9 @@ fn write_flows(
     r: &FlowStatsRequest,
 ) -> Result<Bytes, AllocError>
     ensures text { let fields = canonical r.now.fields in
-        let front = canonical_cells (u16 number ∷ even 2 ∷ pad 4 ∷ flows_cells r.now) in
-        IfOk result (λ bytes. bytes ≡ header MULTIPART_REQUEST (8 + (40 + length fields)) xid ++ (front ++ fields)) }
-    ensures fits { OnOk result (Fits (flows_cells r.now)) }
+        let front = canonical_cells (u16_cell number ∷ even 2 ∷ pad 4 ∷ flows_cells r.now) in
+        IfOk result (λ bytes. bytes ≡ message_header MULTIPART_REQUEST (8 + (40 + length fields)) xid ++ (front ++ fields)) }
+    ensures fits { OnOk result (FitsCells (flows_cells r.now)) }
     ensures fields { IsMatch r.now.fields }
 {
     r.fields.known();

@@ -2,7 +2,7 @@
 ghost use Rattle.std.specs.Prelude.{◌≡◌, ◌<◌, ◌≤◌, ◌^◌, true, length, IfOk};
 ghost use Rattle.of_messages.specs.declared.message.Message.TheVariants.{PacketOut as IsPacketOut};
 ghost use Rattle.of_laws.specs.Grammar.{buffer_of};
-ghost use Rattle.of_requests.specs.Canonical.{frame_of as frame_in};
+ghost use Rattle.of_requests.specs.Canonical.{packet_data_bytes as frame_in};
 ghost use Rattle.of_requests.specs.Sound.{is_sound, is_sound_packet};
 ghost use Rattle.of_requests.specs.Written.{IsWritten};
 

@@ -2,8 +2,8 @@
 ghost use Rattle.std.specs.Prelude.{◌≡◌, ◌++◌, true, IfOk, OnOk};
 ghost use Rattle.byteorder.specs.Endian.{big_bytes};
 ghost use Rattle.of_messages.specs.declared.message.Message.TheVariants.{SetConfig, PortMod as IsPortMod, TableMod as IsTableMod, RoleRequest as IsRoleRequest, SetAsync};
-ghost use Rattle.of_laws.specs.Cells.{canonical_cells, Fits};
-ghost use Rattle.of_laws.specs.Grammar.{cells, role_cells};
+ghost use Rattle.of_laws.specs.Cells.{canonical_cells, FitsCells};
+ghost use Rattle.of_laws.specs.Grammar.{message_cells, role_cells};
 ghost use Rattle.of_requests.specs.Sound.{is_sound};
 ghost use Rattle.of_requests.specs.Written.{IsWritten, masks_cells};
 
@@ -14,8 +14,8 @@ use of_wire::{Bytes, put_u16, put_u32, put_u64};
 use std::alloc::{AllocError, Global};
 
 fn put_set_config(out: &mut Vec<u8>, config: SwitchConfig) -> Result<(), AllocError>
-    ensures text { OnOk result (out.new.items ≡ out.old.items ++ canonical_cells (cells (SetConfig config))) }
-    ensures fits { Fits (cells (SetConfig config)) }
+    ensures text { OnOk result (out.new.items ≡ out.old.items ++ canonical_cells (message_cells (SetConfig config))) }
+    ensures fits { FitsCells (message_cells (SetConfig config)) }
 {
     put_u16(out, 0)?;
     put_u16(out, config.miss_send_len)
@@ -35,8 +35,8 @@ pub(crate) fn write_set_config(
 }
 
 fn put_table_mod(out: &mut Vec<u8>, m: TableMod) -> Result<(), AllocError>
-    ensures text { OnOk result (out.new.items ≡ out.old.items ++ canonical_cells (cells (IsTableMod m))) }
-    ensures fits { Fits (cells (IsTableMod m)) }
+    ensures text { OnOk result (out.new.items ≡ out.old.items ++ canonical_cells (message_cells (IsTableMod m))) }
+    ensures fits { FitsCells (message_cells (IsTableMod m)) }
 {
     out.extend_from_slice(&[m.table, 0, 0, 0])?;
     put_u32(out, m.config)
@@ -53,8 +53,8 @@ pub(crate) fn write_table_mod(alloc: Global, xid: u32, m: TableMod) -> Result<By
 }
 
 fn put_port_mod(out: &mut Vec<u8>, m: PortMod) -> Result<(), AllocError>
-    ensures text { OnOk result (out.new.items ≡ out.old.items ++ canonical_cells (cells (IsPortMod m))) }
-    ensures fits { Fits (cells (IsPortMod m)) }
+    ensures text { OnOk result (out.new.items ≡ out.old.items ++ canonical_cells (message_cells (IsPortMod m))) }
+    ensures fits { FitsCells (message_cells (IsPortMod m)) }
 {
     put_u32(out, m.port)?;
     put_u32(out, 0)?;
@@ -78,7 +78,7 @@ pub(crate) fn write_port_mod(alloc: Global, xid: u32, m: PortMod) -> Result<Byte
 // The number of a role, and its generation_id, or 0.
 fn role_numbers(request: RoleRequest) -> (u32, u64)
     ensures text { big_bytes 4 result.0 ++ (big_bytes 4 0 ++ big_bytes 8 result.1) ≡ canonical_cells (role_cells request) }
-    ensures fits { Fits (role_cells request) }
+    ensures fits { FitsCells (role_cells request) }
 {
     match request {
         RoleRequest::NoChange => (0, 0),
@@ -106,7 +106,7 @@ pub(crate) fn write_role_request(
 
 fn put_masks(out: &mut Vec<u8>, masks: RoleMasks) -> Result<(), AllocError>
     ensures text { OnOk result (out.new.items ≡ out.old.items ++ canonical_cells (masks_cells masks)) }
-    ensures fits { Fits (masks_cells masks) }
+    ensures fits { FitsCells (masks_cells masks) }
 {
     put_u32(out, masks.master)?;
     put_u32(out, masks.slave)

@@ -1,10 +1,11 @@
 //! Any message of a controller as bytes.
 ghost use Rattle.std.specs.Prelude.{◌≡◌, ℕ, List, true, Ok, IfOk, IfErr};
+ghost use Rattle.of_layers.specs.WellFormed.{AreBytes};
 ghost use Rattle.of_messages.specs.Messages.{message_of, xid_of};
 ghost use Rattle.of_laws.specs.Grammar.{Encodes};
-ghost use Rattle.of_requests.specs.Canonical.{canonical as canonical_bytes};
+ghost use Rattle.of_requests.specs.Canonical.{canonical_message as canonical_bytes};
 ghost use Rattle.of_requests.specs.Sound.{is_sound as has_bytes};
-ghost use Rattle.of_requests.specs.Written.{AreBytes, IsWritten};
+ghost use Rattle.of_requests.specs.Written.{IsWritten};
 
 use crate::flow_mod::write_sound_flow_mod;
 use crate::group_mod::write_group_request;

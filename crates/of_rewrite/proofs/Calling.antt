@@ -16,8 +16,8 @@ use Rattle.of_headers.specs.Known.{IsKnownOf}
 use Rattle.of_headers.specs.Places.{layout_of}
 use Rattle.of_headers.specs.Tags.{inner_tags}
 use Rattle.of_rewrite.specs.Frames.{IsFrame, frame_set, frame_pushed, frame_popped, frame_ttl, frame_ttl_decremented}
-use Rattle.of_rewrite.specs.Loans.{lent, with_bytes, is_whole, bytes_at}
-use Rattle.of_rewrite.specs.Calls.{Call, PushVlan, PopVlan, Set, SetTtl, DecTtl, Lend, IsAllowed, frame_after, places_after, with_places, known_after, AreAllowed, frame_after_all, known_after_all}
+use Rattle.of_rewrite.specs.Loans.{lent, with_bytes_at, is_whole_bytes, bytes_at}
+use Rattle.of_rewrite.specs.Calls.{FrameCall, PushVlan, PopVlan, Set, SetTtl, DecTtl, Lend, IsAllowed, frame_after, places_after, with_places, known_after, AreAllowed, frame_after_all, known_after_all}
 use Rattle.of_rewrite.specs.Replaced.{layers_set}
 use Rattle.of_rewrite.specs.Tagging.{has_tag}
 use Rattle.of_rewrite.specs.TimeToLive.{ttl_of, layers_ttl_decremented}
@@ -67,19 +67,19 @@ lent_inside f s h = by_place (locate f (cells (layers_of s))) refl
     by_place None e = omega arith
     by_place (Some p) e =
         let room : p.first + p.bits ≤ 8 * length s = place_inside (number_of f) s p h.1 h.0 e in
-        elim (is_whole p) as (λ b. (cond {A = ℕ × ℕ} b (p.first / 8, (p.first + p.bits) / 8) (0, 0)).0 ≤ length s) [ true ↦ omega (arith, room) | false ↦ omega arith ]
+        elim (is_whole_bytes p) as (λ b. (cond {A = ℕ × ℕ} b (p.first / 8, (p.first + p.bits) / 8) (0, 0)).0 ≤ length s) [ true ↦ omega (arith, room) | false ↦ omega arith ]
 
-bytes_lent : (i : ℕ) (s w : List ℕ) → AreBytes s → AreBytes w → AreBytes (with_bytes i s w)
+bytes_lent : (i : ℕ) (s w : List ℕ) → AreBytes s → AreBytes w → AreBytes (with_bytes_at i s w)
 bytes_lent i s w b c = AreBytes-take (length s) (take i s ++ (w ++ drop (i + length w) s)) (bytes_append (take i s) (w ++ drop (i + length w) s) (AreBytes-take i s b) (bytes_append w (drop (i + length w) s) c (AreBytes-drop (i + length w) s b)))
 
-pub still_frame : (call : Call) (s : List ℕ) → IsFrame s → IsAllowed call s → IsFrame (frame_after call s)
+pub still_frame : (call : FrameCall) (s : List ℕ) → IsFrame s → IsAllowed call s → IsFrame (frame_after call s)
 still_frame (PushVlan type) s h a = (pushed_frame type s h).1
 still_frame PopVlan s h a = (popped_frame s h).1
 still_frame (Set f v) s h a = (set_frame f v s h).1
 still_frame (SetTtl v) s h a = (ttl_frame v s h).1
 still_frame DecTtl s h a = (aged_frame s h).1
 still_frame (Lend f w) s h a =
-    let long : length (with_bytes (lent f s).0 s w) ≡ length s = length_with (lent f s).0 s w (lent_inside f s h) in
+    let long : length (with_bytes_at (lent f s).0 s w) ≡ length s = length_with (lent f s).0 s w (lent_inside f s h) in
     (omega (arith, long, h.0), bytes_lent (lent f s).0 s w h.1 a.0)
 
 -- ---- what is known
@@ -93,7 +93,7 @@ popped_known : (known : Known) (s : List ℕ) → IsFrame s → IsKnownOf known 
 popped_known known s h k true e = by_places (places_after PopVlan) known s (frame_popped s) (places_popped s h) k
 popped_known known s h k false e = subst (λ (x : List ℕ). IsKnownOf known x) (none_popped s h.0 h.1 e) k
 
-still_known : (call : Call) (known : Known) (s : List ℕ) → IsFrame s → IsAllowed call s → IsKnownOf known s → IsKnownOf (known_after call s known) (frame_after call s)
+still_known : (call : FrameCall) (known : Known) (s : List ℕ) → IsFrame s → IsAllowed call s → IsKnownOf known s → IsKnownOf (known_after call s known) (frame_after call s)
 still_known (PushVlan type) known s h a k = by_places (places_after (PushVlan type)) known s (frame_pushed type s) (places_pushed type s h a) k
 still_known PopVlan known s h a k = popped_known known s h k (has_tag s) refl
 still_known (Set f v) known s h a k = places_set f v s h a
@@ -101,6 +101,6 @@ still_known (SetTtl v) known s h a k = places_ttl v s h
 still_known DecTtl known s h a k = places_aged s h
 still_known (Lend f w) known s h a k = tt
 
-pub all_known : (calls : List Call) (known : Known) (s : List ℕ) → IsFrame s → AreAllowed calls s → IsKnownOf known s → IsKnownOf (known_after_all calls s known) (frame_after_all calls s)
+pub all_known : (calls : List FrameCall) (known : Known) (s : List ℕ) → IsFrame s → AreAllowed calls s → IsKnownOf known s → IsKnownOf (known_after_all calls s known) (frame_after_all calls s)
 all_known [] known s h a k = k
 all_known (call ∷ calls) known s h a k = all_known calls (known_after call s known) (frame_after call s) (still_frame call s h a.0) a.1 (still_known call known s h a.0 k)

@@ -6,7 +6,7 @@ use Rattle.of_layers.specs.declared.transport.Transport.{Transport}
 use Rattle.of_layers.specs.declared.transport.Transport.TheVariants.{Nothing}
 use Rattle.of_layers.specs.Fields.{row_of}
 use Rattle.of_layers.specs.Layers.{Item, Cell, plain, Layers, Carried, Extension, Options, Fragment, Body, Plain, Arp, Ipv4, Ipv6, cells_in, byte_cells, inner_cells, tag_cells, extension_cells, cells, encoded, addresses, outer_tag, inner_tag, ether_type, ipv4, ipv6, options, fragment, items_of, size_of, all_bytes, next_before, header_checksum, checksum}
-use Rattle.of_layers.specs.WellFormed.{Fits, IsIpv4, IsIpv6, IsLayers}
+use Rattle.of_layers.specs.WellFormed.{FitsItems, IsIpv4, IsIpv6, IsLayers}
 use Rattle.of_layers.proofs.EncodingLemmas.{encoded-append}
 use Rattle.of_headers.specs.Places.{width, network_of, layout_of}
 use Rattle.of_headers.proofs.LocateLemmas.{width-append, width_bytes}
@@ -14,7 +14,7 @@ use Rattle.of_layers.specs.Looking.{name_is}
 use Rattle.of_headers.specs.declared.layout.Layout.{Layout}
 use Rattle.of_rewrite.specs.declared.sums.Span.{Span}
 use Rattle.of_rewrite.specs.Checksum.{words_of, updated}
-use Rattle.of_rewrite.specs.Rewriting.{change_at, replace_at, number_set, rule_in, words, without_addresses, header_cover, address_cover, carried_cover}
+use Rattle.of_rewrite.specs.Rewriting.{change_at, replace_at, number_set, checksum_rule, words, without_addresses, header_cover, address_cover, carried_cover}
 use Rattle.of_rewrite.specs.Renewal.{packet_at, header_span, address_span, carried_span}
 use Rattle.of_rewrite.proofs.CoveredWords.{words_in, header_words, carried_words, carried_rule}
 use Rattle.of_rewrite.proofs.Structure.{wide, tags_part, Chained, chained, items_total, ipv6_total}
@@ -39,14 +39,14 @@ drop_cells (suc k) [] ns = refl
 drop_cells (suc k) (i ∷ is) [] = sym (empty_cells (drop k is))
 drop_cells (suc k) (i ∷ is) (m ∷ ns) = drop_cells k is ns
 
-fits_take : (k : ℕ) (is : List Item) (ns : List ℕ) → Fits is ns → Fits (take k is) (take k ns)
+fits_take : (k : ℕ) (is : List Item) (ns : List ℕ) → FitsItems is ns → FitsItems (take k is) (take k ns)
 fits_take zero is ns h = tt
 fits_take (suc k) [] [] h = tt
 fits_take (suc k) [] (m ∷ ns) h = absurd h
 fits_take (suc k) (i ∷ is) [] h = absurd h
 fits_take (suc k) (i ∷ is) (m ∷ ns) h = (h.0, fits_take k is ns h.1)
 
-fits_drop : (k : ℕ) (is : List Item) (ns : List ℕ) → Fits is ns → Fits (drop k is) (drop k ns)
+fits_drop : (k : ℕ) (is : List Item) (ns : List ℕ) → FitsItems is ns → FitsItems (drop k is) (drop k ns)
 fits_drop zero is ns h = h
 fits_drop (suc k) [] [] h = tt
 fits_drop (suc k) [] (m ∷ ns) h = absurd h
@@ -270,7 +270,7 @@ renew_in l old new cs =
 abbrev pub set_in_place : ℕ → ℕ → Layers → List Cell
 set_in_place n v l = renew_in (layout_of l) (encoded (cells l)) (encoded (replace_at n v (cells l))) (replace_at n v (cells l))
 
-rule_is_that : (b : Body) → rule_in b ≡ carried_rule (network_of b)
+rule_is_that : (b : Body) → checksum_rule b ≡ carried_rule (network_of b)
 rule_is_that (Plain rest) = refl
 rule_is_that (Arp ns rest) = refl
 rule_is_that (Ipv4 ns o c rest) = refl

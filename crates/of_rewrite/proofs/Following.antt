@@ -7,7 +7,7 @@ use Rattle.std.proofs.Math.ListN.{length-set}
 use Rattle.of_layers.specs.Reading.{word}
 use Rattle.of_rewrite.specs.declared.sums.Sum.{Sum}
 use Rattle.of_rewrite.specs.Checksum.{fold, change, differ, updated}
-use Rattle.of_rewrite.specs.Spans.{words_at, span_words, followed, stepped, with_word}
+use Rattle.of_rewrite.specs.Spans.{words_at, span_words, followed, stepped_sum, with_word}
 use Rattle.of_rewrite.proofs.Folding.{fold_small}
 use Rattle.of_rewrite.proofs.Changes.{same_word, change_none, differ_none, or_false, change_append, differ_append, renewed_then}
 
@@ -103,7 +103,7 @@ differ_step : (t m x d : Bool) → d ≡ cond t x false → cond t (m || x) m �
 differ_step true m x d e = rw e refl
 differ_step false m x d e = rw e (sym (or_false m))
 
-stepped_is : (t : Bool) (o w : ℕ) (m : Sum) → stepped t o w m ≡ record m { value = cond t (updated m.value (o ∷ []) (w ∷ [])) m.value; differs = cond t (m.differs || not (o == w)) m.differs }
+stepped_is : (t : Bool) (o w : ℕ) (m : Sum) → stepped_sum t o w m ≡ record m { value = cond t (updated m.value (o ∷ []) (w ∷ [])) m.value; differs = cond t (m.differs || not (o == w)) m.differs }
 stepped_is true o w m = refl
 stepped_is false o w m = refl
 
@@ -115,7 +115,7 @@ with_both : (m : Sum) (v v' : ℕ) (d d' : Bool) → v ≡ v' → d ≡ d' → �
 with_both m v v' d d' e f = λ j. record m { value = e j; differs = f j }
 
 follow_pair : (m : Sum) (t u : Bool) (o w : ℕ) (a a' b b' : List ℕ) → m.value ≤ 65535 → Adds t o w a a' → Adds u o w b b' →
-    stepped u o w (stepped t o w m) ≡ record m { value = updated m.value (a ++ b) (a' ++ b'); differs = m.differs || differ (a ++ b) (a' ++ b') }
+    stepped_sum u o w (stepped_sum t o w m) ≡ record m { value = updated m.value (a ++ b) (a' ++ b'); differs = m.differs || differ (a ++ b) (a' ++ b') }
 follow_pair m t u o w a a' b b' small x y =
     let v : ℕ = cond t (updated m.value (o ∷ []) (w ∷ [])) m.value in
     let first : cond t (updated m.value (o ∷ []) (w ∷ [])) m.value ≡ 65535 - fold (65535 - m.value + change a a') = value_step t m.value o w (change a a') small x.change_is in
@@ -129,10 +129,10 @@ follow_pair m t u o w a a' b b' small x y =
     differ_step u d (not (o == w)) (differ b b') y.differ_is
     ∙ ap (λ (k : Bool). k || differ b b') (differ_step t m.differs (not (o == w)) (differ a a') x.differ_is)
     ∙ or_assoc m.differs (differ a a') (differ b b') ∙ ap (λ (k : Bool). m.differs || k) (sym (differ_append a a' b b' x.long)) in
-    ap (stepped u o w) (stepped_is t o w m) ∙ stepped_is u o w (record m { value = v; differs = d }) ∙ with_both m _ _ _ _ value differs
+    ap (stepped_sum u o w) (stepped_is t o w m) ∙ stepped_is u o w (record m { value = v; differs = d }) ∙ with_both m _ _ _ _ value differs
 
 pub follows : (m : Sum) (at o w : ℕ) (s : List ℕ) → m.value ≤ 65535 → at + 2 ≤ length s → word s at ≡ o → at % 2 ≡ 0 → m.front.at % 2 ≡ 0 → m.back.at % 2 ≡ 0 →
-    stepped (nat_le m.back.at at && nat_lt at (m.back.at + 2 * m.back.words)) o w (stepped (nat_le m.front.at at && nat_lt at (m.front.at + 2 * m.front.words)) o w m)
+    stepped_sum (nat_le m.back.at at && nat_lt at (m.back.at + 2 * m.back.words)) o w (stepped_sum (nat_le m.front.at at && nat_lt at (m.front.at + 2 * m.front.words)) o w m)
     ≡ followed m s (with_word at w s)
 follows m at o w s small h is e f g = rw (← is)
     (follow_pair m _ _ (word s at) w (span_words m.front s) (span_words m.front (with_word at w s)) (span_words m.back s) (span_words m.back (with_word at w s)) small

@@ -14,7 +14,7 @@ use Rattle.of_layers.proofs.BitLemmas.{length-bits, length-bits_of}
 use Rattle.of_layers.proofs.FrameLemmas.{frame_encoded}
 use Rattle.of_headers.specs.Places.{width}
 use Rattle.of_headers.proofs.LocateLemmas.{width-append}
-use Rattle.of_rewrite.specs.Checksum.{number}
+use Rattle.of_rewrite.specs.Checksum.{number_of_bits}
 use Rattle.of_rewrite.specs.Rewriting.{number_set, field_set}
 use Rattle.of_headers.specs.Tags.{tag_before, pushed, inner_tags, popped}
 use Rattle.of_rewrite.specs.TimeToLive.{ttl_of, ttl_decremented_from}
@@ -32,7 +32,7 @@ octets_back (x ∷ s) b =
     let t : take 8 (bits 8 x ++ bits_of s) ≡ bits 8 x = take_at (bits 8 x) (bits_of s) 8 (length-bits 8 x) in
     let d : drop 8 (bits 8 x ++ bits_of s) ≡ bits_of s = drop_at (bits 8 x) (bits_of s) 8 (length-bits 8 x) in
     let small : x < 256 = b 0 in
-    let v : number (take 8 (bits 8 x ++ bits_of s)) ≡ x = ap number t ∙ number-bits 8 x ∙ mod-eq_of_lt small in
+    let v : number_of_bits (take 8 (bits 8 x ++ bits_of s)) ≡ x = ap number_of_bits t ∙ number-bits 8 x ∙ mod-eq_of_lt small in
     let r : octets_of (length s) (drop 8 (bits 8 x ++ bits_of s)) ≡ s = ap (octets_of (length s)) d ∙ octets_back s (λ i. b (suc i)) in
     λ j. v j ∷ r j
 
@@ -75,13 +75,13 @@ below_two zero p n h k = omega arith
 below_two (suc zero) p n h k = omega arith
 below_two (suc (suc b)) p n h k = absurd (omega arith)
 
-pub number_below : (s : List ℕ) → AreBits s → number s < 2 ^ length s
-unfolding number
+pub number_below : (s : List ℕ) → AreBits s → number_of_bits s < 2 ^ length s
+unfolding number_of_bits
 number_below [] h = omega arith
 number_below (b ∷ s) h =
-    let r : number s < 2 ^ length s = number_below s (λ i. h (suc i)) in
+    let r : number_of_bits s < 2 ^ length s = number_below s (λ i. h (suc i)) in
     let p : 2 ^ suc (length s) ≡ 2 ^ length s * 2 = pow-suc 2 (length s) in
-    let q : b * 2 ^ length s + number s < 2 * 2 ^ length s = below_two b (2 ^ length s) (number s) (h 0) r in
+    let q : b * 2 ^ length s + number_of_bits s < 2 * 2 ^ length s = below_two b (2 ^ length s) (number_of_bits s) (h 0) r in
     omega arith
 
 pub bits_take : (n : ℕ) (s : List ℕ) → AreBits s → AreBits (take n s)
@@ -93,11 +93,11 @@ bits_take n s h i = elim (cases_lt i n) [
 pub bits_drop : (n : ℕ) (s : List ℕ) → AreBits s → AreBits (drop n s)
 bits_drop n s h i = rw get_or-drop (h (n + i))
 
-octet_below : (s : List ℕ) → AreBits s → number (take 8 s) < 256
+octet_below : (s : List ℕ) → AreBits s → number_of_bits (take 8 s) < 256
 octet_below s h =
     let l : length (take 8 s) ≤ 8 = omega (arith, length-take 8 s) in
     let p : 2 ^ length (take 8 s) ≤ 2 ^ 8 = pow-le-pow_right (omega arith) l in
-    let n : number (take 8 s) < 2 ^ length (take 8 s) = number_below (take 8 s) (bits_take 8 s h) in
+    let n : number_of_bits (take 8 s) < 2 ^ length (take 8 s) = number_below (take 8 s) (bits_take 8 s h) in
     omega arith
 
 octets_below : (n : ℕ) (s : List ℕ) → AreBits s → AreBytes (octets_of n s)

@@ -9,7 +9,7 @@ use Rattle.of_layers.proofs.BitLemmas.{length-bits_of}
 use Rattle.of_rewrite.specs.declared.sums.Sum.{Sum}
 use Rattle.of_rewrite.specs.declared.sums.Sums.{Sums}
 use Rattle.of_rewrite.specs.Checksum.{fold, change, differ, updated}
-use Rattle.of_rewrite.specs.Spans.{over_bits, words_at, span_words, covered, followed, both_followed, AreEven, IsEven}
+use Rattle.of_rewrite.specs.Spans.{over_bits, words_at, span_words, covered_words, followed, both_followed, AreEven, IsEven}
 use Rattle.of_rewrite.proofs.Changes.{Apart, change_over, renewed_then, renewed_same, differ_none, or_false, or_right}
 use Rattle.of_rewrite.proofs.Putting.{put_parts, bits_lower}
 
@@ -29,18 +29,18 @@ apart_append (r ∷ a) [] c x y z h k = absurd h
 apart_append (r ∷ a) (q ∷ b) [] x y z h k = absurd h
 apart_append (r ∷ a) (q ∷ b) (p ∷ c) x y z h k = (h.0, apart_append a b c x y z h.1 k)
 
-covered_apart : (m : Sum) (a b c : List ℕ) → IsEven m → Steps a b c → Apart (covered m a) (covered m b) (covered m c)
+covered_apart : (m : Sum) (a b c : List ℕ) → IsEven m → Steps a b c → Apart (covered_words m a) (covered_words m b) (covered_words m c)
 covered_apart m a b c e h =
     apart_append (span_words m.front a) (span_words m.front b) (span_words m.front c) (span_words m.back a) (span_words m.back b) (span_words m.back c)
     (words_apart m.front.words m.front.at a b c e.0 h) (words_apart m.back.words m.back.at a b c e.1 h)
 
 followed_then : (m : Sum) (a b c : List ℕ) → IsEven m → Steps a b c → followed (followed m a b) b c ≡ followed m a c
 followed_then m a b c e h =
-    let o = change_over (covered m a) (covered m b) (covered m c) (covered_apart m a b c e h) in
-    let value : updated (updated m.value (covered m a) (covered m b)) (covered m b) (covered m c) ≡ updated m.value (covered m a) (covered m c) =
-    renewed_then m.value (change (covered m a) (covered m b)) (change (covered m b) (covered m c)) ∙ ap (λ (k : ℕ). 65535 - fold (65535 - m.value + k)) (sym o.0) in
-    let differs : ((m.differs || differ (covered m a) (covered m b)) || differ (covered m b) (covered m c)) ≡ (m.differs || differ (covered m a) (covered m c)) =
-    or_right m.differs (differ (covered m a) (covered m b)) (differ (covered m b) (covered m c)) ∙ ap (λ (t : Bool). m.differs || t) (sym o.1) in
+    let o = change_over (covered_words m a) (covered_words m b) (covered_words m c) (covered_apart m a b c e h) in
+    let value : updated (updated m.value (covered_words m a) (covered_words m b)) (covered_words m b) (covered_words m c) ≡ updated m.value (covered_words m a) (covered_words m c) =
+    renewed_then m.value (change (covered_words m a) (covered_words m b)) (change (covered_words m b) (covered_words m c)) ∙ ap (λ (k : ℕ). 65535 - fold (65535 - m.value + k)) (sym o.0) in
+    let differs : ((m.differs || differ (covered_words m a) (covered_words m b)) || differ (covered_words m b) (covered_words m c)) ≡ (m.differs || differ (covered_words m a) (covered_words m c)) =
+    or_right m.differs (differ (covered_words m a) (covered_words m b)) (differ (covered_words m b) (covered_words m c)) ∙ ap (λ (t : Bool). m.differs || t) (sym o.1) in
     λ j. record m { value = value j; differs = differs j }
 
 pub both_then : (m : Sums) (a b c : List ℕ) → AreEven m → Steps a b c → both_followed (both_followed m a b) b c ≡ both_followed m a c
@@ -88,8 +88,8 @@ goes_on p n v s m first left width t u k q g even room some w long bs qs kept =
 
 followed_none : (m : Sum) (s : List ℕ) → m.value ≤ 65535 → m ≡ followed m s s
 followed_none m s h =
-    let v : m.value ≡ updated m.value (covered m s) (covered m s) = sym (renewed_same m.value (covered m s) h) in
-    let d : m.differs ≡ (m.differs || differ (covered m s) (covered m s)) = sym (ap (λ (t : Bool). m.differs || t) (differ_none (covered m s)) ∙ or_false m.differs) in
+    let v : m.value ≡ updated m.value (covered_words m s) (covered_words m s) = sym (renewed_same m.value (covered_words m s) h) in
+    let d : m.differs ≡ (m.differs || differ (covered_words m s) (covered_words m s)) = sym (ap (λ (t : Bool). m.differs || t) (differ_none (covered_words m s)) ∙ or_false m.differs) in
     λ j. record m { value = v j; differs = d j }
 
 pub starts : (p n v : ℕ) (s : List ℕ) (m : Sums) → m.header.value ≤ 65535 → m.carried.value ≤ 65535 → Going p n v s m p n s m

@@ -11,7 +11,7 @@ use Rattle.of_layers.specs.Fields.{row_of, number_of, is_settable}
 use Rattle.of_layers.specs.Layers.{Item, Cell, Layers, Carried, Extension, Options, Fragment, Body, Plain, Arp, Ipv4, Ipv6, all_bytes, body_cells, cells, encoded, addresses, outer_tag, inner_tag, arp, ipv4, ipv6, items_of, next_before, ttl}
 use Rattle.of_layers.specs.Looking.{name_is}
 use Rattle.of_layers.specs.Reading.{is_tag_type, kind_behind, over_ipv4, layers_of}
-use Rattle.of_layers.specs.WellFormed.{AreBytes, Fits, AreTags, IsCarried, IsArp, IsIpv4, IsIpv6, AreExtensions, IsBody, IsLayers, bytes_in}
+use Rattle.of_layers.specs.WellFormed.{AreBytes, FitsItems, AreTags, IsCarried, IsArp, IsIpv4, IsIpv6, AreExtensions, IsBody, IsLayers, carried_size}
 use Rattle.of_layers.specs.declared.transport.Transport.{Transport}
 use Rattle.of_layers.proofs.FrameLemmas.{are_layers, only_layers}
 use Rattle.of_headers.specs.Places.{width}
@@ -26,12 +26,12 @@ use Rattle.of_rewrite.proofs.Unset.{frame_stands}
 
 -- ---- numbers of a header
 
-pub fits_with : (n : ℕ) (f : ℕ → ℕ) (is : List Item) (ns : List ℕ) → Fits is ns → Fits is (numbers_with n f is ns)
+pub fits_with : (n : ℕ) (f : ℕ → ℕ) (is : List Item) (ns : List ℕ) → FitsItems is ns → FitsItems is (numbers_with n f is ns)
 fits_with n f [] [] h = tt
 fits_with n f [] (m ∷ ns) h = absurd h
 fits_with n f (i ∷ is) [] h = absurd h
 fits_with n f (i ∷ is) (m ∷ ns) h =
-    elim (name_is n i.name) as (λ t. Fits (i ∷ is) (cond t ((f m % 2 ^ i.width) ∷ ns) (m ∷ numbers_with n f is ns))) [
+    elim (name_is n i.name) as (λ t. FitsItems (i ∷ is) (cond t ((f m % 2 ^ i.width) ∷ ns) (m ∷ numbers_with n f is ns))) [
       | true ↦ (mod_below (f m) (2 ^ i.width) (pow_pos i.width), h.1)
       | false ↦ (h.0, fits_with n f is ns h.1)
     ]
@@ -54,7 +54,7 @@ number_kept n f (i ∷ is) (m ∷ ns) (suc k) h =
 
 -- ---- tags
 
-inner_fits : (t : List ℕ) → Fits outer_tag t → Fits inner_tag t
+inner_fits : (t : List ℕ) → FitsItems outer_tag t → FitsItems inner_tag t
 inner_fits [] h = h
 inner_fits (a ∷ []) h = h
 inner_fits (a ∷ b ∷ []) h = h
@@ -92,7 +92,7 @@ ipv4_kept n f ns o c rest ne h =
       version = a ∙ h.version;
       words = h.words ∙ ap (λ (k : ℕ). 4 * k) (sym b);
       total = subst (λ (k : ℕ). 20 + length o ≤ k) (sym d) h.total;
-      inside = h.inside ∙ ap (λ (k : ℕ). min k (20 + length o + bytes_in c + length rest)) (sym d);
+      inside = h.inside ∙ ap (λ (k : ℕ). min k (20 + length o + carried_size c + length rest)) (sym d);
       options_fit = h.options_fit;
       carries = subst (λ (k : Transport). IsCarried k (carried_with n f c)) (λ j. kind_behind (sym e j) (over_ipv4 (sym g j))) (carried_kept n f _ c h.carries);
       rest_fits = h.rest_fits;
@@ -113,7 +113,7 @@ ipv6_kept n f ns es c rest ne h =
     record {
       numbers = fits_with n f is ns h.numbers;
       version = a ∙ h.version;
-      inside = h.inside ∙ ap (λ (k : ℕ). min k (all_bytes es + bytes_in c + length rest)) (sym d);
+      inside = h.inside ∙ ap (λ (k : ℕ). min k (all_bytes es + carried_size c + length rest)) (sym d);
       chain = subst (λ (k : ℕ). AreExtensions k es (carried_with n f c)) (sym g) (chain_kept n f _ es c h.chain);
       rest_fits = h.rest_fits;
     }

@@ -13,7 +13,7 @@ use Rattle.of_layers.proofs.BitLemmas.{bits_parts}
 use Rattle.of_layers.proofs.FrameLemmas.{frame_encoded}
 use Rattle.of_headers.specs.Places.{width}
 use Rattle.of_headers.specs.Tags.{pushed, popped}
-use Rattle.of_rewrite.specs.Checksum.{number}
+use Rattle.of_rewrite.specs.Checksum.{number_of_bits}
 use Rattle.of_rewrite.specs.Frames.{IsFrame, octets_of, bytes_in, frame_set, frame_pushed, frame_popped, frame_ttl, frame_ttl_decremented}
 use Rattle.of_rewrite.specs.Replaced.{Replaceable, LeavesLayers, layers_set}
 use Rattle.of_rewrite.specs.Rewriting.{number_set}
@@ -34,13 +34,13 @@ one_bit zero h = refl
 one_bit (suc zero) h = refl
 one_bit (suc (suc b)) h = absurd (omega arith)
 
-bits-number : (s : List ℕ) → AreBits s → bits (length s) (number s) ≡ s
-unfolding number bits
+bits-number : (s : List ℕ) → AreBits s → bits (length s) (number_of_bits s) ≡ s
+unfolding number_of_bits bits
 bits-number [] h = refl
 bits-number (b ∷ s) h =
     let rest : AreBits s = λ i. h (suc i) in
     let one : suc (length s) ≡ 1 + length s = omega arith in
-    ap (λ (k : ℕ). bits k (b * 2 ^ length s + number s)) one ∙ bits_parts 1 (length s) b (number s) (number_below s rest) ∙ (λ j. one_bit b (h 0) j ++ bits-number s rest j)
+    ap (λ (k : ℕ). bits k (b * 2 ^ length s + number_of_bits s)) one ∙ bits_parts 1 (length s) b (number_of_bits s) (number_below s rest) ∙ (λ j. one_bit b (h 0) j ++ bits-number s rest j)
 
 octets_bits : (n : ℕ) (s : List ℕ) → AreBits s → length s ≡ 8 * n → bits_of (octets_of n s) ≡ s
 unfolding octets_of bits_of
@@ -48,7 +48,7 @@ octets_bits zero [] h e = refl
 octets_bits zero (b ∷ s) h e = absurd (omega arith)
 octets_bits (suc n) s h e =
     let eight : length (take 8 s) ≡ 8 = length-take-le 8 s (omega arith) in
-    let front : bits 8 (number (take 8 s)) ≡ take 8 s = ap (λ (k : ℕ). bits k (number (take 8 s))) (sym eight) ∙ bits-number (take 8 s) (bits_take 8 s h) in
+    let front : bits 8 (number_of_bits (take 8 s)) ≡ take 8 s = ap (λ (k : ℕ). bits k (number_of_bits (take 8 s))) (sym eight) ∙ bits-number (take 8 s) (bits_take 8 s h) in
     let back : bits_of (octets_of n (drop 8 s)) ≡ drop 8 s = octets_bits n (drop 8 s) (bits_drop 8 s h) (omega (arith, length-drop 8 s)) in
     (λ j. front j ++ back j) ∙ take-append-drop 8 s
 

@@ -7,7 +7,7 @@ use Rattle.of_layers.specs.declared.place.Place.{Place}
 use Rattle.of_layers.specs.Layers.{cells}
 use Rattle.of_layers.specs.Looking.{locate}
 use Rattle.of_layers.specs.Reading.{layers_of}
-use Rattle.of_rewrite.specs.Loans.{lent, with_bytes}
+use Rattle.of_rewrite.specs.Loans.{lent, with_bytes_at}
 
 pub lent_whole : (f : Field) (s : List ℕ) (p : Place) → locate f (cells (layers_of s)) ≡ Some p → p.first % 8 ≡ 0 → p.bits % 8 ≡ 0 → (p.first / 8, (p.first + p.bits) / 8) ≡ lent f s
 unfolding lent
@@ -26,12 +26,12 @@ unfolding lent
 lent_absent f s e = rw e refl
 
 -- a loan keeps its length, and all bytes around it are as before
-pub around : (i : ℕ) (s w : List ℕ) → i + length w ≤ length s → with_bytes i s w ≡ take i s ++ (w ++ drop (i + length w) s)
+pub around : (i : ℕ) (s w : List ℕ) → i + length w ≤ length s → with_bytes_at i s w ≡ take i s ++ (w ++ drop (i + length w) s)
 around i s w h =
     let f : length (take i s) ≡ i = length-take-le i s (omega arith) in
     take_all (length s) (take i s ++ (w ++ drop (i + length w) s)) (omega (arith, f, length-append (take i s) (w ++ drop (i + length w) s), length-append w (drop (i + length w) s), length-drop (i + length w) s))
 
-pub length_with : (i : ℕ) (s w : List ℕ) → i ≤ length s → length (with_bytes i s w) ≡ length s
+pub length_with : (i : ℕ) (s w : List ℕ) → i ≤ length s → length (with_bytes_at i s w) ≡ length s
 length_with i s w h =
     let f : length (take i s) ≡ i = length-take-le i s h in
     length-take-le (length s) (take i s ++ (w ++ drop (i + length w) s))

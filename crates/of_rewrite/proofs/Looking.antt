@@ -9,7 +9,7 @@ use Rattle.of_layers.specs.declared.transport.Transport.TheVariants.{Nothing}
 use Rattle.of_layers.specs.Fields.{row_of, number_of, is_settable}
 use Rattle.of_layers.specs.Layers.{Item, Cell, Layers, Extension, addresses, ether_type, outer_tag, inner_tag, ipv6, options, fragment, items_of, next_before, cells_in, inner_cells, tag_cells, body_cells, cells, ttl}
 use Rattle.of_layers.specs.Looking.{name_is, look_up}
-use Rattle.of_layers.specs.WellFormed.{Fits, AreTags, IsLayers}
+use Rattle.of_layers.specs.WellFormed.{FitsItems, AreTags, IsLayers}
 use Rattle.of_layers.proofs.Table.{number_below, same_number}
 use Rattle.of_headers.proofs.LookLemmas.{look-append, or_none, lacks, no_name, IsOuter, vid_outer, lacks_body}
 use Rattle.of_rewrite.specs.Replaced.{LeavesLayers, layers_with, layers_set}
@@ -155,7 +155,7 @@ abbrev pub in_outermost : ℕ → List (List ℕ) → Option ℕ
 in_outermost k [] = None
 in_outermost k (t ∷ ts) = Some (slice_index t k)
 
-tag_vid : (t : List ℕ) → Fits inner_tag t → look_up (number_of VlanVid) (cells_in outer_tag t) ≡ Some (slice_index t 3)
+tag_vid : (t : List ℕ) → FitsItems inner_tag t → look_up (number_of VlanVid) (cells_in outer_tag t) ≡ Some (slice_index t 3)
 unfolding row_of
 tag_vid [] h = absurd h
 tag_vid (a ∷ []) h = absurd h.1
@@ -163,7 +163,7 @@ tag_vid (a ∷ b ∷ []) h = absurd h.1.1
 tag_vid (a ∷ b ∷ c ∷ []) h = absurd h.1.1.1
 tag_vid (a ∷ b ∷ c ∷ d ∷ rest) h = refl
 
-tag_pcp : (t : List ℕ) → Fits inner_tag t → look_up (number_of VlanPcp) (cells_in outer_tag t) ≡ Some (slice_index t 1)
+tag_pcp : (t : List ℕ) → FitsItems inner_tag t → look_up (number_of VlanPcp) (cells_in outer_tag t) ≡ Some (slice_index t 1)
 unfolding row_of
 tag_pcp [] h = absurd h
 tag_pcp (a ∷ []) h = absurd h.1

@@ -9,7 +9,7 @@ use Rattle.of_layers.specs.Looking.{name_is}
 use Rattle.of_layers.proofs.BitLemmas.{length-bits}
 use Rattle.of_layers.proofs.TestLemmas.{and_true}
 use Rattle.of_layers.proofs.EncodingLemmas.{encoded-append}
-use Rattle.of_rewrite.specs.Checksum.{number, words_of}
+use Rattle.of_rewrite.specs.Checksum.{number_of_bits, words_of}
 use Rattle.of_rewrite.specs.Rewriting.{change_at, words}
 
 -- ---- whether a cell of a name is there
@@ -83,7 +83,7 @@ words_front (suc k) a b h =
     let t : take 16 (a ++ b) ≡ take 16 a = take-append-le 16 a b (omega arith) in
     let d : drop 16 (a ++ b) ≡ drop 16 a ++ b = drop-append-le 16 a b (omega arith) in
     let r : words_of k (drop 16 a ++ b) ≡ words_of k (drop 16 a) = words_front k (drop 16 a) b (omega (arith, length-drop 16 a)) in
-    λ j. number (t j) ∷ (ap (words_of k) d ∙ r) j
+    λ j. number_of_bits (t j) ∷ (ap (words_of k) d ∙ r) j
 
 pub part_words : (n : ℕ) (f : ℕ → ℕ) (a c b : List Cell) (at k : ℕ) → (has n a ≡ true → has n c ≡ false) → length (encoded a) ≡ 8 * at → length (encoded c) ≡ 16 * k →
     words_of k (drop (8 * at) (encoded (change_at n f (a ++ (c ++ b))))) ≡ words (change_at n f c)

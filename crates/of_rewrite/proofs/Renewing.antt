@@ -22,10 +22,10 @@ use Rattle.of_headers.specs.Places.{layout_of}
 use Rattle.of_rewrite.specs.declared.sums.Span.{Span}
 use Rattle.of_rewrite.specs.declared.sums.Sum.{Sum}
 use Rattle.of_rewrite.specs.declared.sums.Sums.{Sums}
-use Rattle.of_rewrite.specs.Checksum.{number, words_of, differ, updated, never_zero, carried_updated}
+use Rattle.of_rewrite.specs.Checksum.{number_of_bits, words_of, differ, updated, never_zero, carried_updated}
 use Rattle.of_rewrite.specs.Rewriting.{change_at, replace_at, without_addresses}
-use Rattle.of_rewrite.specs.Spans.{over_bits, words_at, span_words, covered, both_followed, AreEven}
-use Rattle.of_rewrite.specs.Renewal.{checksum_byte, word_or_zero, moved, header_at, carried_at, sums_of, settled, settled_in, written_at, with_header, with_carried, HasRoomIn, HasRoom, no_words, packet_at, header_span, address_span, carried_span}
+use Rattle.of_rewrite.specs.Spans.{over_bits, words_at, span_words, covered_words, both_followed, AreEven}
+use Rattle.of_rewrite.specs.Renewal.{checksum_byte, word_or_zero, moved, header_checksum_at, carried_at, sums_of, settled, settled_in, written_at, with_header, with_carried, HasRoomIn, HasRoom, no_words, packet_at, header_span, address_span, carried_span}
 use Rattle.of_rewrite.proofs.CoveredWords.{words_in, header_words, carried_words, carried_rule}
 use Rattle.of_rewrite.specs.Replaced.{Replaceable}
 use Rattle.of_rewrite.proofs.Changes.{renewed_below}
@@ -35,8 +35,8 @@ use Rattle.of_rewrite.proofs.Standing.{number_place, Stands, IsEvenIn}
 
 -- ---- words of bits and of bytes
 
-pub number-bits : (n v : ℕ) → number (bits n v) ≡ v % 2 ^ n
-unfolding bits number
+pub number-bits : (n v : ℕ) → number_of_bits (bits n v) ≡ v % 2 ^ n
+unfolding bits number_of_bits
 number-bits zero v = omega arith
 number-bits (suc n) v =
     let a : v % 2 ^ (1 + n) ≡ (v / 2 ^ n % 2 ^ 1) * 2 ^ n + v % 2 ^ n = mod-pow-add v 1 n in
@@ -58,7 +58,7 @@ words_are (suc k) at s b h =
     let small : word s at < 2 ^ 16 = omega (arith, b at, b (at + 1)) in
     let front : take 16 (drop (8 * at) (bits_of s)) ≡ bits 16 (word s at) = ap (take 16) here ∙ take_at (bits 16 (word s at)) (bits_of (drop (at + 2) s)) 16 (length-bits 16 (word s at)) in
     let back : drop 16 (drop (8 * at) (bits_of s)) ≡ drop (8 * (at + 2)) (bits_of s) = drop-drop 16 (8 * at) (bits_of s) ∙ ap (λ (n : ℕ). drop n (bits_of s)) (omega arith) in
-    let value : number (take 16 (drop (8 * at) (bits_of s))) ≡ word s at = ap number front ∙ number-bits 16 (word s at) ∙ mod-eq_of_lt small in
+    let value : number_of_bits (take 16 (drop (8 * at) (bits_of s))) ≡ word s at = ap number_of_bits front ∙ number-bits 16 (word s at) ∙ mod-eq_of_lt small in
     let rest : words_of k (drop 16 (drop (8 * at) (bits_of s))) ≡ words_at k (at + 2) s = ap (words_of k) back ∙ words_are k (at + 2) s b (omega arith) in
     λ j. value j ∷ rest j
 
@@ -88,10 +88,10 @@ span_room n q (network.Ipv6 named p) h =
     let b : q + p.at + size_of p.transport ≤ n = h.1 in
     record { in_header = omega arith; in_addresses = either_room (without_addresses p.transport) (q + 8) 16 n (omega arith); in_carried = omega arith }
 
-header_covered : (l : Layout) (s : List ℕ) → AreBytes s → HasRoom l (length s) → (t : List ℕ) → header_words l (bits_of s) ≡ covered (sums_of l t).header s
+header_covered : (l : Layout) (s : List ℕ) → AreBytes s → HasRoom l (length s) → (t : List ℕ) → header_words l (bits_of s) ≡ covered_words (sums_of l t).header s
 header_covered l s b h t = span_is (header_span (packet_at l) l.network) s b (span_room (length s) (packet_at l) l.network h.1).in_header ∙ sym (append-nil (span_words (header_span (packet_at l) l.network) s))
 
-carried_covered : (l : Layout) (s : List ℕ) → AreBytes s → HasRoom l (length s) → (t : List ℕ) → carried_words l (bits_of s) ≡ covered (sums_of l t).carried s
+carried_covered : (l : Layout) (s : List ℕ) → AreBytes s → HasRoom l (length s) → (t : List ℕ) → carried_words l (bits_of s) ≡ covered_words (sums_of l t).carried s
 carried_covered l s b h t =
     let r = span_room (length s) (packet_at l) l.network h.1 in
     λ j. span_is (address_span (packet_at l) l.network) s b r.in_addresses j ++ span_is (carried_span (packet_at l) l.network) s b r.in_carried j
@@ -170,7 +170,7 @@ kind_below t Udp z m h j = either_below ((t && (z == 0)) || not m.differs) z (ne
 kind_below t Icmpv4 z m h j = j
 kind_below t Icmpv6 z m h j = j
 
-rooms : (n q : ℕ) (net : Network) → HasRoomIn n q net → IsIn (header_at q net) n × IsIn (carried_at q net) n
+rooms : (n q : ℕ) (net : Network) → HasRoomIn n q net → IsIn (header_checksum_at q net) n × IsIn (carried_at q net) n
 rooms n q network.Plain h = (tt, tt)
 rooms n q network.Arp h = (tt, tt)
 rooms n q (network.Ipv4 p) h = let a : 20 ≤ p.at = h.0 in let b : q + p.at + size_of p.transport ≤ n = h.1 in (omega arith, in_carried n (q + p.at) p.transport b)
@@ -230,7 +230,7 @@ pub renewed_all : (n v : ℕ) (p : Place) (l : Layers) (s t : List ℕ) → Stan
     bits_of (with_carried (layout_of l) m (with_header (layout_of l) m t)) ≡ encoded (set_in_place n v l)
 renewed_all n v p l s t st is b c long free place put_is m e =
     let y : Layout = layout_of l in
-    let oh : Option ℕ = header_at (packet_at (layout_of l)) (layout_of l).network in
+    let oh : Option ℕ = header_checksum_at (packet_at (layout_of l)) (layout_of l).network in
     let oc : Option ℕ = carried_at (packet_at (layout_of l)) (layout_of l).network in
     let cs : List Cell = cells l in
     let ds : List Cell = replace_at n v (cells l) in
@@ -245,11 +245,11 @@ renewed_all n v p l s t st is b c long free place put_is m e =
     let f : ℕ → ℕ = λ k. updated k (header_words (layout_of l) (encoded (cells l))) (header_words (layout_of l) (encoded (replace_at n v (cells l)))) in
     let w : ℕ = m.header.value in
     let same : word_or_zero t oh ≡ word_or_zero s oh = same_value 102 ds cs t s oh small_d small_h c b js is there st.header oth.1 in_t.0 in_s.0 in
-    let old_h : header_words y (encoded cs) ≡ covered (sums_of y s).header s = ap (header_words y) (sym is) ∙ header_covered y s b st.room s in
-    let new_h : header_words y (encoded ds) ≡ covered (sums_of y s).header t = ap (header_words y) (sym js) ∙ header_covered y t c room_t s in
-    let value_h : m.header.value ≡ updated (word_or_zero s oh) (covered (sums_of y s).header s) (covered (sums_of y s).header t) = ap (λ (k : Sums). k.header.value) e in
+    let old_h : header_words y (encoded cs) ≡ covered_words (sums_of y s).header s = ap (header_words y) (sym is) ∙ header_covered y s b st.room s in
+    let new_h : header_words y (encoded ds) ≡ covered_words (sums_of y s).header t = ap (header_words y) (sym js) ∙ header_covered y t c room_t s in
+    let value_h : m.header.value ≡ updated (word_or_zero s oh) (covered_words (sums_of y s).header s) (covered_words (sums_of y s).header t) = ap (λ (k : Sums). k.header.value) e in
     let gives : f (word_or_zero t oh) ≡ m.header.value = (λ j. updated (same j) (old_h j) (new_h j)) ∙ sym value_h in
-    let below : updated (word_or_zero s oh) (covered (sums_of y s).header s) (covered (sums_of y s).header t) ≤ 65535 = renewed_below (word_or_zero s oh) (covered (sums_of y s).header s) (covered (sums_of y s).header t) in
+    let below : updated (word_or_zero s oh) (covered_words (sums_of y s).header s) (covered_words (sums_of y s).header t) ≤ 65535 = renewed_below (word_or_zero s oh) (covered_words (sums_of y s).header s) (covered_words (sums_of y s).header t) in
     let small_w : m.header.value < 65536 = omega arith in
     let u : List ℕ = with_header y m t in
     let ks : bits_of (with_header y m t) ≡ encoded (change_at 102 f ds) = step 102 ds t oh f m.header.value small_d c js there in_t.0 gives small_w in
@@ -264,17 +264,17 @@ renewed_all n v p l s t st is b c long free place put_is m e =
     let small_c : Small 103 (cells l) = small_at 103 (cells l) oc st.is_sound st.carried in
     let small_e : Small 103 (change_at 102 f ds) = λ x g. small_c x (sym (otc.1 ∙ otn.1) ∙ g) in
     let same_c : word_or_zero (with_header y m t) oc ≡ word_or_zero s oc = same_value 103 (change_at 102 f ds) cs (with_header y m t) s oc small_e small_c d b ks is there_c st.carried (otc.1 ∙ otn.1) in_u.1 in_s.1 in
-    let old_c : carried_words y (encoded cs) ≡ covered (sums_of y s).carried s = ap (carried_words y) (sym is) ∙ carried_covered y s b st.room s in
-    let new_c : carried_words y (encoded ds) ≡ covered (sums_of y s).carried t = ap (carried_words y) (sym js) ∙ carried_covered y t c room_t s in
+    let old_c : carried_words y (encoded cs) ≡ covered_words (sums_of y s).carried s = ap (carried_words y) (sym is) ∙ carried_covered y s b st.room s in
+    let new_c : carried_words y (encoded ds) ≡ covered_words (sums_of y s).carried t = ap (carried_words y) (sym js) ∙ carried_covered y t c room_t s in
     let h : ℕ → ℕ = λ k. carried_rule y.network k (carried_words y (encoded cs)) (carried_words y (encoded ds)) in
     let z : ℕ = word_or_zero (with_header y m t) oc in
     let carried_is : both_followed (sums_of y s) s t ≡ m = sym e in
     let gives_c : h z ≡ settled_in y.network z m.carried =
     (λ j. carried_rule y.network z (old_c j) (new_c j))
-    ∙ rule_is y.network z (word_or_zero s oc) (covered (sums_of y s).carried s) (covered (sums_of y s).carried t) (address_span (packet_at y) y.network) (carried_span (packet_at y) y.network) same_c
+    ∙ rule_is y.network z (word_or_zero s oc) (covered_words (sums_of y s).carried s) (covered_words (sums_of y s).carried t) (address_span (packet_at y) y.network) (carried_span (packet_at y) y.network) same_c
     ∙ ap (λ (k : Sums). settled_in y.network z k.carried) carried_is in
-    let value_c : m.carried.value ≡ updated (word_or_zero s oc) (covered (sums_of y s).carried s) (covered (sums_of y s).carried t) = ap (λ (k : Sums). k.carried.value) e in
-    let low : updated (word_or_zero s oc) (covered (sums_of y s).carried s) (covered (sums_of y s).carried t) ≤ 65535 = renewed_below (word_or_zero s oc) (covered (sums_of y s).carried s) (covered (sums_of y s).carried t) in
+    let value_c : m.carried.value ≡ updated (word_or_zero s oc) (covered_words (sums_of y s).carried s) (covered_words (sums_of y s).carried t) = ap (λ (k : Sums). k.carried.value) e in
+    let low : updated (word_or_zero s oc) (covered_words (sums_of y s).carried s) (covered_words (sums_of y s).carried t) ≤ 65535 = renewed_below (word_or_zero s oc) (covered_words (sums_of y s).carried s) (covered_words (sums_of y s).carried t) in
     let small_v : m.carried.value < 65536 = omega arith in
     let small_z : settled_in y.network z m.carried < 65536 = settled_below y.network z m.carried (word_below (with_header y m t) oc d) small_v in
     step 103 (change_at 102 f ds) (with_header y m t) oc h (settled_in y.network z m.carried) small_e d ks there_c in_u.1 gives_c small_z

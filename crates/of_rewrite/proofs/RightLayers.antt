@@ -12,10 +12,10 @@ use Rattle.of_layers.specs.Bits.{bits}
 use Rattle.of_layers.specs.Fields.{row_of}
 use Rattle.of_layers.specs.Layers.{Cell, Layers, Carried, Body, Plain, Arp, Ipv4, Ipv6, cells_in, byte_cells, cells, encoded, ipv4, ipv6, plain, items_of, size_of}
 use Rattle.of_layers.specs.Looking.{name_is, look_up, locate_at}
-use Rattle.of_layers.specs.WellFormed.{Fits, IsIpv4, IsLayers}
+use Rattle.of_layers.specs.WellFormed.{FitsItems, IsIpv4, IsLayers}
 use Rattle.of_headers.specs.Places.{width, network_of, layout_of}
 use Rattle.of_headers.proofs.LocateLemmas.{width-append, width_bytes, locate_front}
-use Rattle.of_rewrite.specs.Checksum.{fold, words_of, number, differ, updated, never_zero, udp_updated, carried_updated, AreWords, sums_to_ones}
+use Rattle.of_rewrite.specs.Checksum.{fold, words_of, number_of_bits, differ, updated, never_zero, udp_updated, carried_updated, AreWords, sums_to_ones}
 use Rattle.of_rewrite.specs.Rewriting.{change_at, words, without_addresses, header_cover, address_cover, carried_cover}
 use Rattle.of_rewrite.specs.Renewal.{packet_at, header_span, address_span, carried_span}
 use Rattle.of_rewrite.proofs.CoveredWords.{words_in}
@@ -119,11 +119,11 @@ record Begins (ws : List ℕ) : Type 0 where
   pub some : 0 < word
 
 begins_so : (n : ℕ) (s : List ℕ) → Begins (words_of (suc n) (0 ∷ 1 ∷ s))
-unfolding words_of number
+unfolding words_of number_of_bits
 begins_so n s =
     let p : 0 < 2 ^ length (take 14 s) = pow_pos (length (take 14 s)) in
-    let e : number (take 16 (0 ∷ 1 ∷ s)) ≡ 0 * 2 ^ length (1 ∷ take 14 s) + (1 * 2 ^ length (take 14 s) + number (take 14 s)) = refl in
-    record { word = number (take 16 (0 ∷ 1 ∷ s)); rest = words_of n (drop 16 (0 ∷ 1 ∷ s)); is = refl; some = omega arith }
+    let e : number_of_bits (take 16 (0 ∷ 1 ∷ s)) ≡ 0 * 2 ^ length (1 ∷ take 14 s) + (1 * 2 ^ length (take 14 s) + number_of_bits (take 14 s)) = refl in
+    record { word = number_of_bits (take 16 (0 ∷ 1 ∷ s)); rest = words_of n (drop 16 (0 ∷ 1 ∷ s)); is = refl; some = omega arith }
 
 header_begins : (ns o : List ℕ) (c : Carried) (rest : List ℕ) → IsIpv4 ns o c rest → Begins (words (cells_in ipv4 ns ++ byte_cells o))
 unfolding bits
@@ -312,7 +312,7 @@ pub record PacketWords (lack : Bool) (t : Transport) (ns ms p q : List ℕ) (k :
   pub after : q ++ words (change_at 103 k (cells_in (items_of t) ms)) ≡ x ++ (k c ∷ y)
   pub rule : k c ≡ carried_updated lack t c (a ++ (c ∷ b)) (x ++ (c ∷ y))
 
-packet_words : (lack : Bool) (t : Transport) (ns ms p q : List ℕ) (k : ℕ → ℕ) (a m : ℕ) → Fits (items_of t) ns → Fits (items_of t) ms → placed 0 103 (items_of t) ≡ Some (record { first = 16 * a; bits = 16 }) → 8 * size_of t ≡ 16 * (a + (1 + m)) →
+packet_words : (lack : Bool) (t : Transport) (ns ms p q : List ℕ) (k : ℕ → ℕ) (a m : ℕ) → FitsItems (items_of t) ns → FitsItems (items_of t) ms → placed 0 103 (items_of t) ≡ Some (record { first = 16 * a; bits = 16 }) → 8 * size_of t ≡ 16 * (a + (1 + m)) →
     look_up 103 (cells_in (items_of t) ms) ≡ look_up 103 (cells_in (items_of t) ns) → length p ≡ length q → AreWords p →
     ((z : ℕ) → k z ≡ carried_updated lack t z (p ++ words (cells_in (items_of t) ns)) (q ++ words (cells_in (items_of t) ms))) → PacketWords lack t ns ms p q k
 packet_words lack t ns ms p q k a m fn fm at size same long are rule =
@@ -352,7 +352,7 @@ packet_words lack t ns ms p q k a m fn fm at size same long are rule =
     }
 
 -- for each kind: what is carried may be nothing that has a checksum
-pub kinds_words : (lack : Bool) (t : Transport) (ns ms p q : List ℕ) (k : ℕ → ℕ) → Fits (items_of t) ns → Fits (items_of t) ms →
+pub kinds_words : (lack : Bool) (t : Transport) (ns ms p q : List ℕ) (k : ℕ → ℕ) → FitsItems (items_of t) ns → FitsItems (items_of t) ms →
     look_up 103 (cells_in (items_of t) ms) ≡ look_up 103 (cells_in (items_of t) ns) → length p ≡ length q → AreWords p →
     ((z : ℕ) → k z ≡ carried_updated lack t z (p ++ words (cells_in (items_of t) ns)) (q ++ words (cells_in (items_of t) ms))) → (t ≡ Nothing) ⊎ PacketWords lack t ns ms p q k
 unfolding row_of

@@ -9,7 +9,7 @@ use Rattle.of_layers.specs.Bits.{bits}
 use Rattle.of_layers.specs.Layers.{Cell, encoded}
 use Rattle.of_layers.specs.Looking.{look_up, locate_at}
 use Rattle.of_layers.proofs.BitLemmas.{length-bits}
-use Rattle.of_rewrite.specs.Checksum.{fold, number, words_of, change, differ, updated, never_zero, sums_to_ones, AreWords}
+use Rattle.of_rewrite.specs.Checksum.{fold, number_of_bits, words_of, change, differ, updated, never_zero, sums_to_ones, AreWords}
 use Rattle.of_rewrite.specs.Rewriting.{change_at, words}
 use Rattle.of_rewrite.proofs.Changes.{changes, sum_changed, right_by, without_word}
 use Rattle.of_rewrite.proofs.Finding.{Sound, Found, found}
@@ -108,7 +108,7 @@ words_below zero s h i = omega arith
 words_below (suc n) s h zero =
     let l : length (take 16 s) ≤ 16 = omega (arith, length-take 16 s) in
     let p : 2 ^ length (take 16 s) ≤ 2 ^ 16 = pow-le-pow_right (omega arith) l in
-    let k : number (take 16 s) < 2 ^ length (take 16 s) = number_below (take 16 s) (bits_take 16 s h) in
+    let k : number_of_bits (take 16 s) < 2 ^ length (take 16 s) = number_below (take 16 s) (bits_take 16 s h) in
     omega arith
 words_below (suc n) s h (suc i) = words_below n (drop 16 s) (bits_drop 16 s h) i
 
@@ -123,7 +123,7 @@ words_mid k m zero a b c l e = absurd (omega arith)
 words_mid zero m (suc n) [] b c l e =
     let t : take 16 (bits 16 c ++ b) ≡ bits 16 c = take_at (bits 16 c) b 16 (length-bits 16 c) in
     let d : drop 16 (bits 16 c ++ b) ≡ b = drop_at (bits 16 c) b 16 (length-bits 16 c) in
-    let v : number (take 16 (bits 16 c ++ b)) ≡ c % 65536 = ap number t ∙ number-bits 16 c in
+    let v : number_of_bits (take 16 (bits 16 c ++ b)) ≡ c % 65536 = ap number_of_bits t ∙ number-bits 16 c in
     let r : words_of n (drop 16 (bits 16 c ++ b)) ≡ words_of m b = ap (words_of n) d ∙ ap (λ (j : ℕ). words_of j b) (omega arith) in
     λ j. v j ∷ r j
 words_mid zero m (suc n) (x ∷ a) b c l e = absurd (omega arith)
@@ -131,7 +131,7 @@ words_mid (suc k) m (suc n) a b c l e =
     let t : take 16 (a ++ (bits 16 c ++ b)) ≡ take 16 a = take-append-le 16 a (bits 16 c ++ b) (omega arith) in
     let d : drop 16 (a ++ (bits 16 c ++ b)) ≡ drop 16 a ++ (bits 16 c ++ b) = drop-append-le 16 a (bits 16 c ++ b) (omega arith) in
     let r : words_of n (drop 16 a ++ (bits 16 c ++ b)) ≡ words_of k (drop 16 a) ++ ((c % 65536) ∷ words_of m b) = words_mid k m n (drop 16 a) b c (omega (arith, length-drop 16 a)) (omega arith) in
-    λ j. number (t j) ∷ (ap (words_of n) d ∙ r) j
+    λ j. number_of_bits (t j) ∷ (ap (words_of n) d ∙ r) j
 
 -- the words of cells, where one is that of a number
 pub record Split (n : ℕ) (cs : List Cell) (v : ℕ) (k m : ℕ) : Type 0 where

@@ -9,13 +9,13 @@ use Rattle.of_layers.specs.Fields.{row_of}
 use Rattle.of_layers.specs.Bits.{bits, bits_of}
 use Rattle.of_layers.specs.Layers.{Cell, Layers, Carried, Extension, Body, Plain, Arp, Ipv4, Ipv6, cells_in, byte_cells, tag_cells, extension_cells, carried_cells, body_cells, cells, encoded, addresses, outer_tag, inner_tag, ether_type, arp, ipv4, ipv6, items_of, size_of, all_bytes, next_before, ttl, header_checksum, checksum}
 use Rattle.of_layers.specs.Looking.{locate_at}
-use Rattle.of_layers.specs.WellFormed.{Fits, IsBody, IsLayers}
+use Rattle.of_layers.specs.WellFormed.{FitsItems, IsBody, IsLayers}
 use Rattle.of_layers.proofs.BitLemmas.{length-bits, length-bits_of}
 use Rattle.of_headers.specs.declared.layout.Network.{Network}
 use Rattle.of_headers.specs.declared.layout.Network.TheVariants as network
 use Rattle.of_headers.specs.Places.{width, network_of, layout_of}
 use Rattle.of_headers.proofs.LocateLemmas.{locate-append, locate_bytes, locate_front, width-append, width_bytes}
-use Rattle.of_rewrite.specs.Renewal.{checksum_byte, moved, ttl_at, header_at, carried_at, HasRoomIn, HasRoom, packet_at}
+use Rattle.of_rewrite.specs.Renewal.{checksum_byte, moved, ttl_at, header_checksum_at, carried_at, HasRoomIn, HasRoom, packet_at}
 use Rattle.of_rewrite.proofs.Finding.{Sound, Found, found}
 use Rattle.of_rewrite.proofs.Structure.{placed, located, wide, sound, sound_bytes, sound_append, Part, tags_part, NoExtension, Chained, chained, items_total, ipv6_total, ipv4_stands, ipv6_stands}
 
@@ -101,7 +101,7 @@ unfolding row_of
 ipv6_header at m [] e = rw e refl
 ipv6_header at m (x ∷ es) e = rw e refl
 
-header_body : (type : ℕ) (b : Body) (at q : ℕ) → IsBody type b → at ≡ 8 * q → locate_at at 102 (body_cells b) ≡ number_place 16 (header_at q (network_of b))
+header_body : (type : ℕ) (b : Body) (at q : ℕ) → IsBody type b → at ≡ 8 * q → locate_at at 102 (body_cells b) ≡ number_place 16 (header_checksum_at q (network_of b))
 unfolding row_of
 header_body type (Plain rest) at q h e = locate_bytes at 102 rest
 header_body type (Arp ns rest) at q h e = locate_front at 102 (cells_in arp ns) rest ∙ located at 102 arp ns h.1.numbers
@@ -198,7 +198,7 @@ pub size_even : (k : Transport) → size_of k % 2 ≡ 0
 size_even k = elim k as (λ k. size_of k % 2 ≡ 0) [ Nothing ↦ refl | _ ↦ refl ]
 
 -- what is carried, with bytes after it
-whole_carried : (at : ℕ) (c : Carried) (rest : List ℕ) → at % 16 ≡ 0 → Fits (items_of c.kind) c.numbers → Whole at (carried_cells c ++ byte_cells rest)
+whole_carried : (at : ℕ) (c : Carried) (rest : List ℕ) → at % 16 ≡ 0 → FitsItems (items_of c.kind) c.numbers → Whole at (carried_cells c ++ byte_cells rest)
 whole_carried at c rest e f =
     let items : List Cell = cells_in (items_of c.kind) c.numbers in
     let w : width (cells_in (items_of c.kind) c.numbers) ≡ 8 * size_of c.kind = wide (items_of c.kind) c.numbers f ∙ items_total c.kind in
@@ -231,7 +231,7 @@ whole_body type (Ipv6 ns es c rest) at h e =
 -- ---- the frame
 
 pub record Stands (l : Layers) (s : List ℕ) : Type 0 where
-  pub header : locate_at 0 header_checksum (cells l) ≡ number_place 16 (header_at (packet_at (layout_of l)) (network_of l.body))
+  pub header : locate_at 0 header_checksum (cells l) ≡ number_place 16 (header_checksum_at (packet_at (layout_of l)) (network_of l.body))
   pub carried : locate_at 0 checksum (cells l) ≡ number_place 16 (carried_at (packet_at (layout_of l)) (network_of l.body))
   pub ttl_is : locate_at 0 ttl (cells l) ≡ number_place 8 (ttl_at (packet_at (layout_of l)) (network_of l.body))
   pub room : HasRoom (layout_of l) (length s)

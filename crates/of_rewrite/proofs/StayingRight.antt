@@ -7,7 +7,7 @@ use Rattle.of_layers.specs.Fields.{row_of}
 use Rattle.of_layers.specs.Layers.{Item, Cell, Layers, Carried, Extension, Body, Plain, Arp, Ipv4, Ipv6, cells_in, byte_cells, ipv4, ipv6, plain, items_of}
 use Rattle.of_layers.specs.Looking.{look_up}
 use Rattle.of_layers.specs.Reading.{layers_of}
-use Rattle.of_layers.specs.WellFormed.{AreBytes, Fits, IsIpv4, IsLayers}
+use Rattle.of_layers.specs.WellFormed.{AreBytes, FitsItems, IsIpv4, IsLayers}
 use Rattle.of_layers.proofs.FrameLemmas.{are_layers}
 use Rattle.of_rewrite.specs.Checksum.{updated, carried_updated, sums_to_ones}
 use Rattle.of_rewrite.specs.Rewriting.{change_at, replace_at, words, without_addresses, header_cover, address_cover, carried_cover, header_updated, carried_after}
@@ -96,7 +96,7 @@ pub record CarriedSet (lack : Bool) (c : Carried) (a : List Cell) (n v : ℕ) (g
   pub looked : cells_in (items_of c.kind) (numbers_with 103 k (items_of c.kind) (numbers_with 102 g (items_of c.kind) (numbers_with n (λ x. v) (items_of c.kind) c.numbers))) ≡ cut_at 103 k (cells_in (items_of c.kind) (numbers_with n (λ x. v) (items_of c.kind) c.numbers))
   pub set : p ++ q ≡ words (replace_at n v a) ++ words (change_at 103 k (cells_in (items_of c.kind) (numbers_with n (λ x. v) (items_of c.kind) c.numbers)))
 
-carried_set : (lack : Bool) (c : Carried) (a : List Cell) (n v : ℕ) (g k : ℕ → ℕ) → Replaceable n → Fits (items_of c.kind) c.numbers → (c.kind ≡ Nothing → a ≡ []) →
+carried_set : (lack : Bool) (c : Carried) (a : List Cell) (n v : ℕ) (g k : ℕ → ℕ) → Replaceable n → FitsItems (items_of c.kind) c.numbers → (c.kind ≡ Nothing → a ≡ []) →
     ((z : ℕ) → k z ≡ carried_updated lack c.kind z (words a ++ words (cells_in (items_of c.kind) c.numbers)) (words (replace_at n v a) ++ words (replace_at n v (cells_in (items_of c.kind) c.numbers)))) →
     words (cells_in (items_of c.kind) (numbers_with n (λ x. v) (items_of c.kind) c.numbers)) ≡ words (replace_at n v (cells_in (items_of c.kind) c.numbers)) → (p q : List ℕ) → p ≡ words (replace_at n v a) →
     q ≡ words (change_at 103 k (cells_in (items_of c.kind) (numbers_with 102 g (items_of c.kind) (numbers_with n (λ x. v) (items_of c.kind) c.numbers)))) → CarriedSet lack c a n v g k p q

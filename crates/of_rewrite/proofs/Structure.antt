@@ -7,7 +7,7 @@ use Rattle.of_layers.specs.declared.transport.Transport.{Transport}
 use Rattle.of_layers.specs.declared.transport.Transport.TheVariants.{Nothing}
 use Rattle.of_layers.specs.Layers.{Item, Cell, Carried, Extension, Options, Fragment, Body, Ipv4, Ipv6, cells_in, byte_cells, inner_cells, tag_cells, extension_cells, carried_cells, body_cells, outer_tag, inner_tag, ipv4, ipv6, options, fragment, items_of, size_of, all_bytes, next_before}
 use Rattle.of_layers.specs.Looking.{name_is, locate_at}
-use Rattle.of_layers.specs.WellFormed.{AreBytes, Fits, AreTags, IsIpv4, IsIpv6, AreExtensions}
+use Rattle.of_layers.specs.WellFormed.{AreBytes, FitsItems, AreTags, IsIpv4, IsIpv6, AreExtensions}
 use Rattle.of_layers.proofs.FrontLemmas.{total}
 use Rattle.of_headers.specs.Places.{width}
 use Rattle.of_headers.proofs.LocateLemmas.{locate-append, locate_bytes, locate_front, locate_behind, width-append, width_bytes}
@@ -20,19 +20,19 @@ abbrev pub placed : ℕ → ℕ → List Item → Option Place
 placed at n [] = None
 placed at n (i ∷ is) = if name_is n i.name then Some (record { first = at; bits = i.width }) else placed (at + i.width) n is
 
-pub located : (at n : ℕ) (is : List Item) (ns : List ℕ) → Fits is ns → locate_at at n (cells_in is ns) ≡ placed at n is
+pub located : (at n : ℕ) (is : List Item) (ns : List ℕ) → FitsItems is ns → locate_at at n (cells_in is ns) ≡ placed at n is
 located at n [] [] h = refl
 located at n [] (m ∷ ns) h = absurd h
 located at n (i ∷ is) [] h = absurd h
 located at n (i ∷ is) (m ∷ ns) h = ap (λ (x : Option Place). cond (name_is n i.name) (Some (record { first = at; bits = i.width })) x) (located (at + i.width) n is ns h.1)
 
-pub wide : (is : List Item) (ns : List ℕ) → Fits is ns → width (cells_in is ns) ≡ total is
+pub wide : (is : List Item) (ns : List ℕ) → FitsItems is ns → width (cells_in is ns) ≡ total is
 wide [] [] h = refl
 wide [] (m ∷ ns) h = absurd h
 wide (i ∷ is) [] h = absurd h
 wide (i ∷ is) (m ∷ ns) h = ap (λ (k : ℕ). i.width + k) (wide is ns h.1)
 
-pub sound : (is : List Item) (ns : List ℕ) → Fits is ns → Sound (cells_in is ns)
+pub sound : (is : List Item) (ns : List ℕ) → FitsItems is ns → Sound (cells_in is ns)
 sound [] [] h = tt
 sound [] (m ∷ ns) h = absurd h
 sound (i ∷ is) [] h = absurd h
@@ -46,7 +46,7 @@ pub sound_append : (a b : List Cell) → Sound a → Sound b → Sound (a ++ b)
 sound_append [] b h k = k
 sound_append (c ∷ a) b h k = (h.0, sound_append a b h.1 k)
 
-pub outer_fits : (t : List ℕ) → Fits inner_tag t → Fits outer_tag t
+pub outer_fits : (t : List ℕ) → FitsItems inner_tag t → FitsItems outer_tag t
 outer_fits [] h = h
 outer_fits (a ∷ []) h = h
 outer_fits (a ∷ b ∷ []) h = h
@@ -86,7 +86,7 @@ tags_part m (t ∷ ts) l k h =
 pub record Chained (es : List Extension) (c : Carried) (m : ℕ) : Type 0 where
   pub part : Part (extension_cells es) (8 * all_bytes es) m
   pub even : all_bytes es % 8 ≡ 0
-  pub fits : Fits (items_of c.kind) c.numbers
+  pub fits : FitsItems (items_of c.kind) c.numbers
   pub rest : AreBytes c.rest
 
 -- the format of an extension header lacks a name
@@ -156,7 +156,7 @@ pub record Ended (c : Carried) (rest : List ℕ) (m : ℕ) : Type 0 where
   pub is_sound : Sound (carried_cells c ++ byte_cells rest)
   pub there : (at : ℕ) → locate_at at m (carried_cells c ++ byte_cells rest) ≡ placed at m (items_of c.kind)
 
-pub ended : (c : Carried) (rest : List ℕ) (m : ℕ) → Fits (items_of c.kind) c.numbers → AreBytes c.rest → AreBytes rest → Ended c rest m
+pub ended : (c : Carried) (rest : List ℕ) (m : ℕ) → FitsItems (items_of c.kind) c.numbers → AreBytes c.rest → AreBytes rest → Ended c rest m
 ended c rest m f a b =
     let items : List Cell = cells_in (items_of c.kind) c.numbers in
     let w : width (cells_in (items_of c.kind) c.numbers) ≡ 8 * size_of c.kind = wide (items_of c.kind) c.numbers f ∙ items_total c.kind in

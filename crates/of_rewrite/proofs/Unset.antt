@@ -19,7 +19,7 @@ use Rattle.of_headers.specs.declared.layout.Network.TheVariants as network
 use Rattle.of_headers.specs.Places.{layout_of}
 use Rattle.of_rewrite.specs.Checksum.{updated, carried_updated}
 use Rattle.of_rewrite.specs.Rewriting.{change_at, replace_at, number_set}
-use Rattle.of_rewrite.specs.Renewal.{header_at, carried_at, ttl_at, HasRoomIn, packet_at}
+use Rattle.of_rewrite.specs.Renewal.{header_checksum_at, carried_at, ttl_at, HasRoomIn, packet_at}
 use Rattle.of_rewrite.proofs.CoveredWords.{header_words, carried_words, carried_rule}
 use Rattle.of_rewrite.proofs.Changes.{renewed_same, differ_none}
 use Rattle.of_rewrite.proofs.Finding.{Sound, Found, found, not_found}
@@ -62,7 +62,7 @@ pub unset : (n v : ℕ) (l : Layers) (s : List ℕ) → Stands l s → locate_at
 unset n v l s st none =
     let y : Layout = layout_of l in
     let cs : List Cell = cells l in
-    let oh : Option ℕ = header_at (packet_at (layout_of l)) (layout_of l).network in
+    let oh : Option ℕ = header_checksum_at (packet_at (layout_of l)) (layout_of l).network in
     let oc : Option ℕ = carried_at (packet_at (layout_of l)) (layout_of l).network in
     let same : replace_at n v cs ≡ cs = (not_found n 0 cs (λ x. v) none).0 in
     let small_h : Small 102 cs = small_at 102 cs oh st.is_sound st.header in

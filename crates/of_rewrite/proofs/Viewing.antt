@@ -8,11 +8,11 @@ use Rattle.of_layers.specs.declared.field.Field.TheVariants.{InPort, Metadata, V
 use Rattle.of_layers.specs.Fields.{row_of, number_of, is_settable}
 use Rattle.of_layers.specs.Layers.{Layers, cells, outer_tag, inner_tag, ttl}
 use Rattle.of_layers.specs.Reading.{layers_of}
-use Rattle.of_layers.specs.WellFormed.{Fits, AreTags, IsLayers}
+use Rattle.of_layers.specs.WellFormed.{FitsItems, AreTags, IsLayers}
 use Rattle.of_layers.proofs.FrameLemmas.{are_layers}
 use Rattle.of_headers.specs.FieldMap.{field_map, vid}
 use Rattle.of_headers.specs.Tags.{pushed, popped}
-use Rattle.of_rewrite.specs.Calls.{Call, PushVlan, PopVlan, Set, SetTtl, DecTtl, Lend, IsAllowed, frame_after}
+use Rattle.of_rewrite.specs.Calls.{FrameCall, PushVlan, PopVlan, Set, SetTtl, DecTtl, Lend, IsAllowed, frame_after}
 use Rattle.of_rewrite.specs.Frames.{IsFrame}
 use Rattle.of_rewrite.specs.Replaced.{numbers_with, tags_with, layers_set}
 use Rattle.of_rewrite.specs.TimeToLive.{ttl_of, layers_ttl_decremented}
@@ -29,7 +29,7 @@ pub chained : (u v w : View) → AreSameViews u v → AreSameViews v w → AreSa
 chained u v w a b = record { fields = λ f. a.fields f ∙ b.fields f; tags = a.tags ∙ b.tags; ttl = a.ttl ∙ b.ttl }
 
 -- an action makes the same views of the same
-pub same_after : (call : Call) (v w : View) → AreSameViews v w → AreSameViews (view_after call v) (view_after call w)
+pub same_after : (call : FrameCall) (v w : View) → AreSameViews v w → AreSameViews (view_after call v) (view_after call w)
 same_after (PushVlan type) v w h = record { fields = h.fields; tags = ap (λ (ts : List Tag). (view_pushed (record v { tags = ts })).tags) h.tags; ttl = h.ttl }
 same_after PopVlan v w h = record { fields = h.fields; tags = ap (λ (ts : List Tag). (view_popped (record v { tags = ts })).tags) h.tags; ttl = h.ttl }
 same_after (Set f value) v w h = record {
@@ -84,7 +84,7 @@ four_set VlanVid v g k a b c d = refl
 four_set VlanPcp v g k a b c d = refl
 four_set f v g k a b c d = refl
 
-four_numbers : (t : List ℕ) → Fits inner_tag t → (P : List ℕ → Type 0) → ((a b c d : ℕ) → P (a ∷ b ∷ c ∷ d ∷ [])) → P t
+four_numbers : (t : List ℕ) → FitsItems inner_tag t → (P : List ℕ → Type 0) → ((a b c d : ℕ) → P (a ∷ b ∷ c ∷ d ∷ [])) → P t
 four_numbers [] h P p = absurd h
 four_numbers (a ∷ []) h P p = absurd h.1
 four_numbers (a ∷ b ∷ []) h P p = absurd h.1.1
@@ -145,7 +145,7 @@ decremented_by (Some t) l h sound is = less_or_same t l h sound is (nat_le t 1)
 by_layers : (v : View) (frame : List ℕ) (l : Layers) → layers_of frame ≡ l → AreSameViews v (view_in l) → IsView v frame
 by_layers v frame l e h = subst (λ (x : Layers). AreSameViews v (view_in x)) (sym e) h
 
-own_view : (call : Call) (s : List ℕ) → IsFrame s → IsAction call → IsAllowed call s → IsView (view_after call (view_of s)) (frame_after call s)
+own_view : (call : FrameCall) (s : List ℕ) → IsFrame s → IsAction call → IsAllowed call s → IsView (view_after call (view_of s)) (frame_after call s)
 own_view (PushVlan type) s h a k = by_layers _ _ (pushed type (layers_of s)) (layers_after_push type s h k) (pushed_view type (layers_of s))
 own_view PopVlan s h a k = by_layers _ _ (popped (layers_of s)) (layers_after_pop s h) (popped_view (layers_of s))
 own_view (Set f v) s h a k = by_layers _ _ (layers_set (number_of f) v (layers_of s)) (layers_after_set f v s h k) (view_is_set f v (layers_of s) k (are_layers s h.1 h.0))
@@ -155,12 +155,12 @@ own_view DecTtl s h a k =
     (decremented_by (ttl_of (layers_of s)) (layers_of s) (are_layers s h.1 h.0) (frame_stands s h.1 h.0).is_sound refl)
 own_view (Lend f bytes) s h a k = absurd a
 
-pub view_follows : (call : Call) (frame : List ℕ) (v : View) → IsFrame frame → IsAction call → IsAllowed call frame → IsView v frame → IsView (view_after call v) (frame_after call frame)
+pub view_follows : (call : FrameCall) (frame : List ℕ) (v : View) → IsFrame frame → IsAction call → IsAllowed call frame → IsView v frame → IsView (view_after call v) (frame_after call frame)
 view_follows call s v h a k is = chained (view_after call v) (view_after call (view_of s)) (view_of (frame_after call s)) (same_after call v (view_of s) is) (own_view call s h a k)
 
 -- ---- what may not be set
 
-pub fixed_stays : (call : Call) (frame : List ℕ) (v : View) (f : Field) → IsAllowed call frame → is_settable f ≡ false → (view_after call v).fields f ≡ v.fields f
+pub fixed_stays : (call : FrameCall) (frame : List ℕ) (v : View) (f : Field) → IsAllowed call frame → is_settable f ≡ false → (view_after call v).fields f ≡ v.fields f
 fixed_stays (Set g value) frame v f k h = sym (not_set g value k f (v.fields f) (replaced_if_there (row_of f).bits value (v.fields f)) h)
 fixed_stays (PushVlan type) frame v f k h = refl
 fixed_stays other frame v f k h = refl

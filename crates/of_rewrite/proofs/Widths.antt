@@ -7,7 +7,7 @@ use Rattle.of_layers.specs.declared.field.Field.{Field}
 use Rattle.of_layers.specs.declared.field.Field.TheVariants.{InPort, Metadata, EthType, IpProto, VlanVid}
 use Rattle.of_layers.specs.declared.transport.Transport.{Transport}
 use Rattle.of_layers.specs.declared.transport.Transport.TheVariants.{Nothing}
-use Rattle.of_layers.specs.Fields.{row_of, number_of, bits_of, is_settable}
+use Rattle.of_layers.specs.Fields.{row_of, number_of, bit_count, is_settable}
 use Rattle.of_layers.specs.Layers.{Item, Cell, Carried, Extension, Options, Fragment, Body, Plain, Arp, Ipv4, Ipv6, Layers, cells_in, byte_cells, inner_cells, tag_cells, extension_cells, carried_cells, body_cells, cells, next_before, addresses, outer_tag, inner_tag, ether_type, arp, ipv4, ipv6, options, fragment, items_of, ttl}
 use Rattle.of_layers.specs.Looking.{name_is, look_up}
 use Rattle.of_rewrite.proofs.Finding.{Sound}
@@ -97,7 +97,7 @@ module _ (n w : ℕ) (is : IsWide n w) where
 -- a cell has the bits of its field, but VLAN_VID's has 12, without OFPVID_PRESENT
 abbrev pub cell_bits : Field → ℕ
 cell_bits VlanVid = 12
-cell_bits f = bits_of f
+cell_bits f = bit_count f
 
 next_wide : (n w : ℕ) (es : List Extension) (is : Item → List Item) → wide n w (is (next_before [])) ≡ true → ((e : Extension) (rest : List Extension) → wide n w (is (next_before (e ∷ rest))) ≡ true) → wide n w (is (next_before es)) ≡ true
 next_wide n w [] is a b = a

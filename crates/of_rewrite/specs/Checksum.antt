@@ -5,13 +5,13 @@ use Rattle.of_layers.specs.declared.transport.Transport.TheVariants.{Udp}
 
 -- ---- the words of 16 bits that bits are, the highest bit of each first
 
-unfoldable pub number : List ℕ → ℕ
-number [] = 0
-number (b ∷ bs) = b * 2 ^ length bs + number bs
+unfoldable pub number_of_bits : List ℕ → ℕ
+number_of_bits [] = 0
+number_of_bits (b ∷ bs) = b * 2 ^ length bs + number_of_bits bs
 
 unfoldable pub words_of : ℕ → List ℕ → List ℕ
 words_of zero s = []
-words_of (suc n) s = number (take 16 s) ∷ words_of n (drop 16 s)
+words_of (suc n) s = number_of_bits (take 16 s) ∷ words_of n (drop 16 s)
 
 -- ---- sums in one's complement
 

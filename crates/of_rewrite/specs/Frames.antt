@@ -4,7 +4,7 @@ use Rattle.of_layers.specs.declared.field.Field.{Field}
 use Rattle.of_layers.specs.Layers.{Cell, cells, encoded, ttl}
 use Rattle.of_layers.specs.Reading.{layers_of}
 use Rattle.of_layers.specs.WellFormed.{AreBytes}
-use Rattle.of_rewrite.specs.Checksum.{number}
+use Rattle.of_rewrite.specs.Checksum.{number_of_bits}
 use Rattle.of_rewrite.specs.Rewriting.{number_set, field_set}
 use Rattle.of_headers.specs.Tags.{pushed, popped}
 use Rattle.of_rewrite.specs.TimeToLive.{ttl_of, ttl_decremented_from}
@@ -16,7 +16,7 @@ IsFrame frame = (14 ≤ length frame) × AreBytes frame
 -- the bytes of 8 bits that bits are, the highest bit of each first
 unfoldable pub octets_of : ℕ → List ℕ → List ℕ
 octets_of zero s = []
-octets_of (suc n) s = number (take 8 s) ∷ octets_of n (drop 8 s)
+octets_of (suc n) s = number_of_bits (take 8 s) ∷ octets_of n (drop 8 s)
 
 -- the bytes that cells encode
 abbrev pub bytes_in : List Cell → List ℕ

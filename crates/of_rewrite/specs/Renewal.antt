@@ -62,9 +62,9 @@ abbrev pub moved : ℕ → Option ℕ → Option ℕ
 moved at None = None
 moved at (Some n) = Some (at + n)
 
-abbrev pub header_at : ℕ → Network → Option ℕ
-header_at at (Ipv4 p) = Some (at + 10)
-header_at at other = None
+abbrev pub header_checksum_at : ℕ → Network → Option ℕ
+header_checksum_at at (Ipv4 p) = Some (at + 10)
+header_checksum_at at other = None
 
 abbrev pub carried_at : ℕ → Network → Option ℕ
 carried_at at Plain = None
@@ -81,7 +81,7 @@ ttl_at at (Ipv6 named p) = Some (at + 7)
 
 abbrev pub sums_of : Layout → List ℕ → Sums
 sums_of l s = record {
-  header = record { value = word_or_zero s (header_at (packet_at l) l.network); differs = false; front = header_span (packet_at l) l.network; back = no_words };
+  header = record { value = word_or_zero s (header_checksum_at (packet_at l) l.network); differs = false; front = header_span (packet_at l) l.network; back = no_words };
   carried = record { value = word_or_zero s (carried_at (packet_at l) l.network); differs = false; front = address_span (packet_at l) l.network; back = carried_span (packet_at l) l.network };
 }
 
@@ -105,7 +105,7 @@ settled_in (Ipv4 p) c m = settled true p.transport c m
 settled_in (Ipv6 named p) c m = settled false p.transport c m
 
 abbrev pub with_header : Layout → Sums → List ℕ → List ℕ
-with_header l m s = written_at (header_at (packet_at l) l.network) m.header.value s
+with_header l m s = written_at (header_checksum_at (packet_at l) l.network) m.header.value s
 
 abbrev pub with_carried : Layout → Sums → List ℕ → List ℕ
 with_carried l m s = written_at (carried_at (packet_at l) l.network) (settled_in l.network (word_or_zero s (carried_at (packet_at l) l.network)) m.carried) s

@@ -49,11 +49,11 @@ carried_cover (Ipv4 ns opts carried rest) = cells_in (items_of carried.kind) car
 carried_cover (Ipv6 ns extensions carried rest) = cells_in (items_of carried.kind) carried.numbers
 
 -- how the checksum of what is carried is updated: over IPv4 that of UDP is optional
-abbrev pub rule_in : Body → ℕ → List ℕ → List ℕ → ℕ
-rule_in (Plain rest) = updated
-rule_in (Arp ns rest) = updated
-rule_in (Ipv4 ns opts carried rest) = carried_updated true carried.kind
-rule_in (Ipv6 ns extensions carried rest) = carried_updated false carried.kind
+abbrev pub checksum_rule : Body → ℕ → List ℕ → List ℕ → ℕ
+checksum_rule (Plain rest) = updated
+checksum_rule (Arp ns rest) = updated
+checksum_rule (Ipv4 ns opts carried rest) = carried_updated true carried.kind
+checksum_rule (Ipv6 ns extensions carried rest) = carried_updated false carried.kind
 
 -- ---- the whole
 
@@ -63,7 +63,7 @@ header_updated b n v c = updated c (words (header_cover b)) (words (replace_at n
 
 -- that of what an IP packet carries
 abbrev pub carried_after : Body → ℕ → ℕ → ℕ → ℕ
-carried_after b n v c = rule_in b c (words (address_cover b) ++ words (carried_cover b)) (words (replace_at n v (address_cover b)) ++ words (replace_at n v (carried_cover b)))
+carried_after b n v c = checksum_rule b c (words (address_cover b) ++ words (carried_cover b)) (words (replace_at n v (address_cover b)) ++ words (replace_at n v (carried_cover b)))
 
 -- the cells of layers where the number of that name becomes v: without such a number they stay
 unfoldable pub number_set : ℕ → ℕ → Layers → List Cell

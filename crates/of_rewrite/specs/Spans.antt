@@ -15,18 +15,18 @@ words_at (suc n) i s = word s i ∷ words_at n (i + 2) s
 abbrev pub span_words : Span → List ℕ → List ℕ
 span_words p s = words_at p.words p.at s
 
-abbrev pub covered : Sum → List ℕ → List ℕ
-covered m s = span_words m.front s ++ span_words m.back s
+abbrev pub covered_words : Sum → List ℕ → List ℕ
+covered_words m s = span_words m.front s ++ span_words m.back s
 
 abbrev pub followed : Sum → List ℕ → List ℕ → Sum
-followed m old new = record m { value = updated m.value (covered m old) (covered m new); differs = m.differs || differ (covered m old) (covered m new) }
+followed m old new = record m { value = updated m.value (covered_words m old) (covered_words m new); differs = m.differs || differ (covered_words m old) (covered_words m new) }
 
 abbrev pub both_followed : Sums → List ℕ → List ℕ → Sums
 both_followed m old new = record { header = followed m.header old new; carried = followed m.carried old new }
 
 -- after the change of one word, if it is covered
-abbrev pub stepped : Bool → ℕ → ℕ → Sum → Sum
-stepped there old new m = if there then record m { value = updated m.value (old ∷ []) (new ∷ []); differs = m.differs || not (old == new) } else m
+abbrev pub stepped_sum : Bool → ℕ → ℕ → Sum → Sum
+stepped_sum there old new m = if there then record m { value = updated m.value (old ∷ []) (new ∷ []); differs = m.differs || not (old == new) } else m
 
 -- words begin at even bytes
 abbrev pub IsEven : Sum → Type 0

@@ -2,12 +2,12 @@
 use Rattle.std.specs.Prelude.{◌≡◌, ℕ, ◌-◌, ◌%◌, ◌^◌, ◌==◌, nat_le, ⊤, if◌then◌else◌, List, [], ◌∷◌, drop, map, slice_index, Option, Some, None, option_map, unwrap_or}
 use Rattle.of_layers.specs.declared.field.Field.{Field}
 use Rattle.of_layers.specs.declared.field.Field.TheVariants.{InPort, Metadata, VlanVid, VlanPcp}
-use Rattle.of_layers.specs.Fields.{number_of, bits_of}
+use Rattle.of_layers.specs.Fields.{number_of, bit_count}
 use Rattle.of_layers.specs.Layers.{Layers, Cell, cells}
 use Rattle.of_layers.specs.Looking.{look}
 use Rattle.of_layers.specs.Reading.{layers_of}
 use Rattle.of_headers.specs.FieldMap.{vid}
-use Rattle.of_rewrite.specs.Calls.{Call, PushVlan, PopVlan, Set, SetTtl, DecTtl, Lend}
+use Rattle.of_rewrite.specs.Calls.{FrameCall, PushVlan, PopVlan, Set, SetTtl, DecTtl, Lend}
 use Rattle.of_rewrite.specs.TimeToLive.{ttl_of}
 
 -- a VLAN tag (IEEE 802.1Q, 9.6)
@@ -89,7 +89,7 @@ outermost_set f value (t ∷ ts) = tag_set f value t ∷ ts
 
 -- SET_FIELD: the field gets the value, if the frame has the field. VLAN_VID and VLAN_PCP are set in the outermost tag.
 abbrev pub view_set : Field → ℕ → View → View
-view_set f value v = record v { fields = λ g. if number_of g == number_of f then replaced_if_there (bits_of g) value (v.fields g) else v.fields g; tags = outermost_set f value v.tags }
+view_set f value v = record v { fields = λ g. if number_of g == number_of f then replaced_if_there (bit_count g) value (v.fields g) else v.fields g; tags = outermost_set f value v.tags }
 
 -- SET_NW_TTL: the TTL gets the value, if the frame has a TTL
 abbrev pub view_ttl : ℕ → View → View
@@ -100,12 +100,12 @@ abbrev pub view_ttl_decremented : View → View
 view_ttl_decremented v = record v { ttl = option_map (λ (t : ℕ). if nat_le t 1 then t else t - 1) v.ttl }
 
 -- the call of an action: any call except a loan, by which other bytes may be written
-abbrev pub IsAction : Call → Type 0
+abbrev pub IsAction : FrameCall → Type 0
 IsAction (Lend field bytes) = ⊥
 IsAction other = ⊤
 
 -- a loan is the call of no action, so its line means nothing
-abbrev pub view_after : Call → View → View
+abbrev pub view_after : FrameCall → View → View
 view_after (PushVlan type) v = view_pushed v
 view_after PopVlan v = view_popped v
 view_after (Set field value) v = view_set field value v

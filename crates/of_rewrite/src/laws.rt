@@ -8,7 +8,7 @@ ghost use Rattle.of_headers.specs.FieldMap.{field_map};
 ghost use Rattle.of_headers.specs.declared.known.Known.{Known};
 ghost use Rattle.of_headers.specs.Known.{IsKnownOf};
 ghost use Rattle.of_rewrite.specs.Frames.{IsFrame};
-ghost use Rattle.of_rewrite.specs.Calls.{Call, AreAllowed, IsAllowed, frame_after, frame_after_all, known_after_all};
+ghost use Rattle.of_rewrite.specs.Calls.{FrameCall, AreAllowed, IsAllowed, frame_after, frame_after_all, known_after_all};
 ghost use Rattle.of_rewrite.specs.Checksum.{updated, never_zero, sums_to_ones, AreWords};
 ghost use Rattle.of_rewrite.specs.Views.{IsAction, IsView, View, fields_seen, view_after, view_of};
 
@@ -32,7 +32,7 @@ pub fn stays_right()
 ///
 /// So the fields that a frame gives at places that were kept are those of its bytes.
 pub fn known_stays_right()
-    ensures { (calls : List Call) (known : Known) (frame : List ℕ) → IsFrame frame → AreAllowed calls frame → IsKnownOf known frame →
+    ensures { (calls : List FrameCall) (known : Known) (frame : List ℕ) → IsFrame frame → AreAllowed calls frame → IsKnownOf known frame →
         IsKnownOf (known_after_all calls frame known) (frame_after_all calls frame) }
 {}
 
@@ -43,11 +43,11 @@ pub fn known_stays_right()
 /// `present`: no action adds a header or removes one, except for VLAN tags.
 /// `fixed`: a field that SET_FIELD may not set, such as ETH_TYPE or IP_PROTO, keeps its value.
 pub fn views_follow()
-    ensures view { (call : Call) (frame : List ℕ) (v : View) → IsFrame frame → IsAction call → IsAllowed call frame → IsView v frame →
+    ensures view { (call : FrameCall) (frame : List ℕ) (v : View) → IsFrame frame → IsAction call → IsAllowed call frame → IsView v frame →
         IsView (view_after call v) (frame_after call frame) }
-    ensures frame { (call : Call) (frame : List ℕ) → IsFrame frame → IsAllowed call frame → IsFrame (frame_after call frame) }
-    ensures present { (call : Call) (v : View) (f : Field) → is_some ((view_after call v).fields f) ≡ is_some (v.fields f) }
-    ensures fixed { (call : Call) (frame : List ℕ) (v : View) (f : Field) → IsAllowed call frame → is_settable f ≡ false →
+    ensures frame { (call : FrameCall) (frame : List ℕ) → IsFrame frame → IsAllowed call frame → IsFrame (frame_after call frame) }
+    ensures present { (call : FrameCall) (v : View) (f : Field) → is_some ((view_after call v).fields f) ≡ is_some (v.fields f) }
+    ensures fixed { (call : FrameCall) (frame : List ℕ) (v : View) (f : Field) → IsAllowed call frame → is_settable f ≡ false →
         (view_after call v).fields f ≡ v.fields f }
 {}
 

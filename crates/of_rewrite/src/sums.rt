@@ -2,7 +2,7 @@
 
 ghost use Rattle.std.specs.Prelude.{ℕ, ◌≡◌, ◌+◌, ◌*◌, ◌%◌, ◌≤◌, ◌<◌, ◌&&◌, Bool, nat_le, nat_lt, List, length};
 ghost use Rattle.of_layers.specs.Reading.{word};
-ghost use Rattle.of_rewrite.specs.Spans.{with_word, stepped, followed, both_followed, IsEven, AreEven};
+ghost use Rattle.of_rewrite.specs.Spans.{with_word, stepped_sum, followed, both_followed, IsEven, AreEven};
 
 use crate::checksum::{change_of, renewed_by};
 
@@ -34,7 +34,7 @@ pub struct Sum {
 impl Sum {
     /// The checksum after the change of one word in one of its spans.
     fn step(self, there: bool, old: u16, new: u16) -> Sum
-        ensures { result ≡ stepped there old new self }
+        ensures { result ≡ stepped_sum there old new self }
     {
         if there {
             Sum {

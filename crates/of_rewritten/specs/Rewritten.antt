@@ -3,7 +3,7 @@ use Rattle.std.specs.Prelude.{ℕ, ◌+◌, ◌%◌, ◌^◌, ◌==◌, List, []
 use Rattle.std.specs.Option.{option_map}
 use Rattle.of_layers.specs.declared.field.Field.{Field}
 use Rattle.of_layers.specs.declared.field.Field.TheVariants.{VlanVid, VlanPcp}
-use Rattle.of_layers.specs.Fields.{bits_of, number_of}
+use Rattle.of_layers.specs.Fields.{bit_count, number_of}
 
 -- VLAN_VID with another VID: without a tag it stays 0, and with one it has the bit OFPVID_PRESENT
 abbrev pub vid_after : ℕ → ℕ → ℕ
@@ -12,7 +12,7 @@ vid_after v old = if old == 0 then 0 else 4096 + v % 4096
 -- the value of a field that is set, to as many bits as the field has; a field that is absent stays absent
 abbrev pub value_after : Field → ℕ → Option ℕ → Option ℕ
 value_after VlanVid v old = option_map (vid_after v) old
-value_after f v old = option_map (λ x. v % 2 ^ bits_of f) old
+value_after f v old = option_map (λ x. v % 2 ^ bit_count f) old
 
 -- the fields, where one is set
 abbrev pub fields_set : Field → ℕ → (Field → Option ℕ) → Field → Option ℕ

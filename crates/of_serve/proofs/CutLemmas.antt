@@ -14,10 +14,10 @@ use Rattle.of_switch.specs.declared.switch_error.SwitchError.{SwitchError}
 use Rattle.of_switch.specs.declared.switch_error.SwitchError.TheVariants.{NoMemory, NotConnected}
 use Rattle.of_switch.specs.State.{State}
 use Rattle.of_switch.specs.Steps.{Outcome, gives, fed, next_of}
-use Rattle.of_switch.specs.Calls.{Call, first_refusal}
-use Rattle.of_switch.specs.Runs.{behind, then_more, drain, drained, come, unless}
+use Rattle.of_switch.specs.Calls.{Call, first_error}
+use Rattle.of_switch.specs.Runs.{behind_effects, then_more, drain, drained, come, unless_refusal}
 use Rattle.of_switch.proofs.Draining.{Left, left_none, left_more, left_all}
-use Rattle.of_serve.specs.Turns.{Gathered, gather, gathered, answer_in, line_in, partly, acts, due, waits}
+use Rattle.of_serve.specs.Turns.{Gathered, gather, gathered, answer_in, line_in, partly, events_of_row, due, waits}
 use Rattle.of_serve.specs.Gathering.{CutIn, HandlesNext, HandlesAll, HandlesSome, Keeps, LosesNext}
 use Rattle.of_serve.proofs.TurnLemmas.{gathered_more, due_acts}
 
@@ -39,7 +39,7 @@ more_by n s t effects o (Some p) f h ih e =
     let at : inner.state ≡ t = ap (λ (x : Outcome). x.state) e in
     let es : p.effects ++ inner.effects ≡ effects = ap (λ (x : Outcome). x.effects) e in
     let next : drain (suc n) p.state ≡ gives (inner.effects ++ o.effects) o.state = ih p.state inner.effects (ap (gives inner.effects) at) in
-    ap (behind p.effects) next
+    ap (behind_effects p.effects) next
     ∙ ap (λ (xs : List Effect). gives xs o.state) (sym (append_assoc p.effects inner.effects o.effects) ∙ ap (λ (xs : List Effect). xs ++ o.effects) es)
 
 -- one message more
@@ -94,9 +94,9 @@ handled_more first g g' h so =
 pub handled_all : (first g g' : Gathered) → HandlesNext false g g' → HandledSoFar first g → HandlesAll first g'
 handled_all first g g' h so =
     let told : drained first.state ≡ gives so.effects g.state = left_all first.state g.state so.effects h.0 so.left in
-    let is : g ≡ gather (unless None first.state (gives so.effects g.state)) first =
+    let is : g ≡ gather (unless_refusal None first.state (gives so.effects g.state)) first =
     ap (λ (x : List ℕ). holding g.state x g.lines) so.answers_are ∙ ap (λ (x : List ℕ). holding g.state (first.answers ++ flat_map answer_in so.effects) x) so.lines_are in
-    h.1 ∙ (is ∙ ap (λ (o : Outcome). gather (unless None first.state o) first) (sym told))
+    h.1 ∙ (is ∙ ap (λ (o : Outcome). gather (unless_refusal None first.state o) first) (sym told))
 
 some_handled : (first g g' : Gathered) (untold : Bool) → g'.answers ≡ g.answers → g'.lines ≡ g.lines → (so : HandledSoFar first g)
     → g'.state ≡ (drain (if untold then suc so.messages else so.messages) first.state).state → HandlesSome first g'
@@ -150,7 +150,7 @@ cut_begun e others g g' same =
 pub cut_later : (es fs : List Event) (g h g' : Gathered) → h ≡ gathered es g → CutIn fs h g' → CutIn (es ++ fs) g g'
 cut_later es fs g h g' e c =
     let same : gathered c.cut.done h ≡ gathered (es ++ c.cut.done) g = ap (gathered c.cut.done) e ∙ sym (gathered_more es c.cut.done g) in
-    let given = ap (λ (x : Gathered). gather (unless None x.state (partly c.cut.steps c.cut.event x.state)) x) same in
+    let given = ap (λ (x : Gathered). gather (unless_refusal None x.state (partly c.cut.steps c.cut.event x.state)) x) same in
     record {
       cut = record { done = es ++ c.cut.done; event = c.cut.event; steps = c.cut.steps; untold = c.cut.untold; others = c.cut.others };
       events_are = append_assoc es c.cut.done (c.cut.event ∷ c.cut.others) ∙ ap (λ (x : List Event). es ++ x) c.events_are;
@@ -178,7 +178,7 @@ abbrev pub Lacks : Result (Unit {0}) SwitchError → Type 0
 Lacks result = result ≡ Err NoMemory
 
 abbrev Feeds : Bool → List ℕ → Result (Unit {0}) SwitchError → State → State → Type 0
-Feeds b chunk r s t = Call (first_refusal ((b, NotConnected) ∷ [])) (λ (u : Unit {0}) (new : State). new ≡ fed chunk s) s r t
+Feeds b chunk r s t = Call (first_error ((b, NotConnected) ∷ [])) (λ (u : Unit {0}) (new : State). new ≡ fed chunk s) s r t
 
 fails_by : (b : Bool) (chunk : List ℕ) (e : SwitchError) (g g' : Gathered) → is_disconnected g.state.connection.phase ≡ b → Feeds b chunk (Err e) g.state g'.state
     → (g'.answers ≡ g.answers) × (g'.lines ≡ g.lines) → Lacks (Err e) ⊎ (g' ≡ gathered (Chunk chunk ∷ []) g)
@@ -215,7 +215,7 @@ fed_by false chunk s t e call = call
 fed_by true chunk s t e call = absurd (let e' : true ≡ false = e in cc)
 
 all_heard : (chunk : List ℕ) (g g1 g' : Gathered) → is_disconnected g.state.connection.phase ≡ false → g1 ≡ holding (fed chunk g.state) g.answers g.lines → HandlesAll g1 g' → g' ≡ gathered (Chunk chunk ∷ []) g
-all_heard chunk g g1 g' is e h = rw is (h ∙ ap (λ (x : Gathered). gather (unless None x.state (drained x.state)) x) e)
+all_heard chunk g g1 g' is e h = rw is (h ∙ ap (λ (x : Gathered). gather (unless_refusal None x.state (drained x.state)) x) e)
 
 pub take_goes : (chunk : List ℕ) (r : Result (Unit {0}) SwitchError) (g g1 g' : Gathered) → Feeds (is_disconnected g.state.connection.phase) chunk (Ok tt) g.state g1.state
     → (g1.answers ≡ g.answers) × (g1.lines ≡ g.lines) → OnOk r (HandlesAll g1 g') → IfErr r (λ e. e ≡ NoMemory) → Lacks r ⊎ (g' ≡ gathered (Chunk chunk ∷ []) g)
@@ -259,20 +259,20 @@ pub record DueSoFar (now : ℕ) (all rows : List Event) (first g : Gathered) : T
 pub due_begun : (now : ℕ) (rows : List Event) (g : Gathered) → DueSoFar now rows rows g g
 due_begun now rows g = record { done = []; due_is = refl; handled = refl }
 
-pub due_more : (now : ℕ) (row : Event) (all rows : List Event) (first g g' : Gathered) → Some row ≡ slice_get rows 0 → waits now row ≡ false → DueSoFar now all rows first g → g' ≡ gathered (acts row) g
+pub due_more : (now : ℕ) (row : Event) (all rows : List Event) (first g g' : Gathered) → Some row ≡ slice_get rows 0 → waits now row ≡ false → DueSoFar now all rows first g → g' ≡ gathered (events_of_row row) g
     → DueSoFar now all (drop 1 rows) first g'
 due_more now row all rows first g g' e t so h = record {
-  done = so.done ++ acts row;
-  due_is = so.due_is ∙ (ap (λ (x : List Event). so.done ++ x) (due_acts now row rows e t) ∙ sym (append_assoc so.done (acts row) (due now (drop 1 rows))));
-  handled = h ∙ (ap (gathered (acts row)) so.handled ∙ sym (gathered_more so.done (acts row) first));
+  done = so.done ++ events_of_row row;
+  due_is = so.due_is ∙ (ap (λ (x : List Event). so.done ++ x) (due_acts now row rows e t) ∙ sym (append_assoc so.done (events_of_row row) (due now (drop 1 rows))));
+  handled = h ∙ (ap (gathered (events_of_row row)) so.handled ∙ sym (gathered_more so.done (events_of_row row) first));
 }
 
-pub due_cut : (now : ℕ) (row : Event) (all rows : List Event) (first g g' : Gathered) → Some row ≡ slice_get rows 0 → waits now row ≡ false → DueSoFar now all rows first g → CutIn (acts row) g g'
+pub due_cut : (now : ℕ) (row : Event) (all rows : List Event) (first g g' : Gathered) → Some row ≡ slice_get rows 0 → waits now row ≡ false → DueSoFar now all rows first g → CutIn (events_of_row row) g g'
     → CutIn (due now all) first g'
 due_cut now row all rows first g g' e t so c =
     let rest = due now (drop 1 rows) in
-    let is : due now all ≡ so.done ++ (acts row ++ rest) = so.due_is ∙ ap (λ (x : List Event). so.done ++ x) (due_acts now row rows e t) in
-    subst (λ (x : List Event). CutIn x first g') (sym is) (cut_later so.done (acts row ++ rest) first g g' so.handled (cut_before (acts row) rest g g' c))
+    let is : due now all ≡ so.done ++ (events_of_row row ++ rest) = so.due_is ∙ ap (λ (x : List Event). so.done ++ x) (due_acts now row rows e t) in
+    subst (λ (x : List Event). CutIn x first g') (sym is) (cut_later so.done (events_of_row row ++ rest) first g g' so.handled (cut_before (events_of_row row) rest g g' c))
 
 -- WHERE A CALL FAILED
 
@@ -290,7 +290,7 @@ kept_same (Ok effects) x g1 g2 k = k
 kept_same (Err y) x g1 g2 k = k
 
 played_state : (refusal : Option SwitchError) (o : Outcome) (given : Result (SmallVec Effect) SwitchError) (s t : State)
-    → Calls refusal o given s t → (t ≡ s) ⊎ (t ≡ (unless refusal s o).state)
+    → Calls refusal o given s t → (t ≡ s) ⊎ (t ≡ (unless_refusal refusal s o).state)
 played_state (Some x) o given s t call = inl call.1
 played_state None o (Ok effects) s t call = inr (ap (λ (x : Outcome). x.state) (sym call))
 played_state None o (Err y) s t call = inl call.1
@@ -305,7 +305,7 @@ cut_by e g g1 g2 is k (inl s) = cut_now e [] g g2 false (k.0 ∙ ap (λ (x : Gat
 cut_by e g g1 g2 is k (inr s) = cut_now e [] g g2 true (k.0 ∙ ap (λ (x : Gathered). x.answers) is) (k.1 ∙ ap (λ (x : Gathered). x.lines) is) (k.2 ∙ s)
 
 pub played_cut : (refusal : Option SwitchError) (o : Outcome) (row e : Event) (given : Result (SmallVec Effect) SwitchError) (r : Result (Unit {0}) AllocError) (g0 g g1 g2 : Gathered)
-    → row ≡ e → g ≡ g0 → (partly 1 e g.state).state ≡ (unless refusal g.state o).state
+    → row ≡ e → g ≡ g0 → (partly 1 e g.state).state ≡ (unless_refusal refusal g.state o).state
     → Calls refusal o given g.state g1.state → g1 ≡ holding g1.state g.answers g.lines → Keeps given r g1 g2 → OnErr r (CutIn (row ∷ []) g0 g2)
 played_cut refusal o row e given (Ok u) g0 g g1 g2 is view whole call same k = tt
 played_cut refusal o row e given (Err x) g0 g g1 g2 is view whole call same k =

@@ -5,7 +5,7 @@ use Rattle.std.proofs.lemmas.List.{append-nil}
 use Rattle.of_switch.specs.declared.event.Event.{Event}
 use Rattle.of_text.specs.Lines.{lines_of, before, behind}
 use Rattle.of_text.proofs.TextLemmas.{first_line}
-use Rattle.of_replay.specs.Rows.{Rows, row_of}
+use Rattle.of_replay.specs.Rows.{Rows, row_of_line}
 use Rattle.of_serve.specs.FileRows.{Pushes, file_row, file_rows, file_row_and}
 
 pub record RowsSoFar (file rest : List ℕ) (events : List Event) (number : ℕ) : Type 0 where
@@ -26,10 +26,10 @@ rows_begun file events e = record {
   bad_is = sym (plus_none (file_rows (lines_of file)).bad);
 }
 
-first_row : (rest : List ℕ) (row : Option (List Event)) → 0 < length rest → file_row (row_of (before 10 rest)) ≡ row → file_rows (lines_of rest) ≡ file_row_and row (file_rows (lines_of (behind 10 rest)))
+first_row : (rest : List ℕ) (row : Option (List Event)) → 0 < length rest → file_row (row_of_line (before 10 rest)) ≡ row → file_rows (lines_of rest) ≡ file_row_and row (file_rows (lines_of (behind 10 rest)))
 first_row rest row h e = ap file_rows (first_line rest h) ∙ ap (λ (x : Option (List Event)). file_row_and x (file_rows (lines_of (behind 10 rest)))) e
 
-more_by : (file rest : List ℕ) (row : Option (List Event)) (events events' : List Event) (number : ℕ) → 0 < length rest → file_row (row_of (before 10 rest)) ≡ row → RowsSoFar file rest events number → Pushes true row events events'
+more_by : (file rest : List ℕ) (row : Option (List Event)) (events events' : List Event) (number : ℕ) → 0 < length rest → file_row (row_of_line (before 10 rest)) ≡ row → RowsSoFar file rest events number → Pushes true row events events'
     → RowsSoFar file (behind 10 rest) events' (number + 1)
 more_by file rest None events events' number h e s p = absurd p
 more_by file rest (Some es) events events' number h e s p =
@@ -40,19 +40,19 @@ more_by file rest (Some es) events events' number h e s p =
       bad_is = s.bad_is ∙ (ap (λ (x : Rows). option_map (λ n. n + number) x.bad) first ∙ plus_more others.bad number);
     }
 
-pub rows_more : (file rest : List ℕ) (events events' : List Event) (number : ℕ) → 0 < length rest → RowsSoFar file rest events number → Pushes true (file_row (row_of (before 10 rest))) events events'
+pub rows_more : (file rest : List ℕ) (events events' : List Event) (number : ℕ) → 0 < length rest → RowsSoFar file rest events number → Pushes true (file_row (row_of_line (before 10 rest))) events events'
     → RowsSoFar file (behind 10 rest) events' (number + 1)
-rows_more file rest events events' number h s p = more_by file rest (file_row (row_of (before 10 rest))) events events' number h refl s p
+rows_more file rest events events' number h s p = more_by file rest (file_row (row_of_line (before 10 rest))) events events' number h refl s p
 
-bad_by : (file rest : List ℕ) (row : Option (List Event)) (events events' : List Event) (number : ℕ) → 0 < length rest → file_row (row_of (before 10 rest)) ≡ row → RowsSoFar file rest events number → Pushes false row events events'
+bad_by : (file rest : List ℕ) (row : Option (List Event)) (events events' : List Event) (number : ℕ) → 0 < length rest → file_row (row_of_line (before 10 rest)) ≡ row → RowsSoFar file rest events number → Pushes false row events events'
     → (file_rows (lines_of file)).bad ≡ Some (number + 1)
 bad_by file rest (Some es) events events' number h e s p = absurd p
 bad_by file rest None events events' number h e s p =
     s.bad_is ∙ (ap (λ (x : Rows). option_map (λ n. n + number) x.bad) (first_row rest None h e) ∙ ap Some (omega arith))
 
-pub rows_bad : (file rest : List ℕ) (events events' : List Event) (number : ℕ) → 0 < length rest → RowsSoFar file rest events number → Pushes false (file_row (row_of (before 10 rest))) events events'
+pub rows_bad : (file rest : List ℕ) (events events' : List Event) (number : ℕ) → 0 < length rest → RowsSoFar file rest events number → Pushes false (file_row (row_of_line (before 10 rest))) events events'
     → (file_rows (lines_of file)).bad ≡ Some (number + 1)
-rows_bad file rest events events' number h s p = bad_by file rest (file_row (row_of (before 10 rest))) events events' number h refl s p
+rows_bad file rest events events' number h s p = bad_by file rest (file_row (row_of_line (before 10 rest))) events events' number h refl s p
 
 no_rows : file_rows (lines_of []) ≡ record { events = []; bad = None }
 unfolding lines_of

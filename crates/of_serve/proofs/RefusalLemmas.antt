@@ -6,7 +6,7 @@ use Rattle.of_text.proofs.TextLemmas.{first_line}
 use Rattle.of_switch.specs.declared.event.Event.{Event}
 use Rattle.of_switch.specs.State.{State}
 use Rattle.of_serve.specs.declared.refusals.RefusedRow.{RefusedRow}
-use Rattle.of_serve.specs.Refusals.{row_numbers, refused_from, refused_by, later, ported}
+use Rattle.of_serve.specs.Refusals.{row_numbers, refused_rows_from, refused_by, later, ported}
 
 -- ---- the numbers of rows
 
@@ -38,12 +38,12 @@ numbers_all file rest numbers n none s = sym (s ∙ ap (λ (x : List ℕ). numbe
 -- ---- the rows that are refused
 
 abbrev pub RefusedSoFar : List RefusedRow → List RefusedRow → ℕ → State → List Event → List ℕ → Type 0
-RefusedSoFar whole rows due s events lines = whole ≡ rows ++ refused_from due s events lines
+RefusedSoFar whole rows due s events lines = whole ≡ rows ++ refused_rows_from due s events lines
 
 more_by : (whole rows rows' : List RefusedRow) (due due' : ℕ) (s s' : State) (e : Event) (es : List Event) (line : ℕ) (lines : List ℕ) → RefusedSoFar whole rows due s (e ∷ es) (line ∷ lines)
     → rows' ≡ rows ++ refused_by e due line s → s' ≡ ported e s → due' ≡ later e due → RefusedSoFar whole rows' due' s' es lines
 more_by whole rows rows' due due' s s' e es line lines so pushed stands moves =
-    rw (pushed, stands, moves) (so ∙ sym (append_assoc rows (refused_by e due line s) (refused_from (later e due) (ported e s) es lines)))
+    rw (pushed, stands, moves) (so ∙ sym (append_assoc rows (refused_by e due line s) (refused_rows_from (later e due) (ported e s) es lines)))
 
 pub refused_more : (whole rows rows' : List RefusedRow) (due due' : ℕ) (s s' : State) (events : List Event) (e d : Event) (i : ℕ) (line : ℕ) (lines : List ℕ) → i < length events → e ≡ get_or events i d → i < length lines → line ≡ get_or lines i 0
     → RefusedSoFar whole rows due s (drop i events) (drop i lines) → rows' ≡ rows ++ refused_by e due line s → s' ≡ ported e s → due' ≡ later e due
@@ -54,9 +54,9 @@ refused_more whole rows rows' due due' s s' events e d i line lines lt is lt' is
     rw (add-one i) (more_by whole rows rows' due due' s s' e (drop (suc i) events) line (drop (suc i) lines) (rw (here, there) at so) pushed stands moves)
 
 -- no further number is there
-no_line : (due : ℕ) (s : State) (events : List Event) → refused_from due s events [] ≡ []
+no_line : (due : ℕ) (s : State) (events : List Event) → refused_rows_from due s events [] ≡ []
 no_line due s [] = refl
 no_line due s (e ∷ es) = refl
 
 pub refused_all : (whole rows : List RefusedRow) (due : ℕ) (s : State) (events : List Event) (lines : List ℕ) → lines ≡ [] → RefusedSoFar whole rows due s events lines → rows ≡ whole
-refused_all whole rows due s events lines none so = sym (so ∙ ap (λ (x : List RefusedRow). rows ++ x) (ap (refused_from due s events) none ∙ no_line due s events) ∙ append-nil rows)
+refused_all whole rows due s events lines none so = sym (so ∙ ap (λ (x : List RefusedRow). rows ++ x) (ap (refused_rows_from due s events) none ∙ no_line due s events) ∙ append-nil rows)

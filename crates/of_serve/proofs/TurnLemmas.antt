@@ -5,7 +5,7 @@ use Rattle.std.specs.Prelude.{slice_get}
 use Rattle.of_switch.specs.declared.event.Event.{Event}
 use Rattle.of_switch.specs.Runs.{happened}
 use Rattle.of_serve.specs.Told.{then_told, onto, then_onto}
-use Rattle.of_serve.specs.Turns.{Gathered, gather, gathered, due, left, acts, waits}
+use Rattle.of_serve.specs.Turns.{Gathered, gather, gathered, due, left, events_of_row, waits}
 
 -- TOLD
 
@@ -56,7 +56,7 @@ due_waits now row [] e t = let h : Some row ≡ None = e in cc
 due_waits now row (r ∷ rows) e t =
     let h : Some row ≡ Some r = e in
     let same : row ≡ r = cc in
-    ap (λ (b : Bool). if b then [] else (acts r ++ due now rows)) (ap (waits now) (sym same) ∙ t)
+    ap (λ (b : Bool). if b then [] else (events_of_row r ++ due now rows)) (ap (waits now) (sym same) ∙ t)
 
 pub left_waits : (now : ℕ) (row : Event) (rows : List Event) → Some row ≡ slice_get rows 0 → waits now row ≡ true → left now rows ≡ rows
 left_waits now row [] e t = let h : Some row ≡ None = e in cc
@@ -65,12 +65,12 @@ left_waits now row (r ∷ rows) e t =
     let same : row ≡ r = cc in
     ap (λ (b : Bool). if b then r ∷ rows else left now rows) (ap (waits now) (sym same) ∙ t)
 
-pub due_acts : (now : ℕ) (row : Event) (rows : List Event) → Some row ≡ slice_get rows 0 → waits now row ≡ false → due now rows ≡ acts row ++ due now (drop 1 rows)
+pub due_acts : (now : ℕ) (row : Event) (rows : List Event) → Some row ≡ slice_get rows 0 → waits now row ≡ false → due now rows ≡ events_of_row row ++ due now (drop 1 rows)
 due_acts now row [] e t = let h : Some row ≡ None = e in cc
 due_acts now row (r ∷ rows) e t =
     let h : Some row ≡ Some r = e in
     let same : row ≡ r = cc in
-    ap (λ (b : Bool). if b then [] else (acts r ++ due now rows)) (ap (waits now) (sym same) ∙ t) ∙ ap (λ (x : Event). acts x ++ due now rows) (sym same)
+    ap (λ (b : Bool). if b then [] else (events_of_row r ++ due now rows)) (ap (waits now) (sym same) ∙ t) ∙ ap (λ (x : Event). events_of_row x ++ due now rows) (sym same)
 
 pub left_acts : (now : ℕ) (row : Event) (rows : List Event) → Some row ≡ slice_get rows 0 → waits now row ≡ false → left now rows ≡ left now (drop 1 rows)
 left_acts now row [] e t = let h : Some row ≡ None = e in cc
@@ -87,10 +87,10 @@ pub one_less : (rows : List Event) → 0 < length rows → length (drop 1 rows) 
 one_less [] lt = lt
 one_less (r ∷ rows) lt = omega arith
 
-pub row_acts : (now : ℕ) (row : Event) (all rows : List Event) (g0 g g' : Gathered) → Some row ≡ slice_get rows 0 → waits now row ≡ false → gathered (due now all) g0 ≡ gathered (due now rows) g → g' ≡ gathered (acts row) g
+pub row_acts : (now : ℕ) (row : Event) (all rows : List Event) (g0 g g' : Gathered) → Some row ≡ slice_get rows 0 → waits now row ≡ false → gathered (due now all) g0 ≡ gathered (due now rows) g → g' ≡ gathered (events_of_row row) g
     → gathered (due now all) g0 ≡ gathered (due now (drop 1 rows)) g'
 row_acts now row all rows g0 g g' e t is done =
-    is ∙ (ap (λ (es : List Event). gathered es g) (due_acts now row rows e t) ∙ (gathered_more (acts row) (due now (drop 1 rows)) g ∙ ap (gathered (due now (drop 1 rows))) (sym done)))
+    is ∙ (ap (λ (es : List Event). gathered es g) (due_acts now row rows e t) ∙ (gathered_more (events_of_row row) (due now (drop 1 rows)) g ∙ ap (gathered (due now (drop 1 rows))) (sym done)))
 
 drop_suc : (n : ℕ) (rows : List Event) → drop (suc n) rows ≡ drop 1 (drop n rows)
 drop_suc zero rows = refl

@@ -26,10 +26,10 @@ is_nobody kind.ConnectionAborted = true
 is_nobody kind = passes kind
 
 -- A READ of a connection: no bytes are the end of its stream
-abbrev pub read_as : Result ℕ Error → Reading
-read_as (Ok zero) = reading.End
-read_as (Ok (suc n)) = reading.Bytes (suc n)
-read_as (Err e) = if passes (error_kind e) then reading.Nothing else reading.Fault
+abbrev pub read_answer : Result ℕ Error → Reading
+read_answer (Ok zero) = reading.End
+read_answer (Ok (suc n)) = reading.Bytes (suc n)
+read_answer (Err e) = if passes (error_kind e) then reading.Nothing else reading.Fault
 
 -- and why the connection ends with it
 abbrev pub ends_with : Reading → Option Ending

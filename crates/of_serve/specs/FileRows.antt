@@ -8,7 +8,7 @@ use Rattle.of_text.specs.Lines.{lines_of}
 use Rattle.of_replay.specs.declared.event_file.Ended.{Ended}
 use Rattle.of_replay.specs.declared.event_file.Ended.TheVariants.{Done, BadRow, Text, ReadFault, WriteFault, NoMemory}
 use Rattle.of_replay.specs.FileRuns.{Meaning, IsValue, IsBad, HasFault}
-use Rattle.of_replay.specs.Rows.{Rows, row_of}
+use Rattle.of_replay.specs.Rows.{Rows, row_of_line}
 
 -- what happens at a row; those of a controller (`connect`, `lost`, `c`) are not allowed in the file
 abbrev pub file_row : Option (Option Event) → Option (List Event)
@@ -27,7 +27,7 @@ file_row_and (Some events) others = record { events = events ++ others.events; b
 -- the events of lines up to the first bad one, and the number of that one, counted from 1
 abbrev pub file_rows : List (List ℕ) → Rows
 file_rows [] = record { events = []; bad = None }
-file_rows (line ∷ lines) = file_row_and (file_row (row_of line)) (file_rows lines)
+file_rows (line ∷ lines) = file_row_and (file_row (row_of_line line)) (file_rows lines)
 
 -- the file is read whole, and is its events
 abbrev pub served_file : Meaning (Vec Event)

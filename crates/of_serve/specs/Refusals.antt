@@ -38,10 +38,10 @@ later (Moment nanos) due = max due nanos
 later other due = due
 
 -- THE ROWS THAT ARE REFUSED among rows with these numbers, where that moment is the latest of those before them
-abbrev pub refused_from : (due : ℕ) → State → List Event → List ℕ → List RefusedRow
-refused_from due s [] lines = []
-refused_from due s (event ∷ events) [] = []
-refused_from due s (event ∷ events) (line ∷ lines) = refused_by event due line s ++ refused_from (later event due) (ported event s) events lines
+abbrev pub refused_rows_from : (due : ℕ) → State → List Event → List ℕ → List RefusedRow
+refused_rows_from due s [] lines = []
+refused_rows_from due s (event ∷ events) [] = []
+refused_rows_from due s (event ∷ events) (line ∷ lines) = refused_by event due line s ++ refused_rows_from (later event due) (ported event s) events lines
 
 -- WHAT IS SAID, one row after the other: the first is said when the clock has reached it
 abbrev pub next_due : ℕ → List RefusedRow → Option RefusedRow

@@ -7,11 +7,11 @@ use Rattle.of_serve.specs.declared.peers.Accepted.TheVariants as accepted
 
 -- what an accept answered, or a read of the open connection: a connection is opened, or the answer of a read, or
 -- of an accept that found nobody or failed
-pub data Came : Type 0 where
-  Opened : Came
-  Answered : (answer : Answer) → Came
+pub data PeerCame : Type 0 where
+  Opened : PeerCame
+  Answered : (answer : Answer) → PeerCame
 
-abbrev pub accept_came : Accepted → Came
+abbrev pub accept_came : Accepted → PeerCame
 accept_came accepted.Open = Opened
 accept_came accepted.Nothing = Answered Idle
 accept_came accepted.Fault = Answered Failed
@@ -28,10 +28,10 @@ accept_faults accepted.Fault = 1
 -- WHAT CONNECTIONS TOOK: a list of bytes a connection, the newest first
 
 -- an accept that answered Open begins a connection
-abbrev pub begun : Accepted → List (List ℕ) → List (List ℕ)
-begun accepted.Open connections = [] ∷ connections
-begun accepted.Nothing connections = connections
-begun accepted.Fault connections = connections
+abbrev pub begun_by_accept : Accepted → List (List ℕ) → List (List ℕ)
+begun_by_accept accepted.Open connections = [] ∷ connections
+begun_by_accept accepted.Nothing connections = connections
+begun_by_accept accepted.Fault connections = connections
 
 -- the newest takes bytes
 abbrev pub onto : List ℕ → List (List ℕ) → List (List ℕ)
@@ -39,7 +39,7 @@ onto bytes [] = []
 onto bytes (taken ∷ others) = (taken ++ bytes) ∷ others
 
 abbrev pub then_begun : Option (List (List ℕ)) → Accepted → Option (List (List ℕ))
-then_begun known accepted = option_map (begun accepted) known
+then_begun known accepted = option_map (begun_by_accept accepted) known
 
 abbrev pub then_onto : Option (List (List ℕ)) → List ℕ → Option (List (List ℕ))
 then_onto known bytes = option_map (onto bytes) known

@@ -8,12 +8,12 @@ use Rattle.of_switch.specs.declared.event.Event.{Event}
 use Rattle.of_switch.specs.declared.event.Event.TheVariants.{Connect, Lost, Chunk, Moment}
 use Rattle.of_switch.specs.State.{State}
 use Rattle.of_switch.specs.Steps.{Outcome, gives}
-use Rattle.of_switch.specs.Runs.{Report, Gives, IsRefused, Happened, happened, come, drain, unless}
+use Rattle.of_switch.specs.Runs.{Report, Gives, IsRefused, Happened, happened, come, drain, unless_refusal}
 use Rattle.of_replay.specs.Output.{line_of}
 use Rattle.of_replay.specs.Told.{Answer, Gave, Idle, Ended, Failed}
 use Rattle.of_serve.specs.declared.peers.Accepted.{Accepted}
 use Rattle.of_serve.specs.declared.peers.Accepted.TheVariants as accepted
-use Rattle.of_serve.specs.Told.{Came, accept_came, Answered, then_begun, then_onto}
+use Rattle.of_serve.specs.Told.{PeerCame, accept_came, Answered, then_begun, then_onto}
 
 -- ROWS OF THE FILE THAT ARE DUE: those before the first `t` row that the clock has not reached
 
@@ -23,13 +23,13 @@ waits now (Moment nanos) = nat_lt now nanos
 waits now other = false
 
 -- a `t` row itself does nothing: moments come from the clock
-abbrev pub acts : Event → List Event
-acts (Moment nanos) = []
-acts event = event ∷ []
+abbrev pub events_of_row : Event → List Event
+events_of_row (Moment nanos) = []
+events_of_row event = event ∷ []
 
 abbrev pub due : ℕ → List Event → List Event
 due now [] = []
-due now (row ∷ rows) = if waits now row then [] else acts row ++ due now rows
+due now (row ∷ rows) = if waits now row then [] else events_of_row row ++ due now rows
 
 -- and those that are still to come
 abbrev pub left : ℕ → List Event → List Event
@@ -43,10 +43,10 @@ pub data Input : Type 0 where
   Accepts : (accepted : Accepted) → Input
   Reads : (now : ℕ) → (answer : Answer) → Input
 
-abbrev pub opened : Accepted → List Event
-opened accepted.Open = Connect ∷ []
-opened accepted.Nothing = []
-opened accepted.Fault = []
+abbrev pub opening_events : Accepted → List Event
+opening_events accepted.Open = Connect ∷ []
+opening_events accepted.Nothing = []
+opening_events accepted.Fault = []
 
 -- the end of a stream is the loss of its connection, and so is a read that fails
 abbrev pub heard : Answer → List Event
@@ -55,13 +55,13 @@ heard Idle = []
 heard Ended = Lost ∷ []
 heard Failed = Lost ∷ []
 
-abbrev pub events_of : Input → List Event → List Event
-events_of (Accepts accepted) rows = opened accepted
-events_of (Reads now answer) rows = Moment now ∷ (due now rows ++ heard answer)
+abbrev pub input_events : Input → List Event → List Event
+input_events (Accepts accepted) rows = opening_events accepted
+input_events (Reads now answer) rows = Moment now ∷ (due now rows ++ heard answer)
 
-abbrev pub rows_after : Input → List Event → List Event
-rows_after (Accepts accepted) rows = rows
-rows_after (Reads now answer) rows = left now rows
+abbrev pub rows_after_input : Input → List Event → List Event
+rows_after_input (Accepts accepted) rows = rows
+rows_after_input (Reads now answer) rows = left now rows
 
 -- a write that failed is the loss of the connection
 abbrev pub broken : Bool → List Event
@@ -70,9 +70,9 @@ broken false = []
 
 -- WHAT THEY GIVE
 
-abbrev pub effects_of : Report → List Effect
-effects_of (Gives effects) = effects
-effects_of (IsRefused refusal) = []
+abbrev pub report_effects : Report → List Effect
+report_effects (Gives effects) = effects
+report_effects (IsRefused refusal) = []
 
 -- the bytes for the connection
 abbrev pub answer_in : Effect → List ℕ
@@ -98,8 +98,8 @@ nothing_pending s = record { state = s; answers = []; lines = [] }
 abbrev pub gather : Happened → Gathered → Gathered
 gather h g = record {
   state = h.state;
-  answers = g.answers ++ flat_map answer_in (effects_of h.report);
-  lines = g.lines ++ flat_map line_in (effects_of h.report);
+  answers = g.answers ++ flat_map answer_in (report_effects h.report);
+  lines = g.lines ++ flat_map line_in (report_effects h.report);
 }
 
 -- events, one after the other, as the abstract switch does them
@@ -118,21 +118,21 @@ abbrev pub standing : State → List Event → ServeState
 standing state rows = record { state = state; rows = rows }
 
 -- what a turn learns, what the connection took in it, and whether a write failed
-pub record Turn : Type 0 where
+pub record ServeTurn : Type 0 where
   pub input : Input
   pub taken : List ℕ
   pub broke : Bool
 
-abbrev pub given : Input → ServeState → Gathered
-given input s = gathered (events_of input s.rows) (nothing_pending s.state)
+abbrev pub given_by_input : Input → ServeState → Gathered
+given_by_input input s = gathered (input_events input s.rows) (nothing_pending s.state)
 
-abbrev pub after : Turn → ServeState → ServeState
-after t s = record { state = (gathered (broken t.broke) (given t.input s)).state; rows = rows_after t.input s.rows }
+abbrev pub after_serve_turn : ServeTurn → ServeState → ServeState
+after_serve_turn t s = record { state = (gathered (broken t.broke) (given_by_input t.input s)).state; rows = rows_after_input t.input s.rows }
 
 -- a turn without a connection accepts, and one with a connection reads
-abbrev pub IsInput : Input → State → Type 0
-IsInput (Accepts accepted) s = is_disconnected s.connection.phase ≡ true
-IsInput (Reads now answer) s = is_disconnected s.connection.phase ≡ false
+abbrev pub IsServeInput : Input → State → Type 0
+IsServeInput (Accepts accepted) s = is_disconnected s.connection.phase ≡ true
+IsServeInput (Reads now answer) s = is_disconnected s.connection.phase ≡ false
 
 -- all answers were taken; or a write failed, and a byte or more at the end was not
 abbrev pub IsTaken : Bool → List ℕ → List ℕ → Type 0
@@ -144,14 +144,14 @@ abbrev pub failures : Bool → ℕ
 failures false = 0
 failures true = 1
 
-pub record IsTurn (t : Turn) (s : ServeState) : Type 0 where
-  pub input : IsInput t.input s.state
-  pub taken : IsTaken t.broke t.taken (given t.input s).answers
+pub record IsServeTurn (t : ServeTurn) (s : ServeState) : Type 0 where
+  pub input : IsServeInput t.input s.state
+  pub taken : IsTaken t.broke t.taken (given_by_input t.input s).answers
 
 -- A TURN THAT MEMORY CUT SHORT
 
 abbrev pub whole : Event → State → Outcome
-whole e s = let h = happened e s in gives (effects_of h.report) h.state
+whole e s = let h = happened e s in gives (report_effects h.report) h.state
 
 -- AN EVENT IN STEPS, the first n of them: a chunk is received, and then its messages are handled, one a step; any other
 -- event is one step
@@ -176,28 +176,28 @@ cut_events c = c.done ++ c.event ∷ c.others
 
 -- what is told of them
 abbrev pub cut_from : Cut → Gathered → Gathered
-cut_from c g = let d = gathered c.done g in gather (unless Never d.state (partly c.steps c.event d.state)) d
+cut_from c g = let d = gathered c.done g in gather (unless_refusal Never d.state (partly c.steps c.event d.state)) d
 
 -- and the switch then, with the step of which nothing is told
 abbrev pub cut_state : Cut → Gathered → State
 cut_state c g = let s = (gathered c.done g).state in (partly (if c.untold then suc c.steps else c.steps) c.event s).state
 
 -- what the turn had learned: all, or the time alone, before it read
-pub data Known : Type 0 where
-  Time : (now : ℕ) → Known
-  All : (input : Input) → Known
+pub data TurnKnowledge : Type 0 where
+  Time : (now : ℕ) → TurnKnowledge
+  All : (input : Input) → TurnKnowledge
 
-abbrev pub IsKnown : Known → State → Type 0
-IsKnown (Time now) s = is_disconnected s.connection.phase ≡ false
-IsKnown (All input) s = IsInput input s
+abbrev pub IsTurnKnowledge : TurnKnowledge → State → Type 0
+IsTurnKnowledge (Time now) s = is_disconnected s.connection.phase ≡ false
+IsTurnKnowledge (All input) s = IsServeInput input s
 
-abbrev pub known_events : Known → List Event → List Event
+abbrev pub known_events : TurnKnowledge → List Event → List Event
 known_events (Time now) rows = Moment now ∷ due now rows
-known_events (All input) rows = events_of input rows
+known_events (All input) rows = input_events input rows
 
 -- and what the connection took of its answers, and whether a write failed
 pub record CutTurn : Type 0 where
-  pub known : Known
+  pub known : TurnKnowledge
   pub cut : Cut
   pub taken : List ℕ
   pub broke : Bool
@@ -210,38 +210,38 @@ abbrev pub cut_after : CutTurn → ServeState → State
 cut_after t s = (gathered (broken t.broke) (nothing_pending (cut_state t.cut (nothing_pending s.state)))).state
 
 pub record IsCutTurn (t : CutTurn) (s : ServeState) : Type 0 where
-  pub known : IsKnown t.known s.state
+  pub known : IsTurnKnowledge t.known s.state
   pub events : cut_events t.cut ≡ known_events t.known s.rows
   pub taken : IsTaken t.broke t.taken (cut_given t.cut s).answers
 
 -- TURNS, one after the other
 
-pub data Turns : Type 0 where
-  None : Turns
-  Then : (first : Turns) → (last : Turn) → Turns
+pub data ServeTurns : Type 0 where
+  None : ServeTurns
+  Then : (first : ServeTurns) → (last : ServeTurn) → ServeTurns
 
-abbrev pub count : Turns → ℕ
-count None = 0
-count (Then ts t) = count ts + 1
+abbrev pub serve_turn_count : ServeTurns → ℕ
+serve_turn_count None = 0
+serve_turn_count (Then ts t) = serve_turn_count ts + 1
 
-abbrev pub stand : ServeState → Turns → ServeState
-stand s None = s
-stand s (Then ts t) = after t (stand s ts)
+abbrev pub after_serve_turns : ServeState → ServeTurns → ServeState
+after_serve_turns s None = s
+after_serve_turns s (Then ts t) = after_serve_turn t (after_serve_turns s ts)
 
-abbrev pub AreTurns : ServeState → Turns → Type 0
-AreTurns s None = Unit {0}
-AreTurns s (Then ts t) = AreTurns s ts × IsTurn t (stand s ts)
+abbrev pub AreServeTurns : ServeState → ServeTurns → Type 0
+AreServeTurns s None = Unit {0}
+AreServeTurns s (Then ts t) = AreServeTurns s ts × IsServeTurn t (after_serve_turns s ts)
 
 -- what peers answered in them
-abbrev pub came_in : Input → List Came
+abbrev pub came_in : Input → List PeerCame
 came_in (Accepts accepted) = accept_came accepted ∷ []
 came_in (Reads now answer) = Answered answer ∷ []
 
-abbrev pub came : Turns → List Came
-came None = []
-came (Then ts t) = came ts ++ came_in t.input
+abbrev pub turns_came : ServeTurns → List PeerCame
+turns_came None = []
+turns_came (Then ts t) = turns_came ts ++ came_in t.input
 
-abbrev pub known_came : Known → List Came
+abbrev pub known_came : TurnKnowledge → List PeerCame
 known_came (Time now) = []
 known_came (All input) = came_in input
 
@@ -250,11 +250,11 @@ abbrev pub time_in : Input → List ℕ
 time_in (Accepts accepted) = []
 time_in (Reads now answer) = now ∷ []
 
-abbrev pub times : Turns → List ℕ
+abbrev pub times : ServeTurns → List ℕ
 times None = []
 times (Then ts t) = times ts ++ time_in t.input
 
-abbrev pub known_times : Known → List ℕ
+abbrev pub known_times : TurnKnowledge → List ℕ
 known_times (Time now) = now ∷ []
 known_times (All input) = time_in input
 
@@ -263,20 +263,20 @@ abbrev pub then_in : Option (List (List ℕ)) → Input → Option (List (List �
 then_in known (Accepts accepted) = then_begun known accepted
 then_in known (Reads now answer) = known
 
-abbrev pub then_known : Option (List (List ℕ)) → Known → Option (List (List ℕ))
+abbrev pub then_known : Option (List (List ℕ)) → TurnKnowledge → Option (List (List ℕ))
 then_known known (Time now) = known
 then_known known (All input) = then_in known input
 
-abbrev pub took : Option (List (List ℕ)) → Turns → Option (List (List ℕ))
+abbrev pub took : Option (List (List ℕ)) → ServeTurns → Option (List (List ℕ))
 took known None = known
 took known (Then ts t) = then_onto (then_in (took known ts) t.input) t.taken
 
 -- how many writes to them failed
-abbrev pub breaks : Turns → ℕ
+abbrev pub breaks : ServeTurns → ℕ
 breaks None = 0
 breaks (Then ts t) = breaks ts + failures t.broke
 
 -- the lines of the frames that the switch sent
-abbrev pub sent : ServeState → Turns → List ℕ
-sent s None = []
-sent s (Then ts t) = sent s ts ++ (given t.input (stand s ts)).lines
+abbrev pub sent_lines : ServeState → ServeTurns → List ℕ
+sent_lines s None = []
+sent_lines s (Then ts t) = sent_lines s ts ++ (given_by_input t.input (after_serve_turns s ts)).lines

@@ -1,8 +1,8 @@
 //! What the calls of a socket or of a file mean.
 ghost use Rattle.std.specs.Prelude.{◌≡◌, ◌<◌, ◌≤◌, length, take, IfOk, OnErr};
 ghost use Rattle.std.specs.Io.KnownBytes.{Appends, Consumes, IsAtEnd, Keeps};
-ghost use Rattle.of_replay.specs.Told.{IsReading, answer_of, bytes_of};
-ghost use Rattle.of_serve.specs.Calls.{ends_with, is_nobody as nobody_came, passes, read_as, unopened, write_as};
+ghost use Rattle.of_replay.specs.Told.{IsReading, answer_of, answer_bytes};
+ghost use Rattle.of_serve.specs.Calls.{ends_with, is_nobody as nobody_came, passes, read_answer, unopened, write_as};
 
 use of_replay::{Ended, Reading};
 use std::fmt::{self, Display, Formatter};
@@ -65,7 +65,7 @@ pub fn is_nobody(kind: ErrorKind) -> bool
 
 /// What a read of a connection means: no bytes are the end of its stream.
 pub fn reading_of(read: &io::Result<usize>) -> Reading
-    ensures { result ≡ read_as read.now }
+    ensures { result ≡ read_answer read.now }
 {
     match read {
         Ok(0) => Reading::End,
@@ -106,7 +106,7 @@ pub fn attempt_of(write: &io::Result<usize>) -> Attempt
 pub fn read_some<R: Read>(reader: &mut R, buffer: &mut [u8]) -> Reading
     requires { 0 < length buffer.old }
     ensures fits { IsReading result (length buffer.new) }
-    ensures bytes { Consumes (R.remaining reader.old) (R.remaining reader.new) (bytes_of (answer_of result buffer.new)) }
+    ensures bytes { Consumes (R.remaining reader.old) (R.remaining reader.new) (answer_bytes (answer_of result buffer.new)) }
     ensures end { result ≡ Reading.End → IsAtEnd (R.remaining reader.new) }
 {
     reading_of(&reader.read(buffer))

@@ -1,7 +1,7 @@
 //! Event files that are read whole, before a switch serves.
 ghost use Rattle.std.specs.Prelude.{◌≡◌, ◌≤◌, IfOk, Some, true};
-ghost use Rattle.of_replay.specs.Rows.{row_of, with_bytes};
-ghost use Rattle.of_replay.specs.FileRuns.{IsRead, Reads};
+ghost use Rattle.of_replay.specs.Rows.{row_of_line, with_bytes};
+ghost use Rattle.of_replay.specs.FileRuns.{IsRead, ReadsWhole};
 ghost use Rattle.of_serve.specs.FileRows.{Pushes, RowsFault, file_row, served_file};
 
 use of_replay::{Ended, READ_SIZE, Row, Source, ended_by, read_file, read_row, zeros};
@@ -45,7 +45,7 @@ fn push_line(
     bytes: &mut Vec<u8>,
     events: &mut Vec<Event>,
 ) -> Result<bool, AllocError>
-    ensures { IfOk result (λ good. Pushes good (file_row (row_of line.now)) events.old.items events.new.items) }
+    ensures { IfOk result (λ good. Pushes good (file_row (row_of_line line.now)) events.old.items events.new.items) }
 {
     match read_row(line, bytes)? {
         Some(row) => push_row(alloc, row, bytes, events),
@@ -78,7 +78,7 @@ fn rows_in(alloc: Global, file: &[u8]) -> Result<Vec<Event>, Ended>
 /// as are `connect`, `lost` and `c`, a read fault, or no memory.
 pub fn read_rows<S: Source>(alloc: Global, reader: &mut S) -> Result<Vec<Event>, Ended>
     requires { S.reads reader.old ≡ 0 }
-    ensures rows { Reads served_file result (S.answers reader.old) (S.answers reader.new) (S.ends reader.old) (S.ends reader.new) }
+    ensures rows { ReadsWhole served_file result (S.answers reader.old) (S.answers reader.new) (S.ends reader.old) (S.ends reader.new) }
     ensures faults { RowsFault result (S.reads reader.new) (S.ends reader.old) (S.ends reader.new) (S.failures reader.old) (S.failures reader.new) }
     ensures reads { S.reads reader.new ≤ 1000000 }
 {

@@ -4,7 +4,7 @@ ghost use Rattle.std.specs.List.{flat_map};
 ghost use Rattle.of_session.specs.Session.{is_disconnected};
 ghost use Rattle.of_switch.specs.declared.event.Event.TheVariants.{Lost as Loss, Chunk as Received};
 ghost use Rattle.of_switch.specs.declared.switch_error.SwitchError.TheVariants.{NoMemory};
-ghost use Rattle.of_serve.specs.Turns.{acts, answer_in, due as rows_due, nothing_pending, gathered, left, line_in, waits as has_to_wait};
+ghost use Rattle.of_serve.specs.Turns.{events_of_row, answer_in, due as rows_due, nothing_pending, gathered, left, line_in, waits as has_to_wait};
 ghost use Rattle.of_serve.specs.Gathering.{CutIn, HandlesAll, HandlesNext, HandlesSome, Keeps, LosesNext};
 
 use crate::rows::Rows;
@@ -251,8 +251,8 @@ impl<L: Lookup> Gathering<L> {
 
     // A row of the file that is due happens.
     fn act(&mut self, row: &Event) -> Result<(), AllocError>
-        ensures ok { OnOk result (self.new ≡ gathered (acts row.now) self.old) }
-        ensures err { OnErr result (CutIn (acts row.now) self.old self.new) }
+        ensures ok { OnOk result (self.new ≡ gathered (events_of_row row.now) self.old) }
+        ensures err { OnErr result (CutIn (events_of_row row.now) self.old self.new) }
     {
         match row {
             Event::Moment(_) => Ok(()),

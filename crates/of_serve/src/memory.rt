@@ -104,14 +104,14 @@ pub struct MemoryPeers {
 }
 
 impl MemoryPeers {
-    ghost use Rattle.of_serve.specs.Memory.{told};
+    ghost use Rattle.of_serve.specs.Memory.{peers_came};
 
     /// Peers of that script, whose writes take `chunk` bytes at most.
     pub fn new(alloc: Global, script: Vec<Line>, chunk: usize, failing: Failing) -> MemoryPeers
         requires { 0 < chunk }
         ensures script { result.script.items ≡ script.items }
         ensures settings { (result.chunk ≡ chunk) × (result.failing ≡ failing) }
-        ensures told { told result ≡ [] }
+        ensures told { peers_came result ≡ [] }
         ensures taken { result.taken.items ≡ [] }
         ensures counts { (result.accepts ≡ 0) × (result.reads ≡ 0) × (result.accept_failures ≡ 0) × (result.write_failures ≡ 0) }
     {
@@ -142,14 +142,14 @@ impl MemoryPeers {
     ghost use Rattle.std.specs.Bool.{OnTrue, OnFalse};
     ghost use Rattle.of_serve.specs.Told.{Answered, onto};
     ghost use Rattle.of_replay.specs.Told.{Failed};
-    ghost use Rattle.of_serve.specs.Memory.{told};
+    ghost use Rattle.of_serve.specs.Memory.{peers_came};
 
     // The newest connection takes bytes, unless there is none or memory runs out.
     fn take(&mut self, bytes: &[u8]) -> bool
         ensures took { OnTrue result (self.new.taken.items ≡ onto bytes.now self.old.taken.items) }
         ensures some { OnTrue result (0 < length self.old.taken.items) }
         ensures not { OnFalse result (self.new.taken.items ≡ self.old.taken.items) }
-        ensures told { told self.new ≡ told self.old }
+        ensures told { peers_came self.new ≡ peers_came self.old }
         ensures same { (self.new.accepts ≡ self.old.accepts) × (self.new.reads ≡ self.old.reads) × (self.new.accept_failures ≡ self.old.accept_failures) ×
             (self.new.write_failures ≡ self.old.write_failures) }
     {
@@ -161,7 +161,7 @@ impl MemoryPeers {
 
     // Forgets what the connection before had still to give.
     fn pass_over(&mut self)
-        ensures told { told self.new ≡ told self.old }
+        ensures told { peers_came self.new ≡ peers_came self.old }
         ensures taken { self.new.taken.items ≡ self.old.taken.items }
         ensures late { (self.new.late_accepts ≡ self.old.late_accepts) × (self.new.late_reads ≡ self.old.late_reads) }
         ensures same { (self.new.accepts ≡ self.old.accepts) × (self.new.reads ≡ self.old.reads) × (self.new.accept_failures ≡ self.old.accept_failures) ×
@@ -174,8 +174,8 @@ impl MemoryPeers {
 
     // A fault takes the place of the next line, if there is one.
     fn spoil(&mut self) -> bool
-        ensures spoilt { OnTrue result (told self.new ≡ told self.old ++ Answered Failed ∷ []) }
-        ensures ended { OnFalse result ((self.new.at ≡ length self.new.script.items) × (told self.new ≡ told self.old)) }
+        ensures spoilt { OnTrue result (peers_came self.new ≡ peers_came self.old ++ Answered Failed ∷ []) }
+        ensures ended { OnFalse result ((self.new.at ≡ length self.new.script.items) × (peers_came self.new ≡ peers_came self.old)) }
         ensures taken { self.new.taken.items ≡ self.old.taken.items }
         ensures late { (self.new.late_accepts ≡ self.old.late_accepts) × (self.new.late_reads ≡ self.old.late_reads) }
         ensures same { (self.new.accepts ≡ self.old.accepts) × (self.new.reads ≡ self.old.reads) × (self.new.accept_failures ≡ self.old.accept_failures) ×
@@ -195,7 +195,7 @@ impl MemoryPeers {
         requires failures { self.old.accept_failures < self.old.accepts }
         requires late { self.old.late_accepts < self.old.accepts }
         ensures fault { result ≡ Accepted.Fault }
-        ensures told { told self.new ≡ told self.old ++ Answered Failed ∷ [] }
+        ensures told { peers_came self.new ≡ peers_came self.old ++ Answered Failed ∷ [] }
         ensures failures { self.new.accept_failures ≡ self.old.accept_failures + 1 }
         ensures same { (self.new.accepts ≡ self.old.accepts) × (self.new.reads ≡ self.old.reads) × (self.new.write_failures ≡ self.old.write_failures) ×
             (self.new.taken.items ≡ self.old.taken.items) }
@@ -211,7 +211,7 @@ impl MemoryPeers {
     fn fail_read(&mut self) -> Reading
         requires { self.old.late_reads < self.old.reads }
         ensures fault { result ≡ Reading.Fault }
-        ensures told { told self.new ≡ told self.old ++ Answered Failed ∷ [] }
+        ensures told { peers_came self.new ≡ peers_came self.old ++ Answered Failed ∷ [] }
         ensures same { (self.new.accepts ≡ self.old.accepts) × (self.new.reads ≡ self.old.reads) × (self.new.accept_failures ≡ self.old.accept_failures) ×
             (self.new.write_failures ≡ self.old.write_failures) × (self.new.taken.items ≡ self.old.taken.items) }
     {
@@ -241,10 +241,10 @@ impl MemoryPeers {
 impl Peers for MemoryPeers {
     ghost use Rattle.std.specs.Option.{option_map};
     ghost use Rattle.of_replay.specs.Told.{answer_of, write_count, write_faults, IsReading, IsWriting};
-    ghost use Rattle.of_serve.specs.Told.{Came, accept_came, Answered, then_told, accept_faults, then_begun, then_onto};
-    ghost use Rattle.of_serve.specs.Memory.{told};
+    ghost use Rattle.of_serve.specs.Told.{PeerCame, accept_came, Answered, then_told, accept_faults, then_begun, then_onto};
+    ghost use Rattle.of_serve.specs.Memory.{peers_came};
 
-    ghost came = { λ p. Some (told p) };
+    ghost came = { λ p. Some (peers_came p) };
 
     ghost took = { λ p. Some p.taken.items };
 

@@ -1,7 +1,7 @@
 //! Who connects to a switch, and what time it is.
 ghost use Rattle.std.specs.Prelude.{◌≡◌, ◌+◌, ◌<◌, ◌≤◌, ◌^◌, ◌∷◌, ℕ, List, [], Option, length, take};
 ghost use Rattle.of_replay.specs.Told.{answer_of, write_count, write_faults, IsReading, IsWriting};
-ghost use Rattle.of_serve.specs.Told.{Came, accept_came, Answered, then_told, accept_faults, then_begun, then_onto};
+ghost use Rattle.of_serve.specs.Told.{PeerCame, accept_came, Answered, then_told, accept_faults, then_begun, then_onto};
 
 use of_replay::{Reading, Writing};
 
@@ -19,7 +19,7 @@ pub enum Accepted {
 /// Peers, one connection at a time.
 pub trait Peers {
     /// What accepts and reads answered, in order, where it records that.
-    ghost came: { Self → Option (List Came) };
+    ghost came: { Self → Option (List PeerCame) };
 
     /// The bytes that its writes took, a list a connection, the newest first, where it records them.
     ghost took: { Self → Option (List (List ℕ)) };

@@ -4,7 +4,7 @@ ghost use Rattle.of_text.specs.Lines.{lines_of};
 ghost use Rattle.of_switch.specs.declared.event.Event.TheVariants.{Ports as PortsEvent};
 ghost use Rattle.of_switch.specs.Runs.{happened};
 ghost use Rattle.of_switch.specs.State.{start};
-ghost use Rattle.of_serve.specs.Refusals.{after_due, later, next_due as first_due, ported, refusal_in, refused_by, refused_from, refused_row, row_numbers as numbers_of_rows};
+ghost use Rattle.of_serve.specs.Refusals.{after_due, later, next_due as first_due, ported, refusal_in, refused_by, refused_rows_from, refused_row, row_numbers as numbers_of_rows};
 
 use of_classifier::Lookup;
 use of_switch::{Event, PortChange, Switch, SwitchError};
@@ -92,7 +92,7 @@ fn refused_rows<L: Lookup>(
     events: &[Event],
     lines: &[usize],
 ) -> Result<Vec<RefusedRow>, AllocError>
-    ensures { IfOk result (λ rows. rows.items ≡ refused_from 0 switch.old events.now lines.now) }
+    ensures { IfOk result (λ rows. rows.items ≡ refused_rows_from 0 switch.old events.now lines.now) }
 {
     let mut rows = Vec::new(alloc);
     let mut due: u64 = 0;
@@ -129,7 +129,7 @@ impl Refusals {
     /// Those of these events, which are the rows of that file. Which ports there are is for rows of ports alone to say, so
     /// a switch on which nothing else happens refuses the same rows as the one that serves.
     pub fn new<L: Lookup>(alloc: Global, file: &[u8], events: &[Event]) -> Result<Self, AllocError>
-        ensures { IfOk result (λ r. r ≡ refused_from 0 (start 1) events.now (numbers_of_rows 0 (lines_of file.now))) }
+        ensures { IfOk result (λ r. r ≡ refused_rows_from 0 (start 1) events.now (numbers_of_rows 0 (lines_of file.now))) }
     {
         let numbers = row_numbers(alloc, file)?;
         let mut switch = Switch::<L>::new(alloc, 1)?;

@@ -4,7 +4,7 @@ ghost use Rattle.of_switch.specs.State.{State, start};
 ghost use Rattle.of_serve.specs.Turns.{nothing_pending, standing};
 ghost use Rattle.of_serve.specs.Serves.{Serves, tells};
 ghost use Rattle.of_replay.specs.Stepping.{ended_so};
-ghost use Rattle.of_serve.specs.Gathering.{Fails, WriteFails};
+ghost use Rattle.of_serve.specs.Gathering.{CountsAcceptFailure, WriteFails};
 
 use crate::gathering::Gathering;
 use crate::peers::{Clock, Peers};
@@ -35,7 +35,7 @@ fn take_turns<L: Lookup, P: Peers, C: Clock, K: Sink>(
         (tells (P.came peers.new) (C.times clock.new) (P.took peers.new) (P.write_failures peers.new) (K.taken out.new)) }
     ensures done { OnOk result (P.accepts peers.new + P.reads peers.new ≡ turns) }
     ensures most { P.accepts peers.new + P.reads peers.new ≤ turns }
-    ensures failures { Fails result 0 (P.accept_failures peers.new) }
+    ensures failures { CountsAcceptFailure result 0 (P.accept_failures peers.new) }
     ensures writes { WriteFails result (K.failures out.new) }
 {
     for _ in 0..turns {

@@ -3,7 +3,7 @@ ghost use Rattle.std.specs.Prelude.{◌≡◌, ◌≤◌, ◌<◌, ◌^◌, ◌+
 ghost use Rattle.std.specs.Prelude.{ℕ, List, Option};
 ghost use Rattle.of_serve.specs.Turns.{nothing_pending, standing};
 ghost use Rattle.of_serve.specs.Serves.{tells};
-ghost use Rattle.of_serve.specs.Gathering.{failed_writes, Counts, CutsReads, Fails, Goes, Hears, Inputs, IsAnswered, Opens, OrMemory, Takes, TellsReads, WriteFails};
+ghost use Rattle.of_serve.specs.Gathering.{failed_writes, Counts, CutsReads, CountsAcceptFailure, ServeGoes, HandlesRead, Inputs, IsAnswered, Opens, OrMemory, TakesAnswers, TellsReads, WriteFails};
 
 use crate::gathering::Gathering;
 use crate::peers::{Accepted, Clock, Peers};
@@ -17,7 +17,7 @@ use std::alloc::AllocError;
 /// Writes all of the bytes to the open connection, and returns true; or a write fails, and nothing more is written.
 pub fn write_answers<P: Peers>(peers: &mut P, bytes: &[u8]) -> bool
     requires few { P.write_failures peers.old < 2 ^ 63 }
-    ensures takes { Takes result bytes.now (P.took peers.old) (P.took peers.new) }
+    ensures takes { TakesAnswers result bytes.now (P.took peers.old) (P.took peers.new) }
     ensures failures { P.write_failures peers.new ≡ P.write_failures peers.old + failed_writes result }
     ensures came { P.came peers.new ≡ P.came peers.old }
     ensures same { (P.accepts peers.new ≡ P.accepts peers.old) × (P.reads peers.new ≡ P.reads peers.old) ×
@@ -41,7 +41,7 @@ pub fn listen<L: Lookup, P: Peers>(
 ) -> Result<(), AllocError>
     requires room { length buffer.old ≡ 65536 }
     requires few { P.reads peers.old < 2 ^ 63 }
-    ensures hears { Hears result gathering.old gathering.new (P.came peers.old) (P.came peers.new) }
+    ensures hears { HandlesRead result gathering.old gathering.new (P.came peers.old) (P.came peers.new) }
     ensures took { P.took peers.new ≡ P.took peers.old }
     ensures reads { P.reads peers.new ≡ P.reads peers.old + 1 }
     ensures same { (P.accepts peers.new ≡ P.accepts peers.old) × (P.accept_failures peers.new ≡ P.accept_failures peers.old) ×
@@ -87,7 +87,7 @@ fn accept_turn<L: Lookup, P: Peers>(gathering: &mut Gathering<L>, peers: &mut P)
     requires few { P.accepts peers.old + P.reads peers.old < 2 ^ 63 }
     ensures opens { Opens result gathering.old gathering.new (P.came peers.old) (P.came peers.new) (P.took peers.old) (P.took peers.new) }
     ensures accepts { P.accepts peers.new ≡ P.accepts peers.old + 1 }
-    ensures failures { Fails result (P.accept_failures peers.old) (P.accept_failures peers.new) }
+    ensures failures { CountsAcceptFailure result (P.accept_failures peers.old) (P.accept_failures peers.new) }
     ensures same { (P.reads peers.new ≡ P.reads peers.old) × (P.write_failures peers.new ≡ P.write_failures peers.old) }
 {
     match peers.accept() {
@@ -121,7 +121,7 @@ fn input<L: Lookup, P: Peers, C: Clock>(
         (tells (P.came peers.old) (C.times clock.old) (P.took peers.old) (P.write_failures peers.old) wrote)
         (tells (P.came peers.new) (C.times clock.new) (P.took peers.new) (P.write_failures peers.new) wrote) }
     ensures counts { Counts result (P.accepts peers.old + P.reads peers.old) (P.accepts peers.new + P.reads peers.new) }
-    ensures failures { Fails result (P.accept_failures peers.old) (P.accept_failures peers.new) }
+    ensures failures { CountsAcceptFailure result (P.accept_failures peers.old) (P.accept_failures peers.new) }
     ensures same { P.write_failures peers.new ≡ P.write_failures peers.old }
 {
     if gathering.is_connected() {
@@ -159,11 +159,11 @@ pub fn turn<L: Lookup, P: Peers, C: Clock, K: Sink>(
     requires few { P.accepts peers.old + P.reads peers.old < 2 ^ 63 }
     requires few_failures { P.write_failures peers.old < 2 ^ 63 }
     requires well { K.failures out.old ≡ 0 }
-    ensures goes { Goes result (standing gathering.old.state rows.old) gathering.new rows.new
+    ensures goes { ServeGoes result (standing gathering.old.state rows.old) gathering.new rows.new
         (tells (P.came peers.old) (C.times clock.old) (P.took peers.old) (P.write_failures peers.old) (K.taken out.old))
         (tells (P.came peers.new) (C.times clock.new) (P.took peers.new) (P.write_failures peers.new) (K.taken out.new)) }
     ensures counts { Counts result (P.accepts peers.old + P.reads peers.old) (P.accepts peers.new + P.reads peers.new) }
-    ensures failures { Fails result (P.accept_failures peers.old) (P.accept_failures peers.new) }
+    ensures failures { CountsAcceptFailure result (P.accept_failures peers.old) (P.accept_failures peers.new) }
     ensures write_failures { P.write_failures peers.new ≤ P.write_failures peers.old + 1 }
     ensures writes { WriteFails result (K.failures out.new) }
 {

@@ -5,7 +5,7 @@ use Rattle.std.specs.Prelude.{nat_lt}
 use Rattle.std.proofs.lemmas.Bool.{le-ltb, lt-ltb}
 use Rattle.std.proofs.lemmas.Bool.Decides.{nat_tests}
 use Rattle.std.proofs.lemmas.List.{take_at, drop_at}
-use Rattle.of_session.specs.Stream.{First, Whole, Bad, Partial, beginning_of, length_of, IsMessage, IsMalformed, IsPartial}
+use Rattle.of_session.specs.Stream.{First, Whole, Bad, Partial, beginning_of, length_of, IsWholeMessage, IsMalformed, IsPartial}
 
 -- what each beginning says of the bytes
 abbrev pub Looks : List ℕ → First → Type 0
@@ -29,7 +29,7 @@ length_of-append a b h =
     let three : get_or (a ++ b) 3 0 ≡ get_or a 3 0 = get_or-append a b 0 3 (omega (arith, h)) in
     ap (λ (x : ℕ). 256 * x + get_or (a ++ b) 3 0) two ∙ ap (λ (x : ℕ). 256 * get_or a 2 0 + x) three
 
-pub message_front : (m x : List ℕ) → IsMessage m → beginning_of (m ++ x) ≡ Whole m x
+pub message_front : (m x : List ℕ) → IsWholeMessage m → beginning_of (m ++ x) ≡ Whole m x
 message_front m x h =
     let size : length_of (m ++ x) ≡ length m = length_of-append m x h.header ∙ h.whole in
     let all : length (m ++ x) ≡ length m + length x = length-append m x in

@@ -10,8 +10,8 @@ use Rattle.of_session.specs.declared.session.Phase.{Phase}
 use Rattle.of_session.specs.declared.session.Phase.TheVariants.{Disconnected, Greeting, Open}
 use Rattle.of_session.specs.declared.session.Next.{Next}
 use Rattle.of_session.specs.declared.session.Next.TheVariants.{Nothing, BadStream, NotHello, Opened, Read, Refused}
-use Rattle.of_session.specs.Stream.{First, Whole, Bad, Partial, beginning_of, length_of, IsMessage}
-use Rattle.of_session.specs.Session.{Connection, is_disconnected, fed, is_first_hello, read_as, judged, next_by, next_of}
+use Rattle.of_session.specs.Stream.{First, Whole, Bad, Partial, beginning_of, length_of, IsWholeMessage}
+use Rattle.of_session.specs.Session.{Connection, is_disconnected, with_received, is_first_hello, read_as, judged, next_by_beginning, next_of_connection}
 use Rattle.of_session.proofs.Fronts.{Looks, looks, length_of-append, message_front, malformed_front}
 use Rattle.of_session.proofs.Splitting.{front_message}
 
@@ -37,18 +37,18 @@ judged_sized role Disconnected m bytes low high = greeted_by m bytes (is_first_h
 judged_sized role Greeting m bytes low high = greeted_by m bytes (is_first_hello m) low high
 judged_sized role Open m bytes low high = read_by m bytes (message_from role m) low high
 
-by_front : (role : Role) (c : Connection) (f : First) → Looks c.pending f → IsSizedIn (next_by role c f) c.pending
+by_front : (role : Role) (c : Connection) (f : First) → Looks c.pending f → IsSizedIn (next_by_beginning role c f) c.pending
 by_front role c Partial look = tt
 by_front role c Bad look = look.0
 by_front role c (Whole m rest) look =
     let size : length m ≡ length_of c.pending = rw look.2 (omega (arith, length-take (length_of c.pending) c.pending, look.1)) in
     judged_sized role c.phase m c.pending (omega (arith, size, look.0)) (omega (arith, size, look.1))
 
-by_phase : (role : Role) (c : Connection) (t : Bool) → IsSizedIn (cond t Nothing (next_by role c (beginning_of c.pending))) c.pending
+by_phase : (role : Role) (c : Connection) (t : Bool) → IsSizedIn (cond t Nothing (next_by_beginning role c (beginning_of c.pending))) c.pending
 by_phase role c true = tt
 by_phase role c false = by_front role c (beginning_of c.pending) (looks c.pending)
 
-pub next_sized : (role : Role) (c : Connection) → IsSizedIn (next_of role c) c.pending
+pub next_sized : (role : Role) (c : Connection) → IsSizedIn (next_of_connection role c) c.pending
 next_sized role c = by_phase role c (is_disconnected c.phase)
 
 -- something comes next
@@ -60,22 +60,22 @@ IsSomething (Opened size) = Unit {0}
 IsSomething (Read xid size message) = Unit {0}
 IsSomething (Refused xid size code) = Unit {0}
 
-front_more : (role : Role) (c : Connection) (q : List ℕ) (f : First) → Looks c.pending f → IsSomething (next_by role c f) → next_by role (fed q c) (beginning_of (c.pending ++ q)) ≡ next_by role c f
+front_more : (role : Role) (c : Connection) (q : List ℕ) (f : First) → Looks c.pending f → IsSomething (next_by_beginning role c f) → next_by_beginning role (with_received q c) (beginning_of (c.pending ++ q)) ≡ next_by_beginning role c f
 front_more role c q Partial look some = absurd some
 front_more role c q Bad look some =
     let bad : beginning_of (c.pending ++ q) ≡ Bad = malformed_front (c.pending ++ q) (record { header = omega (arith, length-append c.pending q, look.0); short = rw (length_of-append c.pending q look.0) look.1 }) in
     let front : take 8 (c.pending ++ q) ≡ take 8 c.pending = take-append-le 8 c.pending q look.0 in
-    ap (next_by role (fed q c)) bad ∙ ap (λ (h : List ℕ). BadStream (xid_of h)) front
+    ap (next_by_beginning role (with_received q c)) bad ∙ ap (λ (h : List ℕ). BadStream (xid_of h)) front
 front_more role c q (Whole m rest) look some =
-    let is : IsMessage m = rw look.2 (front_message c.pending look.0 look.1) in
+    let is : IsWholeMessage m = rw look.2 (front_message c.pending look.0 look.1) in
     let joined : m ++ rest ≡ c.pending = rw (look.2, look.3) (take-append-drop (length_of c.pending) c.pending) in
     let all : c.pending ++ q ≡ m ++ (rest ++ q) = ap (λ (x : List ℕ). x ++ q) (sym joined) ∙ append_assoc m rest q in
-    ap (λ (f : First). next_by role (fed q c) f) (ap beginning_of all ∙ message_front m (rest ++ q) is)
+    ap (λ (f : First). next_by_beginning role (with_received q c) f) (ap beginning_of all ∙ message_front m (rest ++ q) is)
 
-more_by : (role : Role) (c : Connection) (q : List ℕ) (t : Bool) → IsSomething (cond t Nothing (next_by role c (beginning_of c.pending))) → cond t Nothing (next_by role (fed q c) (beginning_of (c.pending ++ q))) ≡ cond t Nothing (next_by role c (beginning_of c.pending))
+more_by : (role : Role) (c : Connection) (q : List ℕ) (t : Bool) → IsSomething (cond t Nothing (next_by_beginning role c (beginning_of c.pending))) → cond t Nothing (next_by_beginning role (with_received q c) (beginning_of (c.pending ++ q))) ≡ cond t Nothing (next_by_beginning role c (beginning_of c.pending))
 more_by role c q true some = absurd some
 more_by role c q false some = front_more role c q (beginning_of c.pending) (looks c.pending) some
 
 -- more bytes change nothing of what comes next
-pub next_more : (role : Role) (c : Connection) (q : List ℕ) → IsSomething (next_of role c) → next_of role (fed q c) ≡ next_of role c
+pub next_more : (role : Role) (c : Connection) (q : List ℕ) → IsSomething (next_of_connection role c) → next_of_connection role (with_received q c) ≡ next_of_connection role c
 next_more role c q some = more_by role c q (is_disconnected c.phase) some

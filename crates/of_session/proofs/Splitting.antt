@@ -1,11 +1,11 @@
 -- A stream is messages and a rest in one way.
 use Rattle.std.proofs.Common.{◌≡◌, ℕ, zero, suc, ◌<◌, ◌≤◌, ◌⊎◌, inl, inr, List, [], ◌∷◌, ◌++◌, length, take, drop, refl, sym, ◌∙◌, ap, subst, arith, append_assoc, length-drop}
 use Rattle.std.proofs.lemmas.List.{take-append-drop, length-take}
-use Rattle.of_session.specs.Stream.{First, Whole, Bad, Partial, beginning_of, length_of, IsMessage, IsMalformed, IsPartial, concat, AreMessages, Splits}
+use Rattle.of_session.specs.Stream.{First, Whole, Bad, Partial, beginning_of, length_of, IsWholeMessage, IsMalformed, IsPartial, concat, AreMessages, Splits}
 use Rattle.of_session.proofs.Fronts.{Looks, looks, message_front, malformed_front, partial_front, length_of-append}
 
 -- a rest does not begin with a message
-no_message : (m x r : List ℕ) → IsMessage m → IsMalformed r ⊎ IsPartial r → r ≡ m ++ x → ⊥
+no_message : (m x r : List ℕ) → IsWholeMessage m → IsMalformed r ⊎ IsPartial r → r ≡ m ++ x → ⊥
 no_message m x r is (inl bad) e = let h : Bad ≡ Whole m x = sym (malformed_front r bad) ∙ (ap beginning_of e ∙ message_front m x is) in cc
 no_message m x r is (inr part) e = let h : Partial ≡ Whole m x = sym (partial_front r part) ∙ (ap beginning_of e ∙ message_front m x is) in cc
 
@@ -25,7 +25,7 @@ pub splits_only : (stream : List ℕ) (ms ns : List (List ℕ)) (r s : List ℕ)
 splits_only stream ms ns r s a b = same ms ns r s a.each b.each a.ends b.ends (sym a.whole ∙ b.whole)
 
 -- one more message first
-prepended : (m stream : List ℕ) (ms : List (List ℕ)) (r : List ℕ) → IsMessage m → Splits stream ms r → Splits (m ++ stream) (m ∷ ms) r
+prepended : (m stream : List ℕ) (ms : List (List ℕ)) (r : List ℕ) → IsWholeMessage m → Splits stream ms r → Splits (m ++ stream) (m ∷ ms) r
 prepended m stream ms r is h = record {
   whole = ap (λ (x : List ℕ). m ++ x) h.whole ∙ sym (append_assoc m (concat ms) r);
   each = (is, h.each);
@@ -36,7 +36,7 @@ alone : (stream : List ℕ) → IsMalformed stream ⊎ IsPartial stream → Spli
 alone stream h = record { whole = refl; each = tt; ends = h }
 
 -- the first message is one
-pub front_message : (stream : List ℕ) → 8 ≤ length_of stream → length_of stream ≤ length stream → IsMessage (take (length_of stream) stream)
+pub front_message : (stream : List ℕ) → 8 ≤ length_of stream → length_of stream ≤ length stream → IsWholeMessage (take (length_of stream) stream)
 front_message stream low high =
     let size : length (take (length_of stream) stream) ≡ length_of stream = omega (arith, length-take (length_of stream) stream, high) in
     let joined : take (length_of stream) stream ++ drop (length_of stream) stream ≡ stream = take-append-drop (length_of stream) stream in
@@ -50,7 +50,7 @@ by_front : (stream : List ℕ) (f : First) → Looks stream f → ((rest : List 
 by_front stream (Whole m rest) look others =
     let less : length rest < length stream = rw look.3 (omega (arith, length-drop (length_of stream) stream, look.0, look.1)) in
     let h = others rest less in
-    let is : IsMessage m = rw look.2 (front_message stream look.0 look.1) in
+    let is : IsWholeMessage m = rw look.2 (front_message stream look.0 look.1) in
     let joined : m ++ rest ≡ stream = rw (look.2, look.3) (take-append-drop (length_of stream) stream) in
     (m ∷ h.0, h.1, subst (λ (x : List ℕ). Splits x (m ∷ h.0) h.1) joined (prepended m rest h.0 h.1 is h.2))
 by_front stream Bad look others = ([], stream, alone stream (inl (record { header = look.0; short = look.1 })))

@@ -32,15 +32,15 @@ abbrev pub greeting : Connection
 greeting = record { phase = Greeting; pending = [] }
 
 -- bytes are received
-abbrev pub fed : List ℕ → Connection → Connection
-fed chunk c = record c { pending = c.pending ++ chunk }
+abbrev pub with_received : List ℕ → Connection → Connection
+with_received chunk c = record c { pending = c.pending ++ chunk }
 
 -- the first message is accepted if it is a HELLO that agrees to version 4
 abbrev pub is_first_hello : List ℕ → Bool
 is_first_hello m = type_of m == HELLO && version_by m == 4
 
-abbrev pub greeted : List ℕ → Next
-greeted m = if is_first_hello m then Opened (length m) else NotHello (xid_of m)
+abbrev pub next_greeting : List ℕ → Next
+next_greeting m = if is_first_hello m then Opened (length m) else NotHello (xid_of m)
 
 -- a message of an open connection
 abbrev pub read_as : List ℕ → Result Message Code → Next
@@ -48,22 +48,22 @@ read_as m (Ok message) = Read (xid_of m) (length m) message
 read_as m (Err code) = Refused (xid_of m) (length m) code
 
 abbrev pub judged : Role → Phase → List ℕ → Next
-judged role Disconnected m = greeted m
-judged role Greeting m = greeted m
+judged role Disconnected m = next_greeting m
+judged role Greeting m = next_greeting m
 judged role Open m = read_as m (message_from role m)
 
-abbrev pub next_by : Role → Connection → First → Next
-next_by role c Partial = Nothing
-next_by role c Bad = BadStream (xid_of (take 8 c.pending))
-next_by role c (Whole m rest) = judged role c.phase m
+abbrev pub next_by_beginning : Role → Connection → First → Next
+next_by_beginning role c Partial = Nothing
+next_by_beginning role c Bad = BadStream (xid_of (take 8 c.pending))
+next_by_beginning role c (Whole m rest) = judged role c.phase m
 
 -- WHAT COMES NEXT of a controller of that role: the first whole message, or a malformed header, or neither; without a connection nothing does
-abbrev pub next_of : Role → Connection → Next
-next_of role c = if is_disconnected c.phase then Nothing else next_by role c (beginning_of c.pending)
+abbrev pub next_of_connection : Role → Connection → Next
+next_of_connection role c = if is_disconnected c.phase then Nothing else next_by_beginning role c (beginning_of c.pending)
 
 -- without its first message
-abbrev pub taken : ℕ → Connection → Connection
-taken size c = record c { pending = drop size c.pending }
+abbrev pub message_taken : ℕ → Connection → Connection
+message_taken size c = record c { pending = drop size c.pending }
 
 -- its HELLO opens it
 abbrev pub opened : ℕ → Connection → Connection
@@ -75,28 +75,28 @@ entered Nothing c = c
 entered (BadStream xid) c = alone
 entered (NotHello xid) c = alone
 entered (Opened size) c = opened size c
-entered (Read xid size message) c = taken size c
-entered (Refused xid size code) c = taken size c
+entered (Read xid size message) c = message_taken size c
+entered (Refused xid size code) c = message_taken size c
 
 -- the bytes that it covers were received
-abbrev pub IsWithin : Next → Connection → Type 0
-IsWithin Nothing c = Unit {0}
-IsWithin (BadStream xid) c = 8 ≤ length c.pending
-IsWithin (NotHello xid) c = Unit {0}
-IsWithin (Opened size) c = size ≤ length c.pending
-IsWithin (Read xid size message) c = size ≤ length c.pending
-IsWithin (Refused xid size code) c = size ≤ length c.pending
+abbrev pub IsNextReceived : Next → Connection → Type 0
+IsNextReceived Nothing c = Unit {0}
+IsNextReceived (BadStream xid) c = 8 ≤ length c.pending
+IsNextReceived (NotHello xid) c = Unit {0}
+IsNextReceived (Opened size) c = size ≤ length c.pending
+IsNextReceived (Read xid size message) c = size ≤ length c.pending
+IsNextReceived (Refused xid size code) c = size ≤ length c.pending
 
 -- a message of n bytes, or what ends the connection
-abbrev pub IsSized : Next → ℕ → Type 0
-IsSized Nothing n = ⊥
-IsSized (BadStream xid) n = ⊥
-IsSized (NotHello xid) n = Unit {0}
-IsSized (Opened size) n = size ≡ n
-IsSized (Read xid size message) n = size ≡ n
-IsSized (Refused xid size code) n = size ≡ n
+abbrev pub IsNextSized : Next → ℕ → Type 0
+IsNextSized Nothing n = ⊥
+IsNextSized (BadStream xid) n = ⊥
+IsNextSized (NotHello xid) n = Unit {0}
+IsNextSized (Opened size) n = size ≡ n
+IsNextSized (Read xid size message) n = size ≡ n
+IsNextSized (Refused xid size code) n = size ≡ n
 
 -- what holds for each message that was read
-abbrev pub IsSound : Next → Type 0
-IsSound (Read xid size message) = IsSoundMessage message
-IsSound other = Unit {0}
+abbrev pub IsSoundNext : Next → Type 0
+IsSoundNext (Read xid size message) = IsSoundMessage message
+IsSoundNext other = Unit {0}

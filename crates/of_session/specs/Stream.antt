@@ -10,7 +10,7 @@ length_of bytes = 256 * slice_index bytes 2 + slice_index bytes 3
 -- THE SPLIT OF A STREAM
 
 -- a whole message
-pub record IsMessage (m : List ℕ) : Type 0 where
+pub record IsWholeMessage (m : List ℕ) : Type 0 where
   pub header : 8 ≤ length m
   pub whole : length_of m ≡ length m
 
@@ -29,7 +29,7 @@ concat (m ∷ ms) = m ++ concat ms
 
 abbrev pub AreMessages : List (List ℕ) → Type 0
 AreMessages [] = Unit {0}
-AreMessages (m ∷ ms) = IsMessage m × AreMessages ms
+AreMessages (m ∷ ms) = IsWholeMessage m × AreMessages ms
 
 -- the stream is these messages, and then a rest that is malformed or too short
 pub record Splits (stream : List ℕ) (messages : List (List ℕ)) (rest : List ℕ) : Type 0 where

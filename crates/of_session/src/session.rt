@@ -2,7 +2,7 @@
 ghost use Rattle.std.specs.Prelude.{◌≡◌, ◌++◌, ◌≤◌, length, take, [], OnOk, OnErr, IfOk};
 ghost use Rattle.of_messages.specs.Heads.{xid_of};
 ghost use Rattle.of_messages.specs.declared.role.Role.{Role as ARole};
-ghost use Rattle.of_session.specs.Session.{next_of, fed, is_first_hello, judged, greeted as greeting_of, entered, IsWithin, IsSound, IsSized};
+ghost use Rattle.of_session.specs.Session.{next_of_connection, with_received, is_first_hello, judged, next_greeting as greeting_of, entered, IsNextReceived, IsSoundNext, IsNextSized};
 
 use crate::stream::{Beginning, HEADER, Stream};
 use byteorder::{BigEndian, ByteOrder};
@@ -116,7 +116,7 @@ impl Session {
 
     /// Receives these bytes. Where memory runs out none of them was received.
     pub fn feed(&mut self, chunk: &[u8]) -> Result<(), AllocError>
-        ensures ok { OnOk result (self.new ≡ fed chunk.now self.old) }
+        ensures ok { OnOk result (self.new ≡ with_received chunk.now self.old) }
         ensures err { OnErr result (self.new ≡ self.old) }
     {
         self.stream.feed(chunk)
@@ -124,9 +124,9 @@ impl Session {
 
     /// What comes next from a controller of that role. It is the same until it is `taken`.
     pub fn next(&self, role: Role) -> Result<Next, AllocError>
-        ensures next { IfOk result (λ next. next ≡ next_of role self.now) }
-        ensures there { IfOk result (λ next. IsWithin next self.now) }
-        ensures sound { IfOk result IsSound }
+        ensures next { IfOk result (λ next. next ≡ next_of_connection role self.now) }
+        ensures there { IfOk result (λ next. IsNextReceived next self.now) }
+        ensures sound { IfOk result IsSoundNext }
     {
         if self.phase == Phase::Disconnected {
             return Ok(Next::Nothing);
@@ -155,7 +155,7 @@ impl Session {
 
     /// What `next` gives was handled: a message is taken, a HELLO opens the connection, and a fault ends it.
     pub fn taken(&mut self)
-        ensures { (role : ARole) → self.new ≡ entered (next_of role self.old) self.old }
+        ensures { (role : ARole) → self.new ≡ entered (next_of_connection role self.old) self.old }
     {
         if self.phase == Phase::Disconnected {
             return;
@@ -203,8 +203,8 @@ fn is_accepted(message: &[u8]) -> bool
 fn judge(alloc: Global, role: Role, phase: Phase, message: &[u8]) -> Result<Next, AllocError>
     requires { 8 ≤ length message.now }
     ensures next { IfOk result (λ next. next ≡ judged role phase message.now) }
-    ensures size { IfOk result (λ next. IsSized next (length message.now)) }
-    ensures sound { IfOk result IsSound }
+    ensures size { IfOk result (λ next. IsNextSized next (length message.now)) }
+    ensures sound { IfOk result IsSoundNext }
 {
     let size = message.len();
     if phase != Phase::Open {
@@ -221,8 +221,8 @@ fn judge(alloc: Global, role: Role, phase: Phase, message: &[u8]) -> Result<Next
 fn greet(message: &[u8]) -> Next
     requires { 8 ≤ length message.now }
     ensures next { result ≡ greeting_of message.now }
-    ensures size { IsSized result (length message.now) }
-    ensures sound { IsSound result }
+    ensures size { IsNextSized result (length message.now) }
+    ensures sound { IsSoundNext result }
 {
     if is_accepted(message) {
         Next::Opened {

@@ -14,7 +14,7 @@ use Rattle.of_layers.specs.Fields.{row_of, number_of, ones_of, prerequisite_of}
 use Rattle.of_layers.specs.Layers.{Item, plain, named, Cell, Extension, Options, Fragment, Body, Plain, Arp, Ipv4, Ipv6, Carried, Layers, cells_in, byte_cells, inner_cells, tag_cells, extension_cells, carried_cells, body_cells, cells, next_before, addresses, outer_tag, inner_tag, ether_type, arp, ipv4, ipv6, options, fragment, items_of, size_of}
 use Rattle.of_layers.specs.Looking.{name_is, look_up, look}
 use Rattle.of_layers.specs.Reading.{layers_of, over_ipv4, over_ipv6, kind_behind}
-use Rattle.of_layers.specs.WellFormed.{AreBytes, Fits, AreTags, AreExtensions, IsBody, IsLayers, IsCarried, bytes_in}
+use Rattle.of_layers.specs.WellFormed.{AreBytes, FitsItems, AreTags, AreExtensions, IsBody, IsLayers, IsCarried, carried_size}
 use Rattle.of_layers.proofs.FrameLemmas.{are_layers}
 use Rattle.of_headers.specs.FieldMap.{field_map, vid}
 use Rattle.of_headers.proofs.LookLemmas.{look-append, look_bytes, or_assoc}
@@ -22,7 +22,7 @@ use Rattle.of_shapes.specs.declared.shape.Shape.TheVariants as shapes
 use Rattle.of_shapes.specs.declared.shape.Tagging.{Tagging}
 use Rattle.of_shapes.specs.declared.shape.Tagging.TheVariants.{Untagged, Tagged}
 use Rattle.of_shapes.specs.declared.shape.Rule.TheVariants.{Absent, Under}
-use Rattle.of_shapes.specs.Rules.{Obeys, has_header, of_shape, of_tagging, shape_of, tagging_of, type_of, valued, HasShape, IsTagging}
+use Rattle.of_shapes.specs.Rules.{Obeys, has_header, of_shape, of_tagging, shape_of, tagging_of, shape_type, valued, HasShape, IsTagging}
 use Rattle.of_shapes.specs.Rules as rules_of
 
 -- ---- whether a name is found
@@ -45,7 +45,7 @@ some_by : (t h : Bool) (v : ℕ) (rest : Option ℕ) → is_some rest ≡ h → 
 some_by true h v rest e = refl
 some_by false h v rest e = e
 
-some_items : (n : ℕ) (is : List Item) (ns : List ℕ) → Fits is ns → is_some (look_up n (cells_in is ns)) ≡ has n is
+some_items : (n : ℕ) (is : List Item) (ns : List ℕ) → FitsItems is ns → is_some (look_up n (cells_in is ns)) ≡ has n is
 some_items n [] ns f = refl
 some_items n (i ∷ is) [] f = absurd f
 some_items n (i ∷ is) (v ∷ ns) f = some_by (name_is n i.name) (has n is) v (look_up n (cells_in is ns)) (some_items n is ns f.1)
@@ -66,7 +66,7 @@ first_by : (t h : Bool) (v : ℕ) (o : Option ℕ) (w : Option ℕ) → (not t &
 first_by true h v o w e f = absurd cc
 first_by false h v o w e f = f e
 
-value_at : (n : ℕ) (is : List Item) (ns : List ℕ) (i : ℕ) → first n is i ≡ true → Fits is ns → look_up n (cells_in is ns) ≡ Some (get_or ns i 0)
+value_at : (n : ℕ) (is : List Item) (ns : List ℕ) (i : ℕ) → first n is i ≡ true → FitsItems is ns → look_up n (cells_in is ns) ≡ Some (get_or ns i 0)
 value_at n [] ns i e f = absurd cc
 value_at n (x ∷ is) [] i e f = absurd f
 value_at n (x ∷ is) (v ∷ ns) zero e f = rw e refl
@@ -88,7 +88,7 @@ inner_none : (n : ℕ) (ts : List (List ℕ)) → AreTags ts → is_some (look_u
 inner_none n [] h = refl
 inner_none n (t ∷ ts) h = some_append n (cells_in inner_tag t) (inner_cells ts) false false (some_items n inner_tag t h.0) (inner_none n ts h.2)
 
-outer_fits : (t : List ℕ) → Fits inner_tag t → Fits outer_tag t
+outer_fits : (t : List ℕ) → FitsItems inner_tag t → FitsItems outer_tag t
 outer_fits [] f = f
 outer_fits (a ∷ []) f = f
 outer_fits (a ∷ b ∷ []) f = f
@@ -166,15 +166,15 @@ carried4 : (c : Carried) (offset p : ℕ) → IsCarried (kind_behind offset (ove
 carried4 c offset p h =
     let over : MayCarry4 (over_ipv4 p) p = named4 (eqb p 6) (eqb p 17) (eqb p 1) p (eqb-true p 6) (eqb-true p 17) (eqb-true p 1) in
     let kind : MayCarry4 (kind_behind offset (over_ipv4 p)) p = whole4 (over_ipv4 p) (eqb offset 0) p over in
-    subst (λ (k : Transport). MayCarry4 k p) (sym h.there) (whole4 (kind_behind offset (over_ipv4 p)) (nat_le (size_of (kind_behind offset (over_ipv4 p))) (bytes_in c)) p kind)
+    subst (λ (k : Transport). MayCarry4 k p) (sym h.there) (whole4 (kind_behind offset (over_ipv4 p)) (nat_le (size_of (kind_behind offset (over_ipv4 p))) (carried_size c)) p kind)
 
 carried6 : (c : Carried) (p : ℕ) → IsCarried (over_ipv6 p) c → MayCarry6 c.kind p
 carried6 c p h =
     let over : MayCarry6 (over_ipv6 p) p = named6 (eqb p 6) (eqb p 17) (eqb p 58) p (eqb-true p 6) (eqb-true p 17) (eqb-true p 58) in
-    subst (λ (k : Transport). MayCarry6 k p) (sym h.there) (whole6 (over_ipv6 p) (nat_le (size_of (over_ipv6 p)) (bytes_in c)) p over)
+    subst (λ (k : Transport). MayCarry6 k p) (sym h.there) (whole6 (over_ipv6 p) (nat_le (size_of (over_ipv6 p)) (carried_size c)) p over)
 
 carries_nothing : (c : Carried) (p : ℕ) → IsCarried Nothing c → MayCarry6 c.kind p
-carries_nothing c p h = subst (λ (k : Transport). MayCarry6 k p) (sym h.there) (whole6 Nothing (nat_le 0 (bytes_in c)) p tt)
+carries_nothing c p h = subst (λ (k : Transport). MayCarry6 k p) (sym h.there) (whole6 Nothing (nat_le 0 (carried_size c)) p tt)
 
 -- ---- the protocol, which the last of the headers names
 
@@ -182,7 +182,7 @@ record Names (cs : List Cell) (c : Carried) : Type 0 where
   protocol : ℕ
   there : look_up 10 cs ≡ Some protocol
   carried : MayCarry6 c.kind protocol
-  fits : Fits (items_of c.kind) c.numbers
+  fits : FitsItems (items_of c.kind) c.numbers
 
 chain_names : (kind : ℕ) (e : Extension) (es : List Extension) (c : Carried) → AreExtensions kind (e ∷ es) c → Names (extension_cells (e ∷ es)) c
 unfolding row_of
@@ -214,7 +214,7 @@ chain_names kind (Fragment ns) (e ∷ es) c h = either_way (Names (extension_cel
 abbrev front6 : List ℕ → List Extension → List Cell
 front6 ns es = cells_in (ipv6 (next_before es)) ns ++ extension_cells es
 
-front_names : (ns : List ℕ) (es : List Extension) (c : Carried) → Fits (ipv6 (next_before es)) ns → AreExtensions (get_or ns 5 0) es c → Names (front6 ns es) c
+front_names : (ns : List ℕ) (es : List Extension) (c : Carried) → FitsItems (ipv6 (next_before es)) ns → AreExtensions (get_or ns 5 0) es c → Names (front6 ns es) c
 unfolding row_of
 front_names ns [] c f h = record {
   protocol = get_or ns 5 0;
@@ -230,7 +230,7 @@ next_same : (f : Field) → (has (number_of f) (ipv6 (plain 8)) || has (number_o
 unfolding row_of
 next_same f = elim f as (λ f. (has (number_of f) (ipv6 (plain 8)) || has (number_of f) next) ≡ has (number_of f) (ipv6 (named IpProto 8))) [ InPort ↦ refl | _ ↦ refl ]
 
-some_front : (f : Field) (ns : List ℕ) (es : List Extension) (c : Carried) → Fits (ipv6 (next_before es)) ns → AreExtensions (get_or ns 5 0) es c → is_some (look_up (number_of f) (front6 ns es)) ≡ has (number_of f) (ipv6 (named IpProto 8))
+some_front : (f : Field) (ns : List ℕ) (es : List Extension) (c : Carried) → FitsItems (ipv6 (next_before es)) ns → AreExtensions (get_or ns 5 0) es c → is_some (look_up (number_of f) (front6 ns es)) ≡ has (number_of f) (ipv6 (named IpProto 8))
 some_front f ns [] c fits h =
     let n = number_of f in
     some_append n (cells_in (ipv6 (named IpProto 8)) ns) [] (has n (ipv6 (named IpProto 8))) false (some_items n (ipv6 (named IpProto 8)) ns fits) refl ∙ or_false (has n (ipv6 (named IpProto 8)))
@@ -240,7 +240,7 @@ some_front f ns (e ∷ es) c fits h =
 
 -- ---- a body
 
-some_carried : (n : ℕ) (c : Carried) (rest : List ℕ) → Fits (items_of c.kind) c.numbers → is_some (look_up n (carried_cells c ++ byte_cells rest)) ≡ ((has n (items_of c.kind) || false) || false)
+some_carried : (n : ℕ) (c : Carried) (rest : List ℕ) → FitsItems (items_of c.kind) c.numbers → is_some (look_up n (carried_cells c ++ byte_cells rest)) ≡ ((has n (items_of c.kind) || false) || false)
 some_carried n c rest f =
     some_append n (carried_cells c) (byte_cells rest) (has n (items_of c.kind) || false) false
     (some_append n (cells_in (items_of c.kind) c.numbers) (byte_cells c.rest) (has n (items_of c.kind)) false (some_items n (items_of c.kind) c.numbers f) (some_bytes n c.rest)) (some_bytes n rest)
@@ -332,7 +332,7 @@ in4 n k = around n (has n ipv4 || ((has n (items_of k) || false) || false))
 abbrev in6 : ℕ → Transport → Bool
 in6 n k = around n (has n (ipv6 (named IpProto 8)) || ((has n (items_of k) || false) || false))
 
-ipv4_has : (k : Transport) (p : ℕ) → MayCarry4 k p → (f : Field) → elsewhere f ≡ false → in4 (number_of f) k ≡ has_header (rules_of.over_ipv4 k) (prerequisite_of f)
+ipv4_has : (k : Transport) (p : ℕ) → MayCarry4 k p → (f : Field) → elsewhere f ≡ false → in4 (number_of f) k ≡ has_header (rules_of.ipv4_shape k) (prerequisite_of f)
 unfolding row_of
 ipv4_has Nothing p m f = elim f as (λ f. elsewhere f ≡ false → in4 (number_of f) Nothing ≡ has_header shapes.Ipv4 (prerequisite_of f)) [ InPort ↦ λ e. absurd cc | Metadata ↦ λ e. absurd cc | VlanVid ↦ λ e. absurd cc | VlanPcp ↦ λ e. absurd cc | _ ↦ λ e. refl ]
 ipv4_has Tcp p m f = elim f as (λ f. elsewhere f ≡ false → in4 (number_of f) Tcp ≡ has_header shapes.Ipv4Tcp (prerequisite_of f)) [ InPort ↦ λ e. absurd cc | Metadata ↦ λ e. absurd cc | VlanVid ↦ λ e. absurd cc | VlanPcp ↦ λ e. absurd cc | _ ↦ λ e. refl ]
@@ -340,7 +340,7 @@ ipv4_has Udp p m f = elim f as (λ f. elsewhere f ≡ false → in4 (number_of f
 ipv4_has Icmpv4 p m f = elim f as (λ f. elsewhere f ≡ false → in4 (number_of f) Icmpv4 ≡ has_header shapes.Ipv4Icmp (prerequisite_of f)) [ InPort ↦ λ e. absurd cc | Metadata ↦ λ e. absurd cc | VlanVid ↦ λ e. absurd cc | VlanPcp ↦ λ e. absurd cc | _ ↦ λ e. refl ]
 ipv4_has Icmpv6 p m f = absurd m
 
-ipv6_has : (k : Transport) (p : ℕ) → MayCarry6 k p → (f : Field) → elsewhere f ≡ false → in6 (number_of f) k ≡ has_header (rules_of.over_ipv6 k) (prerequisite_of f)
+ipv6_has : (k : Transport) (p : ℕ) → MayCarry6 k p → (f : Field) → elsewhere f ≡ false → in6 (number_of f) k ≡ has_header (rules_of.ipv6_shape k) (prerequisite_of f)
 unfolding row_of
 ipv6_has Nothing p m f = elim f as (λ f. elsewhere f ≡ false → in6 (number_of f) Nothing ≡ has_header shapes.Ipv6 (prerequisite_of f)) [ InPort ↦ λ e. absurd cc | Metadata ↦ λ e. absurd cc | VlanVid ↦ λ e. absurd cc | VlanPcp ↦ λ e. absurd cc | _ ↦ λ e. refl ]
 ipv6_has Tcp p m f = elim f as (λ f. elsewhere f ≡ false → in6 (number_of f) Tcp ≡ has_header shapes.Ipv6Tcp (prerequisite_of f)) [ InPort ↦ λ e. absurd cc | Metadata ↦ λ e. absurd cc | VlanVid ↦ λ e. absurd cc | VlanPcp ↦ λ e. absurd cc | _ ↦ λ e. refl ]
@@ -388,16 +388,16 @@ there_or_not o false e = gone o e
 
 -- ---- type and protocol
 
-type4 : (k : Transport) → type_of (rules_of.over_ipv4 k) ≡ Some 0x0800
-type4 k = elim k as (λ k. type_of (rules_of.over_ipv4 k) ≡ Some 0x0800) [ Nothing ↦ refl | _ ↦ refl ]
+type4 : (k : Transport) → shape_type (rules_of.ipv4_shape k) ≡ Some 0x0800
+type4 k = elim k as (λ k. shape_type (rules_of.ipv4_shape k) ≡ Some 0x0800) [ Nothing ↦ refl | _ ↦ refl ]
 
-type6 : (k : Transport) → type_of (rules_of.over_ipv6 k) ≡ Some 0x86dd
-type6 k = elim k as (λ k. type_of (rules_of.over_ipv6 k) ≡ Some 0x86dd) [ Nothing ↦ refl | _ ↦ refl ]
+type6 : (k : Transport) → shape_type (rules_of.ipv6_shape k) ≡ Some 0x86dd
+type6 k = elim k as (λ k. shape_type (rules_of.ipv6_shape k) ≡ Some 0x86dd) [ Nothing ↦ refl | _ ↦ refl ]
 
 one_type : (type n : ℕ) → type ≡ n → bit_and n (ones_of EthType) ≡ n → Obeys (valued EthType (Some n)) (Some type)
 one_type type n is all = ap (λ (t : ℕ). Some (bit_and t (ones_of EthType))) is ∙ ap Some all
 
-typed : (type : ℕ) (b : Body) → IsBody type b → Obeys (valued EthType (type_of (shape_of b))) (Some type)
+typed : (type : ℕ) (b : Body) → IsBody type b → Obeys (valued EthType (shape_type (shape_of b))) (Some type)
 unfolding row_of
 typed type (Plain rest) h = ap Some (zero_bits type)
 typed type (Arp ns rest) h = one_type type 0x0806 h.0 refl
@@ -414,7 +414,7 @@ type_found : (l : Layers) → IsLayers l → look EthType (cells l) ≡ Some l.t
 unfolding row_of
 type_found l h = front_lacks 5 l h refl refl (cells_in ether_type (l.type ∷ []) ++ body_cells l.body) ∙ found_first 5 (cells_in ether_type (l.type ∷ [])) (body_cells l.body) l.type refl
 
-protocol4 : (k : Transport) (p : ℕ) → MayCarry4 k p → Obeys (of_shape (rules_of.over_ipv4 k) IpProto) (Some p)
+protocol4 : (k : Transport) (p : ℕ) → MayCarry4 k p → Obeys (of_shape (rules_of.ipv4_shape k) IpProto) (Some p)
 unfolding row_of
 protocol4 Nothing p m = ap Some (zero_bits p)
 protocol4 Tcp p m = rw m refl
@@ -422,7 +422,7 @@ protocol4 Udp p m = rw m refl
 protocol4 Icmpv4 p m = rw m refl
 protocol4 Icmpv6 p m = absurd m
 
-protocol6 : (k : Transport) (p : ℕ) → MayCarry6 k p → Obeys (of_shape (rules_of.over_ipv6 k) IpProto) (Some p)
+protocol6 : (k : Transport) (p : ℕ) → MayCarry6 k p → Obeys (of_shape (rules_of.ipv6_shape k) IpProto) (Some p)
 unfolding row_of
 protocol6 Nothing p m = ap Some (zero_bits p)
 protocol6 Tcp p m = rw m refl
@@ -440,17 +440,17 @@ unfolding row_of
 protocol_in type (Plain rest) h = look_bytes 10 rest
 protocol_in type (Arp ns rest) h = gone (look_up 10 (cells_in arp ns ++ byte_cells rest)) (some_append 10 (cells_in arp ns) (byte_cells rest) false false (some_arp ns h.1.numbers) (some_bytes 10 rest))
   where
-    some_arp : (ns : List ℕ) → Fits arp ns → is_some (look_up 10 (cells_in arp ns)) ≡ false
+    some_arp : (ns : List ℕ) → FitsItems arp ns → is_some (look_up 10 (cells_in arp ns)) ≡ false
     some_arp ns f = some_items 10 arp ns f
 protocol_in type (Ipv4 ns opts c rest) h =
-    subst (Obeys (of_shape (rules_of.over_ipv4 c.kind) IpProto)) (sym (found_first 10 (cells_in ipv4 ns) (byte_cells opts ++ (carried_cells c ++ byte_cells rest)) (get_or ns 9 0) (found ns h.1.numbers)))
+    subst (Obeys (of_shape (rules_of.ipv4_shape c.kind) IpProto)) (sym (found_first 10 (cells_in ipv4 ns) (byte_cells opts ++ (carried_cells c ++ byte_cells rest)) (get_or ns 9 0) (found ns h.1.numbers)))
     (protocol4 c.kind (get_or ns 9 0) (carried4 c (get_or ns 7 0) (get_or ns 9 0) h.1.carries))
   where
-    found : (ns : List ℕ) → Fits ipv4 ns → look_up 10 (cells_in ipv4 ns) ≡ Some (get_or ns 9 0)
+    found : (ns : List ℕ) → FitsItems ipv4 ns → look_up 10 (cells_in ipv4 ns) ≡ Some (get_or ns 9 0)
     found ns f = value_at 10 ipv4 ns 9 refl f
 protocol_in type (Ipv6 ns es c rest) h =
     let names : Names (front6 ns es) c = front_names ns es c h.1.numbers h.1.chain in
-    subst (Obeys (of_shape (rules_of.over_ipv6 c.kind) IpProto)) (sym (joined 10 names.protocol (cells_in (ipv6 (next_before es)) ns) (extension_cells es) (carried_cells c ++ byte_cells rest) names.there))
+    subst (Obeys (of_shape (rules_of.ipv6_shape c.kind) IpProto)) (sym (joined 10 names.protocol (cells_in (ipv6 (next_before es)) ns) (extension_cells es) (carried_cells c ++ byte_cells rest) names.there))
     (protocol6 c.kind names.protocol names.carried)
 
 protocol_found : (l : Layers) → IsLayers l → Obeys (of_shape (shape_of l.body) IpProto) (look IpProto (cells l))
@@ -466,7 +466,7 @@ has_shape l port metadata h f = elim f as (λ f. Obeys (of_shape (shape_of l.bod
   | Metadata ↦ ap Some (zero_bits metadata)
   | VlanVid ↦ tt
   | VlanPcp ↦ tt
-  | EthType ↦ subst (Obeys (valued EthType (type_of (shape_of l.body)))) (sym (type_found l h)) (typed l.type l.body h.body)
+  | EthType ↦ subst (Obeys (valued EthType (shape_type (shape_of l.body)))) (sym (type_found l h)) (typed l.type l.body h.body)
   | IpProto ↦ protocol_found l h
   | f ↦ there_or_not (look f (cells l)) (has_header (shape_of l.body) (prerequisite_of f)) (frame_has l h f refl)
 ]
@@ -497,7 +497,7 @@ pcp_inside (Arp ns rest) = refl
 pcp_inside (Ipv4 ns opts c rest) = carried_none 7 c.kind refl refl refl refl refl
 pcp_inside (Ipv6 ns es c rest) = carried_none 7 c.kind refl refl refl refl refl
 
-vid_fits : (t : List ℕ) → Fits inner_tag t → get_or t 3 0 < 4096
+vid_fits : (t : List ℕ) → FitsItems inner_tag t → get_or t 3 0 < 4096
 vid_fits [] f = absurd f
 vid_fits (a ∷ []) f = absurd f.1
 vid_fits (a ∷ b ∷ []) f = absurd f.1.1

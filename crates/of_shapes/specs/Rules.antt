@@ -18,33 +18,33 @@ use Rattle.of_shapes.specs.declared.shape.Rule.TheVariants.{Free, Absent, Under}
 
 -- ---- headers
 
-abbrev pub is_ipv4 : Shape → Bool
-is_ipv4 shapes.Ipv4 = true
-is_ipv4 shapes.Ipv4Tcp = true
-is_ipv4 shapes.Ipv4Udp = true
-is_ipv4 shapes.Ipv4Icmp = true
-is_ipv4 other = false
+abbrev pub is_ipv4_shape : Shape → Bool
+is_ipv4_shape shapes.Ipv4 = true
+is_ipv4_shape shapes.Ipv4Tcp = true
+is_ipv4_shape shapes.Ipv4Udp = true
+is_ipv4_shape shapes.Ipv4Icmp = true
+is_ipv4_shape other = false
 
-abbrev pub is_ipv6 : Shape → Bool
-is_ipv6 shapes.Ipv6 = true
-is_ipv6 shapes.Ipv6Tcp = true
-is_ipv6 shapes.Ipv6Udp = true
-is_ipv6 shapes.Ipv6Icmp = true
-is_ipv6 other = false
+abbrev pub is_ipv6_shape : Shape → Bool
+is_ipv6_shape shapes.Ipv6 = true
+is_ipv6_shape shapes.Ipv6Tcp = true
+is_ipv6_shape shapes.Ipv6Udp = true
+is_ipv6_shape shapes.Ipv6Icmp = true
+is_ipv6_shape other = false
 
-abbrev pub is_arp : Shape → Bool
-is_arp shapes.Arp = true
-is_arp other = false
+abbrev pub is_arp_shape : Shape → Bool
+is_arp_shape shapes.Arp = true
+is_arp_shape other = false
 
 abbrev pub is_tcp : Shape → Bool
 is_tcp shapes.Ipv4Tcp = true
 is_tcp shapes.Ipv6Tcp = true
 is_tcp other = false
 
-abbrev pub is_udp : Shape → Bool
-is_udp shapes.Ipv4Udp = true
-is_udp shapes.Ipv6Udp = true
-is_udp other = false
+abbrev pub is_udp_shape : Shape → Bool
+is_udp_shape shapes.Ipv4Udp = true
+is_udp_shape shapes.Ipv6Udp = true
+is_udp_shape other = false
 
 abbrev pub is_icmpv4 : Shape → Bool
 is_icmpv4 shapes.Ipv4Icmp = true
@@ -58,43 +58,43 @@ is_icmpv6 other = false
 abbrev pub has_header : Shape → Prerequisite → Bool
 has_header s needs.Nothing = true
 has_header s needs.Tag = false
-has_header s needs.Ip = is_ipv4 s || is_ipv6 s
-has_header s needs.Ipv4 = is_ipv4 s
-has_header s needs.Ipv6 = is_ipv6 s
-has_header s needs.Arp = is_arp s
+has_header s needs.Ip = is_ipv4_shape s || is_ipv6_shape s
+has_header s needs.Ipv4 = is_ipv4_shape s
+has_header s needs.Ipv6 = is_ipv6_shape s
+has_header s needs.Arp = is_arp_shape s
 has_header s needs.Tcp = is_tcp s
-has_header s needs.Udp = is_udp s
+has_header s needs.Udp = is_udp_shape s
 has_header s needs.Icmpv4 = is_icmpv4 s
 has_header s needs.Icmpv6 = is_icmpv6 s
 
 -- the type, where a header follows it
-abbrev pub type_of : Shape → Option ℕ
-type_of shapes.Bare = None
-type_of shapes.Arp = Some 0x0806
-type_of s = if is_ipv4 s then Some 0x0800 else Some 0x86dd
+abbrev pub shape_type : Shape → Option ℕ
+shape_type shapes.Bare = None
+shape_type shapes.Arp = Some 0x0806
+shape_type s = if is_ipv4_shape s then Some 0x0800 else Some 0x86dd
 
 -- the protocol, where a header follows it
 abbrev pub protocol_of : Shape → Option ℕ
-protocol_of s = if is_tcp s then Some 6 else if is_udp s then Some 17 else if is_icmpv4 s then Some 1 else if is_icmpv6 s then Some 58 else None
+protocol_of s = if is_tcp s then Some 6 else if is_udp_shape s then Some 17 else if is_icmpv4 s then Some 1 else if is_icmpv6 s then Some 58 else None
 
 -- that of the layers of a frame
-abbrev pub over_ipv4 : Transport → Shape
-over_ipv4 Tcp = shapes.Ipv4Tcp
-over_ipv4 Udp = shapes.Ipv4Udp
-over_ipv4 Icmpv4 = shapes.Ipv4Icmp
-over_ipv4 other = shapes.Ipv4
+abbrev pub ipv4_shape : Transport → Shape
+ipv4_shape Tcp = shapes.Ipv4Tcp
+ipv4_shape Udp = shapes.Ipv4Udp
+ipv4_shape Icmpv4 = shapes.Ipv4Icmp
+ipv4_shape other = shapes.Ipv4
 
-abbrev pub over_ipv6 : Transport → Shape
-over_ipv6 Tcp = shapes.Ipv6Tcp
-over_ipv6 Udp = shapes.Ipv6Udp
-over_ipv6 Icmpv6 = shapes.Ipv6Icmp
-over_ipv6 other = shapes.Ipv6
+abbrev pub ipv6_shape : Transport → Shape
+ipv6_shape Tcp = shapes.Ipv6Tcp
+ipv6_shape Udp = shapes.Ipv6Udp
+ipv6_shape Icmpv6 = shapes.Ipv6Icmp
+ipv6_shape other = shapes.Ipv6
 
 abbrev pub shape_of : Body → Shape
 shape_of (Plain rest) = shapes.Bare
 shape_of (Arp ns rest) = shapes.Arp
-shape_of (Ipv4 ns opts carried rest) = over_ipv4 carried.kind
-shape_of (Ipv6 ns extensions carried rest) = over_ipv6 carried.kind
+shape_of (Ipv4 ns opts carried rest) = ipv4_shape carried.kind
+shape_of (Ipv6 ns extensions carried rest) = ipv6_shape carried.kind
 
 abbrev pub tagging_of : List (List ℕ) → Tagging
 tagging_of [] = Untagged
@@ -115,7 +115,7 @@ valued f (Some v) = Under (ones_of f) v
 abbrev pub of_shape : Shape → Field → Rule
 of_shape s VlanVid = Free
 of_shape s VlanPcp = Free
-of_shape s EthType = valued EthType (type_of s)
+of_shape s EthType = valued EthType (shape_type s)
 of_shape s IpProto = if has_header s needs.Ip then valued IpProto (protocol_of s) else Absent
 of_shape s f = if has_header s (prerequisite_of f) then Under 0 0 else Absent
 

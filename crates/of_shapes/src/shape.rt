@@ -1,6 +1,6 @@
 //! Which headers a frame has, and what this says about its fields.
 ghost use Rattle.std.specs.Prelude.{◌≡◌};
-ghost use Rattle.of_shapes.specs.Rules.{has_header, is_arp as has_arp, is_icmpv4 as has_icmpv4, is_icmpv6 as has_icmpv6, is_ipv4 as has_ipv4, is_ipv6 as has_ipv6, is_tcp as has_tcp, is_udp as has_udp, of_shape, of_tagging, protocol_of, type_of, valued as valued_at};
+ghost use Rattle.of_shapes.specs.Rules.{has_header, is_arp_shape as has_arp, is_icmpv4 as has_icmpv4, is_icmpv6 as has_icmpv6, is_ipv4_shape as has_ipv4, is_ipv6_shape as has_ipv6, is_tcp as has_tcp, is_udp_shape as has_udp, of_shape, of_tagging, protocol_of, shape_type, valued as valued_at};
 
 use of_headers::Field;
 use of_layers::Prerequisite;
@@ -82,7 +82,7 @@ impl Shape {
 
     // The type, if a header follows it.
     fn ethernet(self) -> Option<u128>
-        ensures { result ≡ type_of self }
+        ensures { result ≡ shape_type self }
     {
         match self {
             Shape::Bare => None,

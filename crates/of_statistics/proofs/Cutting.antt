@@ -6,7 +6,7 @@ use Rattle.std.proofs.lemmas.List.{append_assoc, append-nil, map-append, take_mo
 use Rattle.std.proofs.lemmas.List.Folds.{concat-append}
 use Rattle.std.proofs.lemmas.List.Elements.{recursion_from_All, All-from_recursion}
 use Rattle.std.proofs.lemmas.Bool.Decides.{nat_tests}
-use Rattle.of_statistics.specs.Replies.{Draft, IsFull, AreReplies, AreWithin, reply, more, most, blank, filled, with_row, with_rows, closed, replies, rows_in}
+use Rattle.of_statistics.specs.Replies.{Draft, IsFull, AreReplies, AreWithin, reply, more, most, empty_draft, filled, with_row, with_rows, closed, replies, rows_in}
 
 -- one row after the other
 pub rows_more : (d : Draft) (xs ys : List (List ℕ)) → with_rows d (xs ++ ys) ≡ with_rows (with_rows d xs) ys
@@ -66,7 +66,7 @@ joined_rows d (x ∷ rows) = joined_rows (with_row d x) rows ∙ ap (λ (t : Lis
 
 pub joined : (xid kind : ℕ) (rows : List (List ℕ)) → rows_in (replies xid kind rows) ≡ concat rows
 unfolding reply
-joined xid kind rows = joined_rows (blank xid kind) rows
+joined xid kind rows = joined_rows (empty_draft xid kind) rows
 
 -- ---- cut
 
@@ -109,7 +109,7 @@ behind (x ∷ rows) d front is = by_test d front x rows (behind rows) is (nat_le
 
 pub cut : (xid kind : ℕ) (rows : List (List ℕ)) → AreReplies xid kind rows (replies xid kind rows)
 cut xid kind rows =
-    let all = behind rows (blank xid kind) [] refl in
+    let all = behind rows (empty_draft xid kind) [] refl in
     subst (λ (ms : List (List ℕ)). AreReplies xid kind rows ms) (sym all.1) all.2
 
 -- ---- each fits
@@ -136,4 +136,4 @@ all_fit (x ∷ rows) d short full le = fit_by (nat_le (length d.rows + length x)
     fit_by false e others = others (record d { full = d.full ++ filled d ∷ []; rows = x }) (one_fits_more d.full (filled d) full (reply_fits d.xid d.kind more d.rows le)) short.0
 
 pub fit : (xid kind : ℕ) (rows : List (List ℕ)) → AreWithin most rows → AreWithin 65535 (replies xid kind rows)
-fit xid kind rows short = All-from_recursion (λ bytes. length bytes ≤ 65535) (replies xid kind rows) (all_fit rows (blank xid kind) (recursion_from_All (λ bytes. length bytes ≤ most) rows short) tt (omega arith))
+fit xid kind rows short = All-from_recursion (λ bytes. length bytes ≤ 65535) (replies xid kind rows) (all_fit rows (empty_draft xid kind) (recursion_from_All (λ bytes. length bytes ≤ most) rows short) tt (omega arith))

@@ -5,7 +5,7 @@ use Rattle.std.proofs.lemmas.List.{length-drop, drop-append-le, take-append-le, 
 use Rattle.std.proofs.lemmas.Bool.Decides.{nat_tests}
 use Rattle.of_formats.specs.Structs.{written}
 use Rattle.of_formats.specs.Tables as tables
-use Rattle.of_messages.specs.Written.{header, IsMessage}
+use Rattle.of_messages.specs.Written.{message_header, IsMessage}
 use Rattle.of_messages.proofs.Lengths.{is_message}
 use Rattle.of_statistics.specs.Replies.{head_bytes, reply, more, most, with_row}
 
@@ -18,7 +18,7 @@ unfolding head_bytes reply
 head_is xid kind flags body =
     let behind = written tables.multipart (kind ∷ flags ∷ []) ++ body in
     let total : 16 + length body ≡ 8 + length behind = omega arith in
-    ap (λ (n : ℕ). header 19 n xid ++ behind) total
+    ap (λ (n : ℕ). message_header 19 n xid ++ behind) total
 
 pub sealed_is : (xid kind flags size : ℕ) (bytes head whole : List ℕ) → head ≡ head_bytes size xid kind flags → size ≡ length bytes → 16 ≤ length bytes → whole ≡ head ++ drop (length head) bytes → whole ≡ reply xid kind flags (drop 16 bytes)
 sealed_is xid kind flags size bytes head whole is size_is le whole_is =

@@ -7,27 +7,27 @@ use Rattle.std.proofs.lemmas.List.{length-append, length-replicate}
 use Rattle.of_table.specs.Table.{Table}
 use Rattle.of_ports.specs.declared.port.Port.{Port}
 use Rattle.of_ports.specs.Ports.{port_at}
-use Rattle.of_statistics.specs.Descriptions.{padded, description}
+use Rattle.of_statistics.specs.Descriptions.{padded_text, description}
 use Rattle.of_statistics.specs.declared.aggregate.Totals.{Totals}
 use Rattle.of_statistics.specs.Flows.{aggregate, from_tables, table_row}
-use Rattle.of_statistics.specs.Groups.{group_features}
+use Rattle.of_statistics.specs.Groups.{group_features_body}
 use Rattle.of_statistics.specs.Ports.{asked_ports, port_row}
 
 -- a body after a head fits a message
 pub room : (head body out : List ℕ) → head ≡ replicate 16 0 → out ≡ head ++ body → length body ≤ 65519 → length out ≤ 65535
 room head body out head_is is le = omega (arith, le, ap length is, ap length head_is, length-append head body)
 
-length_padded : (size : ℕ) (text : List ℕ) → length text ≤ size → length (padded size text) ≡ size
+length_padded : (size : ℕ) (text : List ℕ) → length text ≤ size → length (padded_text size text) ≡ size
 length_padded size text le = omega (arith, le, length-append text (replicate (size - length text) 0), length-replicate {A = ℕ} (size - length text) 0)
 
 pub length_description : length description ≡ 1056
 unfolding description
 length_description =
     let name = codes "ofswitch" in
-    let a = padded 256 name in
-    let b = padded 256 (codes "software") in
-    let c = padded 256 (codes "1") in
-    let d = padded 32 (codes "0") in
+    let a = padded_text 256 name in
+    let b = padded_text 256 (codes "software") in
+    let c = padded_text 256 (codes "1") in
+    let d = padded_text 32 (codes "0") in
     omega (
       arith,
       length_padded 256 name (omega arith),
@@ -40,8 +40,8 @@ length_description =
       length-append d a,
     )
 
-pub length_features : length group_features ≡ 40
-unfolding group_features
+pub length_features : length group_features_body ≡ 40
+unfolding group_features_body
 length_features = refl
 
 length_stats : (now : ℕ) (p : Port) → length (port_row now p) ≡ 112

@@ -12,14 +12,14 @@ use Rattle.of_table.specs.Entries.{entry_of, flows_of}
 use Rattle.of_table.specs.Tables.{Tables, is_in}
 use Rattle.of_table.specs.Selecting.{selects}
 use Rattle.of_statistics.specs.declared.aggregate.Totals.{Totals}
-use Rattle.of_statistics.specs.Flows.{Listed, asked, from_tables, listed_in, totals}
-use Rattle.of_statistics.specs.Adding.{nothing, plus, plus_all, plus_asked, asked_of}
+use Rattle.of_statistics.specs.Flows.{EntryInTable, asked, from_tables, listed_in, totals}
+use Rattle.of_statistics.specs.Adding.{nothing, plus_entry, plus_all, plus_asked, asked_of}
 use Rattle.of_statistics.proofs.Walks.{from_more}
 
 plus_more : (t : Totals) (es fs : List FlowEntry) → plus_all t (es ++ fs) ≡ plus_all (plus_all t es) fs
 unfolding plus_all
 plus_more t [] fs = refl
-plus_more t (e ∷ es) fs = plus_more (plus t e) es fs
+plus_more t (e ∷ es) fs = plus_more (plus_entry t e) es fs
 
 pub plus_none : (t : Totals) → plus_all t [] ≡ t
 unfolding plus_all
@@ -31,7 +31,7 @@ plus_first : (w : Selector) (t : Totals) (e : FlowEntry) (es : List FlowEntry) �
 unfolding plus_all
 plus_first w t e es = by_test (selects w e)
   where
-    by_test : (b : Bool) → plus_all t (cond b (e ∷ filter (selects w) es) (filter (selects w) es)) ≡ plus_all (cond b (plus t e) t) (filter (selects w) es)
+    by_test : (b : Bool) → plus_all t (cond b (e ∷ filter (selects w) es) (filter (selects w) es)) ≡ plus_all (cond b (plus_entry t e) t) (filter (selects w) es)
     by_test true = refl
     by_test false = refl
 
@@ -52,14 +52,14 @@ table_added w k ts before after lt was is =
 
 -- ---- all of them
 
-entries_of_listed : (k : ℕ) (es : List FlowEntry) → es ≡ map (λ l. l.entry) (map (λ e. let l : Listed = record { table = k; entry = e } in l) es)
+entries_of_listed : (k : ℕ) (es : List FlowEntry) → es ≡ map (λ l. l.entry) (map (λ e. let l : EntryInTable = record { table = k; entry = e } in l) es)
 entries_of_listed k [] = refl
 entries_of_listed k (e ∷ es) = ap (λ (fs : List FlowEntry). e ∷ fs) (entries_of_listed k es)
 
 one_table : (w : Selector) (k : ℕ) (t : Table) → asked_of w k t ≡ map (λ l. l.entry) (listed_in w k t)
 one_table w k t = by_test (is_in w.table k)
   where
-    by_test : (b : Bool) → cond b (filter (selects w) t.flows) [] ≡ map (λ l. l.entry) (cond b (map (λ e. let l : Listed = record { table = k; entry = e } in l) (filter (selects w) t.flows)) [])
+    by_test : (b : Bool) → cond b (filter (selects w) t.flows) [] ≡ map (λ l. l.entry) (cond b (map (λ e. let l : EntryInTable = record { table = k; entry = e } in l) (filter (selects w) t.flows)) [])
     by_test true = entries_of_listed k (filter (selects w) t.flows)
     by_test false = refl
 

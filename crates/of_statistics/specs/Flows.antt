@@ -21,15 +21,15 @@ from_tables f k (t ∷ ts) = f k t ++ from_tables f (suc k) ts
 -- ---- the entries that a request asks for: those that a DELETE would select, by table and then by age
 
 -- an entry, and the number of its table
-pub record Listed : Type 0 where
+pub record EntryInTable : Type 0 where
   pub table : ℕ
   pub entry : FlowEntry
 
-abbrev pub listed_in : Selector → ℕ → Table → List Listed
+abbrev pub listed_in : Selector → ℕ → Table → List EntryInTable
 listed_in w k t = if is_in w.table k then map (λ e. record { table = k; entry = e }) (filter (selects w) t.flows) else []
 
-abbrev pub listed : Selector → Tables → List Listed
-listed w ts = from_tables (listed_in w) 0 ts.tables
+abbrev pub entries_with_tables : Selector → Tables → List EntryInTable
+entries_with_tables w ts = from_tables (listed_in w) 0 ts.tables
 
 -- ---- FLOW
 
@@ -37,7 +37,7 @@ listed w ts = from_tables (listed_in w) 0 ts.tables
 abbrev pub flow_row_size : FlowEntry → ℕ
 flow_row_size e = size tables.flow_stats + length (canonical e.flow.fields) + length (canonical_instructions e.flow.instructions)
 
-unfoldable pub flow_row : ℕ → Listed → List ℕ
+unfoldable pub flow_row : ℕ → EntryInTable → List ℕ
 flow_row now l =
     written tables.flow_stats
     (flow_row_size l.entry ∷ l.table ∷ seconds now l.entry.created ∷ nanoseconds_since now l.entry.created ∷ l.entry.flow.priority
@@ -54,8 +54,8 @@ flow_times now e =
 unfoldable pub flow_counts : FlowEntry → List ℕ
 flow_counts e = written (drop 10 tables.flow_stats) (e.flow.cookie ∷ e.packets ∷ e.bytes ∷ [])
 
-abbrev pub flow_rows : Selector → Tables → List (List ℕ)
-flow_rows w ts = map (flow_row ts.latest) (listed w ts)
+abbrev pub flow_statistics_rows : Selector → Tables → List (List ℕ)
+flow_statistics_rows w ts = map (flow_row ts.latest) (entries_with_tables w ts)
 
 -- those of one entry of a table, and of several
 abbrev pub rows_of_one : ℕ → Selector → ℕ → FlowEntry → List (List ℕ)
@@ -65,12 +65,12 @@ abbrev pub rows_of_entries : ℕ → Selector → ℕ → List FlowEntry → Lis
 rows_of_entries now w k flows = map (flow_row now) (map (λ e. record { table = k; entry = e }) (filter (selects w) flows))
 
 abbrev pub flow_bytes : ℕ → Selector → Tables → List (List ℕ)
-flow_bytes xid w ts = replies xid 1 (flow_rows w ts)
+flow_bytes xid w ts = replies xid 1 (flow_statistics_rows w ts)
 
 -- ---- AGGREGATE
 
 abbrev pub asked : Selector → Tables → List FlowEntry
-asked w ts = map (λ l. l.entry) (listed w ts)
+asked w ts = map (λ l. l.entry) (entries_with_tables w ts)
 
 -- the sums of the counters of entries, which wrap, and how many entries there are
 abbrev pub totals : List FlowEntry → Totals

@@ -52,11 +52,11 @@ group_fixed_part count g = written (take 7 structs.group_stats) (group_row_size 
 abbrev pub row_among : List Group → Tables → Group → List ℕ
 row_among groups ts g = group_row ts.latest (references g.id groups ts) g
 
-abbrev pub group_rows : Option ℕ → List Group → Tables → List (List ℕ)
-group_rows which groups ts = map (row_among groups ts) (asked_groups which groups)
+abbrev pub group_statistics_rows : Option ℕ → List Group → Tables → List (List ℕ)
+group_statistics_rows which groups ts = map (row_among groups ts) (asked_groups which groups)
 
 abbrev pub group_bytes : ℕ → Option ℕ → List Group → Tables → List (List ℕ)
-group_bytes xid which groups ts = replies xid 6 (group_rows which groups ts)
+group_bytes xid which groups ts = replies xid 6 (group_statistics_rows which groups ts)
 
 -- ---- GROUP_DESC
 
@@ -86,9 +86,9 @@ abbrev pub group_actions : ℕ
 group_actions = fold with_bit 0 ACTIONS
 
 -- of ALL, SELECT, INDIRECT and FAST-FAILOVER: how many groups there can be, and which actions; there is no SELECT
-unfoldable pub group_features : List ℕ
-group_features =
+unfoldable pub group_features_body : List ℕ
+group_features_body =
     written structs.group_features (kinds_of_groups ∷ group_capabilities ∷ 256 ∷ 0 ∷ 256 ∷ 256 ∷ group_actions ∷ 0 ∷ group_actions ∷ group_actions ∷ [])
 
 abbrev pub group_features_bytes : ℕ → List ℕ
-group_features_bytes xid = reply xid 8 0 group_features
+group_features_bytes xid = reply xid 8 0 group_features_body

@@ -4,7 +4,7 @@ use Rattle.std.specs.List.{All, concat, flat_map}
 use Rattle.of_formats.specs.Structs.{written}
 use Rattle.of_formats.specs.declared.messages.TheConstants.{MULTIPART_REPLY}
 use Rattle.of_formats.specs.Tables as tables
-use Rattle.of_messages.specs.Written.{header, message}
+use Rattle.of_messages.specs.Written.{message_header, message}
 
 -- the type of the request, flags, and the body
 unfoldable pub reply : ℕ → ℕ → ℕ → List ℕ → List ℕ
@@ -12,7 +12,7 @@ reply xid kind flags body = message MULTIPART_REPLY xid (written tables.multipar
 
 -- for contracts inside this crate: the 16 bytes before the body
 unfoldable pub head_bytes : ℕ → ℕ → ℕ → ℕ → List ℕ
-head_bytes size xid kind flags = header MULTIPART_REPLY size xid ++ written tables.multipart (kind ∷ flags ∷ [])
+head_bytes size xid kind flags = message_header MULTIPART_REPLY size xid ++ written tables.multipart (kind ∷ flags ∷ [])
 
 -- OFPMPF_REPLY_MORE: more replies follow
 abbrev pub more : ℕ
@@ -29,8 +29,8 @@ pub record Draft : Type 0 where
   pub full : List (List ℕ)
   pub rows : List ℕ
 
-abbrev pub blank : ℕ → ℕ → Draft
-blank xid kind = record { xid = xid; kind = kind; full = []; rows = [] }
+abbrev pub empty_draft : ℕ → ℕ → Draft
+empty_draft xid kind = record { xid = xid; kind = kind; full = []; rows = [] }
 
 abbrev pub filled : Draft → List ℕ
 filled d = reply d.xid d.kind more d.rows
@@ -52,7 +52,7 @@ closed d = d.full ++ reply d.xid d.kind 0 d.rows ∷ []
 
 -- THE REPLIES OF ROWS: no rows give one reply without rows
 abbrev pub replies : ℕ → ℕ → List (List ℕ) → List (List ℕ)
-replies xid kind rows = closed (with_rows (blank xid kind) rows)
+replies xid kind rows = closed (with_rows (empty_draft xid kind) rows)
 
 -- ---- what that means
 

@@ -1,6 +1,6 @@
 //! DESC (OpenFlow 1.3.5, 7.3.5.1).
 ghost use Rattle.std.specs.Prelude.{◌≡◌, ◌≤◌, ◌++◌, length, OnOk, IfOk};
-ghost use Rattle.of_statistics.specs.Descriptions.{description, description_bytes, padded};
+ghost use Rattle.of_statistics.specs.Descriptions.{description, description_bytes, padded_text};
 
 use crate::replies::{begun, sealed};
 use of_messages::MessageBytes;
@@ -13,7 +13,7 @@ const DESC: u16 = 0;
 fn put_padded(out: &mut Vec<u8>, text: &[u8], size: usize) -> Result<(), AllocError>
     requires short { length text.now ≤ size }
     requires fits { size ≤ 256 }
-    ensures { OnOk result (out.new.items ≡ out.old.items ++ padded size text.now) }
+    ensures { OnOk result (out.new.items ≡ out.old.items ++ padded_text size text.now) }
 {
     out.extend_from_slice(text)?;
     let zeros = [0; 256];

@@ -3,7 +3,7 @@ ghost use Rattle.std.specs.Prelude.{◌≡◌, ◌<◌, ◌≤◌, ◌+◌, ◌*
 ghost use Rattle.std.specs.List.{flat_map};
 ghost use Rattle.of_table.specs.Tables.{tables_of};
 ghost use Rattle.of_statistics.specs.Replies.{with_row, with_rows};
-ghost use Rattle.of_statistics.specs.Groups.{bucket_row, group_actions, group_bytes, group_description, group_description_bytes, group_features, group_features_bytes, group_fixed_part, group_row, group_rows, row_among, with_bit};
+ghost use Rattle.of_statistics.specs.Groups.{bucket_row, group_actions, group_bytes, group_description, group_description_bytes, group_features_body, group_features_bytes, group_fixed_part, group_row, group_statistics_rows, row_among, with_bit};
 
 use crate::references::references;
 use crate::replies::{Replies, begun, sealed};
@@ -114,7 +114,7 @@ fn put_asked<L: Lookup>(
     tables: &FlowTables<L>,
     which: Option<u32>,
 ) -> Result<(), AllocError>
-    ensures { OnOk result (out.new ≡ with_rows out.old (group_rows which groups.now (tables_of tables.now))) }
+    ensures { OnOk result (out.new ≡ with_rows out.old (group_statistics_rows which groups.now (tables_of tables.now))) }
 {
     let Some(id) = which else {
         return put_groups(out, alloc, groups, tables);
@@ -191,9 +191,9 @@ fn action_bits() -> u32
     ACTIONS.iter().fold(0, |bits, row| with_type(bits, *row))
 }
 
-#[tactic(auto, unfolding(crate::specs::Groups::group_features))]
+#[tactic(auto, unfolding(crate::specs::Groups::group_features_body))]
 fn put_features(out: &mut Vec<u8>) -> Result<(), AllocError>
-    ensures { OnOk result (out.new.items ≡ out.old.items ++ group_features) }
+    ensures { OnOk result (out.new.items ≡ out.old.items ++ group_features_body) }
 {
     let actions = action_bits();
     out.extend_from_slice(&FEATURES)?;

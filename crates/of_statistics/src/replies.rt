@@ -1,6 +1,6 @@
 //! Replies to multipart requests, and rows that are packed into them.
 ghost use Rattle.std.specs.Prelude.{◌≡◌, ◌≤◌, ◌++◌, drop, length, replicate, OnOk, IfOk};
-ghost use Rattle.of_statistics.specs.Replies.{blank, closed, head_bytes, reply, with_row};
+ghost use Rattle.of_statistics.specs.Replies.{empty_draft, closed, head_bytes, reply, with_row};
 
 use byteorder::{BigEndian, ByteOrder};
 use of_formats::messages::MULTIPART_REPLY;
@@ -87,7 +87,7 @@ impl Model for Replies {
 impl Replies {
     /// Without rows.
     pub(crate) fn new(alloc: Global, xid: u32, kind: u16) -> Result<Replies, AllocError>
-        ensures { IfOk result (λ r. r ≡ blank xid kind) }
+        ensures { IfOk result (λ r. r ≡ empty_draft xid kind) }
     {
         Ok(Replies {
             alloc,

@@ -8,7 +8,7 @@ use Rattle.of_session.proofs.Nexts.{IsSizedIn, next_sized}
 use Rattle.of_datapath.specs.declared.effect.Effect.{Effect}
 use Rattle.of_switch.specs.State.{State}
 use Rattle.of_switch.specs.Steps.{Outcome, gives, coming, next_by, next_of}
-use Rattle.of_switch.specs.Runs.{behind, then_more, drain, drained}
+use Rattle.of_switch.specs.Runs.{behind_effects, then_more, drain, drained}
 
 -- as many bytes as an outcome leaves
 abbrev left : Outcome → ℕ
@@ -41,7 +41,7 @@ next_shorter s o h = shorter_by (coming s) s o (next_sized s.core.control.role s
 pub record Left (first s : State) (effects : List Effect) : Type 0 where
   pub turns : ℕ
   pub enough : length s.connection.pending < turns
-  pub told : drained first ≡ behind effects (drain turns s)
+  pub told : drained first ≡ behind_effects effects (drain turns s)
 
 pub left_none : (s : State) → Left s s []
 left_none s = record { turns = length s.connection.pending + 1; enough = omega arith; told = refl }
@@ -50,7 +50,7 @@ pub left_more : (first s : State) (effects : List Effect) (o : Outcome) → next
 unfolding drain
 left_more first s effects o h left = by_turns left.turns left.enough left.told
   where
-    by_turns : (n : ℕ) → length s.connection.pending < n → drained first ≡ behind effects (drain n s) → Left first o.state (effects ++ o.effects)
+    by_turns : (n : ℕ) → length s.connection.pending < n → drained first ≡ behind_effects effects (drain n s) → Left first o.state (effects ++ o.effects)
     by_turns zero lt told = absurd (omega arith)
     by_turns (suc n) lt told =
         let short = next_shorter s o h in
@@ -64,7 +64,7 @@ pub left_all : (first s : State) (effects : List Effect) → next_of s ≡ None 
 unfolding drain
 left_all first s effects h left = by_turns left.turns left.enough left.told
   where
-    by_turns : (n : ℕ) → length s.connection.pending < n → drained first ≡ behind effects (drain n s) → drained first ≡ gives effects s
+    by_turns : (n : ℕ) → length s.connection.pending < n → drained first ≡ behind_effects effects (drain n s) → drained first ≡ gives effects s
     by_turns zero lt told = absurd (omega arith)
     by_turns (suc n) lt told = told ∙ (rw h (ap (λ es. gives es s) (append-nil effects)))
 

@@ -9,7 +9,7 @@ use Rattle.of_switch.specs.declared.switch_error.SwitchError.{SwitchError}
 use Rattle.of_switch.specs.State.{State}
 use Rattle.of_switch.specs.Steps.{Outcome, gives, fed}
 use Rattle.of_switch.specs.Calls.{feed_refusal}
-use Rattle.of_switch.specs.Runs.{behind, drained, chunk_in, Report, Gives, IsRefused, Happened, happened, unless, run, effects_in, AllGive, IsBrokenOff, IsInterrupted, StopsWithin, RunsAll, rest_of}
+use Rattle.of_switch.specs.Runs.{behind_effects, drained, chunk_in, Report, Gives, IsRefused, Happened, happened, unless_refusal, run, effects_in, AllGive, IsBrokenOff, IsInterrupted, StopsWithin, RunsAll, rest_of}
 use Rattle.of_switch.proofs.Joining.{drained_gone}
 
 effects_in-append : (xs ys : List Report) → effects_in (xs ++ ys) ≡ effects_in xs ++ effects_in ys
@@ -59,7 +59,7 @@ empty_chunk t = by (is_disconnected t.connection.phase) refl
 
 -- a chunk that is not refused
 chunk_happens : (bytes : List ℕ) (s : State) (o : Outcome) → feed_refusal s ≡ None → chunk_in bytes s ≡ o → happened (Chunk bytes) s ≡ record { report = Gives o.effects; state = o.state }
-chunk_happens bytes s o taken is = ap (λ (r : Option SwitchError). unless r s (chunk_in bytes s)) taken ∙ ap (λ (x : Outcome). record { report = Gives x.effects; state = x.state }) is
+chunk_happens bytes s o taken is = ap (λ (r : Option SwitchError). unless_refusal r s (chunk_in bytes s)) taken ∙ ap (λ (x : Outcome). record { report = Gives x.effects; state = x.state }) is
 
 -- GOING ON
 
@@ -69,7 +69,7 @@ Whole event s u reports = (u ≡ (run (event ∷ []) s).state) × (effects_in re
 broken_whole : (event : Event) (s t u : State) (more last : List Report) → IsBrokenOff event s t more → RunsAll (Chunk [] ∷ []) t u [] last → Whole event s u (more ++ last)
 broken_whole event s t u more last b ran =
     let on = empty_chunk t in
-    let o = behind (effects_in more) (drained t) in
+    let o = behind_effects (effects_in more) (drained t) in
     let here : happened event s ≡ record { report = Gives o.effects; state = o.state } = ap (λ (e : Event). happened e s) b.chunk ∙ chunk_happens b.bytes s o b.taken b.left in
     let last_is : effects_in last ≡ (drained t).effects = ap effects_in ran.reports_are ∙ on.1 in
     let given : effects_in (more ++ last) ≡ o.effects = effects_in-append more last ∙ ap (λ (es : List Effect). effects_in more ++ es) last_is in (
@@ -103,10 +103,10 @@ broken_again event s t u more last b (inl none) =
     (subst (λ (rs : List Report). IsBrokenOff event s t rs) (sym (append-nil more)) b))
 broken_again event s t u more last b (inr d) =
     let nothing : d.bytes ≡ [] = let is = d.chunk in cc in
-    let rest : drained t ≡ behind (effects_in last) (drained u) = sym (ap drained (nothing_fed t)) ∙ (ap (λ (bytes : List ℕ). chunk_in bytes t) (sym nothing) ∙ d.left) in
-    let two : behind (effects_in more) (behind (effects_in last) (drained u)) ≡ behind (effects_in (more ++ last)) (drained u) =
+    let rest : drained t ≡ behind_effects (effects_in last) (drained u) = sym (ap drained (nothing_fed t)) ∙ (ap (λ (bytes : List ℕ). chunk_in bytes t) (sym nothing) ∙ d.left) in
+    let two : behind_effects (effects_in more) (behind_effects (effects_in last) (drained u)) ≡ behind_effects (effects_in (more ++ last)) (drained u) =
     ap (λ (es : List Effect). gives es (drained u).state) (sym (append_assoc (effects_in more) (effects_in last) (drained u).effects))
-    ∙ ap (λ (es : List Effect). behind es (drained u)) (sym (effects_in-append more last)) in
+    ∙ ap (λ (es : List Effect). behind_effects es (drained u)) (sym (effects_in-append more last)) in
     let long = length-append more last in
     let some = b.reported.0 in
     record {
@@ -114,7 +114,7 @@ broken_again event s t u more last b (inr d) =
       chunk = b.chunk;
       taken = b.taken;
       reported = (omega (arith, long, some), all_give_both more last b.reported.1 d.reported.1);
-      left = b.left ∙ (ap (behind (effects_in more)) rest ∙ two);
+      left = b.left ∙ (ap (behind_effects (effects_in more)) rest ∙ two);
     }
 
 pub again : (event : Event) (s t u : State) (more last : List Report) → StopsWithin (event ∷ []) s t [] more → StopsWithin (rest_of event more ∷ []) t u [] last → StopsWithin (event ∷ []) s u [] (more ++ last)

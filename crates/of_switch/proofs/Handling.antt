@@ -6,7 +6,7 @@ use Rattle.of_messages.specs.declared.message.Message.{Message}
 use Rattle.of_messages.specs.Written.{error_bytes}
 use Rattle.of_session.specs.declared.session.Next.{Next}
 use Rattle.of_session.specs.declared.session.Next.TheVariants.{Nothing, BadStream, NotHello, Opened, Read, Refused}
-use Rattle.of_session.specs.Session.{taken}
+use Rattle.of_session.specs.Session.{message_taken}
 use Rattle.of_datapath.specs.declared.effect.Effect.{Effect}
 use Rattle.of_datapath.specs.declared.effect.Effect.TheVariants.{Answer}
 use Rattle.of_switch.specs.State.{Core, State}
@@ -24,7 +24,7 @@ handled_refused xid m failed k code h = handled_by xid m failed k (Some code) h
 
 -- the ERROR is all that a refused message does
 abbrev Answers : Next → State → ℕ → ℕ → Code → Type 0
-Answers n s xid size code = next_by n s ≡ Some (gives (Answer (error_bytes xid code (failed_of size s.connection)) ∷ []) (record s { connection = taken size s.connection }))
+Answers n s xid size code = next_by n s ≡ Some (gives (Answer (error_bytes xid code (failed_of size s.connection)) ∷ []) (record s { connection = message_taken size s.connection }))
 
 refused_by : (n : Next) (s : State) (xid size : ℕ) (code : Code) → IsRefusedWith n s.core xid size code → Answers n s xid size code
 refused_by Nothing s xid size code h = absurd h

@@ -18,25 +18,25 @@ use Rattle.of_table.specs.Copied.{NumberedCopy, swapped_in}
 use Rattle.of_table.specs.Entries.{table_of}
 use Rattle.of_table.specs.declared.flow.Flow.{Flow}
 use Rattle.of_table.specs.declared.table_fault.TableFault.TheVariants.{BadTable, Overlap, Full}
-use Rattle.of_table.specs.Table.{Table, add_fault, added, is_full, is_overlapped}
+use Rattle.of_table.specs.Table.{Table, add_flow_fault, added, is_full, is_overlapped}
 use Rattle.of_table.specs.Tables.{NumberedTables, Tables, table_at, tables_fault, tables_of, with_table}
 use Rattle.of_table.proofs.CopiedLemmas.{restored, restored_modified}
 use Rattle.of_datapath.specs.declared.control.AsyncConfig.{AsyncConfig}
 use Rattle.of_datapath.specs.declared.control.Control.{Control}
 use Rattle.of_datapath.specs.declared.effect.Effect.{Effect}
 use Rattle.of_datapath.specs.Control.{heard_of}
-use Rattle.of_datapath.specs.Commands.{commanded, commanded_by, flow_of, frame_of, has_flag, is_to_absent_group, packet_out_refusals, selector_of, unless_any, without_packet}
+use Rattle.of_datapath.specs.Commands.{commanded, commanded_by, flow_of, packet_out_frame, has_flag, is_to_absent_group, packet_out_refusals, selector_of, unless_any, without_packet}
 use Rattle.of_datapath.specs.Applying.{without_used}
 use Rattle.of_datapath.specs.Numbers.{without_numbers}
 use Rattle.of_datapath.specs.Datapath.{Forwarded, Forwarding, through, without_held}
 use Rattle.of_switch.specs.State.{Core}
-use Rattle.of_switch.specs.Steps.{Done, after_command, after_packet_out, begun, does, forwarded, with_tables}
+use Rattle.of_switch.specs.Steps.{Done, after_command, after_packet_out, held_frame_begun, does, forwarded, with_tables}
 
 -- a held frame begins
 pub begun_is : (id : ℕ) (k : Core) (h : Held) (found : Option Held) (heard : AsyncConfig) (bytes : List ℕ) (ingress : ℕ) (d : Forwarded) (effects : List Effect) (f : Forwarding)
     → found ≡ Some h → heard ≡ heard_of k.control → bytes ≡ h.frame → ingress ≡ h.ingress
     → through heard (entering bytes ingress) (Lookup 0 ∷ []) (without_held id k.forwarding) ≡ d → effects ≡ d.effects → f ≡ d.forwarding
-    → begun id found k ≡ does effects (record k { forwarding = f })
+    → held_frame_begun id found k ≡ does effects (record k { forwarding = f })
 begun_is id k h found heard bytes ingress d effects f there hears whole port runs es fs =
     let run : through (heard_of k.control) (entering h.frame h.ingress) (Lookup 0 ∷ []) (without_held id k.forwarding) ≡ d =
     ap (λ (a : AsyncConfig). through a (entering h.frame h.ingress) (Lookup 0 ∷ []) (without_held id k.forwarding)) (sym hears)
@@ -55,7 +55,7 @@ named m c low table = let other : (m.table == 255) ≡ false = grind (arith, nat
 pub no_bad_table : (k : ℕ) (flow : Flow) (ts : Tables) → k < 16 → Some BadTable ≡ tables_fault k flow ts → ⊥
 no_bad_table k flow ts low e =
     let inside : nat_le 16 k ≡ false = grind (arith, nat_tests) in
-    let other : Some BadTable ≡ add_fault flow (table_at k ts).flows = rw inside at e in
+    let other : Some BadTable ≡ add_flow_fault flow (table_at k ts).flows = rw inside at e in
     by_tests (is_overlapped flow (table_at k ts).flows) (is_full flow (table_at k ts).flows) other
   where
     by_tests : (b c : Bool) → Some BadTable ≡ cond b (Some Overlap) (cond c (Some Full) None) → ⊥
@@ -93,7 +93,7 @@ taken_back m c k k' effects dpid control before after swapped gs ps b here put l
 
 -- the packet of a PACKET_OUT is sent
 pub out_is : (m : PacketOut) (k : Core) (id : Option ℕ) (frame bytes : List ℕ) (heard : AsyncConfig) (actions : List Action) (d : Forwarded) (effects : List Effect) (f : Forwarding)
-    → without_used id k.forwarding.held ≡ without_packet m.packet k.forwarding.held → frame_of m.packet k.forwarding.held ≡ Some frame → heard ≡ heard_of k.control → bytes ≡ frame → actions ≡ m.actions
+    → without_used id k.forwarding.held ≡ without_packet m.packet k.forwarding.held → packet_out_frame m.packet k.forwarding.held ≡ Some frame → heard ≡ heard_of k.control → bytes ≡ frame → actions ≡ m.actions
     → false ≡ list_any (is_to_absent_group k.forwarding.groups) actions
     → through heard (entering bytes m.in_port) (acts actions) (record k.forwarding { held = without_used id k.forwarding.held }) ≡ d → effects ≡ d.effects → f ≡ d.forwarding
     → (first_of (packet_out_refusals m k.forwarding.groups k.forwarding.held) ≡ None) × (after_packet_out m k ≡ does effects (record k { forwarding = f }))

@@ -13,12 +13,12 @@ use Rattle.of_session.proofs.Nexts.{IsSizedIn, next_sized, IsSomething, next_mor
 use Rattle.of_datapath.specs.declared.effect.Effect.{Effect}
 use Rattle.of_switch.specs.State.{State}
 use Rattle.of_switch.specs.Steps.{Outcome, Done, does, beside, gives, fed, handled, refused, failed_of, closing, coming, next_by, next_of}
-use Rattle.of_switch.specs.Runs.{behind, then_more, drain, drained, chunk_in, come}
+use Rattle.of_switch.specs.Runs.{behind_effects, then_more, drain, drained, chunk_in, come}
 use Rattle.of_switch.proofs.Draining.{next_shorter}
 
 same_by : (n m : ℕ) (s : State) (o : Option Outcome) → next_of s ≡ o → ((t : State) → length t.connection.pending < length s.connection.pending → drain n t ≡ drain m t) → then_more (drain n) s o ≡ then_more (drain m) s o
 same_by n m s None e ih = refl
-same_by n m s (Some o) e ih = ap (behind o.effects) (ih o.state (next_shorter s o e))
+same_by n m s (Some o) e ih = ap (behind_effects o.effects) (ih o.state (next_shorter s o e))
 
 -- enough turns are as good as more
 pub drain_same : (n m : ℕ) (s : State) → length s.connection.pending < n → length s.connection.pending < m → drain n s ≡ drain m s
@@ -89,15 +89,15 @@ drain_gone zero s gone = refl
 drain_gone (suc n) s gone = ap (then_more (drain n) s) (gone_by s true gone refl)
 
 -- one message, and then what is left
-pub drained_more : (s : State) (o : Outcome) → next_of s ≡ Some o → drained s ≡ behind o.effects (drained o.state)
+pub drained_more : (s : State) (o : Outcome) → next_of s ≡ Some o → drained s ≡ behind_effects o.effects (drained o.state)
 unfolding drain
 drained_more s o h =
     let short = next_shorter s o h in
     let size = length s.connection.pending in
     let turns : drain (size + 1) s ≡ drain (suc size) s = ap (λ (k : ℕ). drain k s) (add-one size) in
-    let step : drain (suc size) s ≡ behind o.effects (drain size o.state) = ap (then_more (drain size) s) h in
-    let one : drained s ≡ behind o.effects (drain size o.state) = turns ∙ step in
-    one ∙ ap (behind o.effects) (drain_same (length s.connection.pending) (length o.state.connection.pending + 1) o.state (omega (arith, short)) (omega arith))
+    let step : drain (suc size) s ≡ behind_effects o.effects (drain size o.state) = ap (then_more (drain size) s) h in
+    let one : drained s ≡ behind_effects o.effects (drain size o.state) = turns ∙ step in
+    one ∙ ap (behind_effects o.effects) (drain_same (length s.connection.pending) (length o.state.connection.pending + 1) o.state (omega (arith, short)) (omega arith))
 
 pub drained_none : (s : State) → next_of s ≡ None → drained s ≡ gives [] s
 unfolding drain
@@ -106,12 +106,12 @@ drained_none s h = ap (λ (k : ℕ). drain k s) (add-one (length s.connection.pe
 pub drained_gone : (s : State) → is_disconnected s.connection.phase ≡ true → drained s ≡ gives [] s
 drained_gone s gone = drain_gone (length s.connection.pending + 1) s gone
 
-behind_behind : (a b : List Effect) (o : Outcome) → behind a (behind b o) ≡ behind (a ++ b) o
+behind_behind : (a b : List Effect) (o : Outcome) → behind_effects a (behind_effects b o) ≡ behind_effects (a ++ b) o
 behind_behind a b o = ap (λ (es : List Effect). gives es o.state) (sym (append_assoc a b o.effects))
 
 -- what the bytes up to here give, and then what the bytes that follow give
 abbrev Joins : List ℕ → State → Type 0
-Joins q s = drained (come q s) ≡ behind (drained s).effects (drained (come q (drained s).state))
+Joins q s = drained (come q s) ≡ behind_effects (drained s).effects (drained (come q (drained s).state))
 
 join_gone : (q : List ℕ) (s : State) → is_disconnected s.connection.phase ≡ true → Joins q s
 join_gone q s gone =
@@ -121,10 +121,10 @@ join_gone q s gone =
 join_by : (q : List ℕ) (s : State) (o : Option Outcome) → is_disconnected s.connection.phase ≡ false → next_of s ≡ o → ((t : State) → length t.connection.pending < length s.connection.pending → Joins q t) → Joins q s
 join_by q s None open_ e ih = let here : drained s ≡ gives [] s = drained_none s e in rw here refl
 join_by q s (Some o) open_ e ih =
-    let fed_first : drained (fed q s) ≡ behind o.effects (drained (come q o.state)) = drained_more (fed q s) (gives o.effects (come q o.state)) (step_more s q o open_ e) in
-    let first : drained s ≡ behind o.effects (drained o.state) = drained_more s o e in
+    let fed_first : drained (fed q s) ≡ behind_effects o.effects (drained (come q o.state)) = drained_more (fed q s) (gives o.effects (come q o.state)) (step_more s q o open_ e) in
+    let first : drained s ≡ behind_effects o.effects (drained o.state) = drained_more s o e in
     let others : Joins q o.state = ih o.state (next_shorter s o e) in
-    rw (come_open q s open_, first) (fed_first ∙ (ap (behind o.effects) others ∙ behind_behind o.effects (drained o.state).effects (drained (come q (drained o.state).state))))
+    rw (come_open q s open_, first) (fed_first ∙ (ap (behind_effects o.effects) others ∙ behind_behind o.effects (drained o.state).effects (drained (come q (drained o.state).state))))
 
 joins_phase : (q : List ℕ) (s : State) (t : Bool) → is_disconnected s.connection.phase ≡ t → ((u : State) → length u.connection.pending < length s.connection.pending → Joins q u) → Joins q s
 joins_phase q s true e ih = join_gone q s e
@@ -138,7 +138,7 @@ pub joins : (q : List ℕ) (s : State) → Joins q s
 joins q s = joins_within (length s.connection.pending + 1) q s (omega arith)
 
 -- in two chunks or in one
-pub two_chunks : (p q : List ℕ) (s : State) → is_disconnected s.connection.phase ≡ false → chunk_in (p ++ q) s ≡ behind (chunk_in p s).effects (drained (come q (chunk_in p s).state))
+pub two_chunks : (p q : List ℕ) (s : State) → is_disconnected s.connection.phase ≡ false → chunk_in (p ++ q) s ≡ behind_effects (chunk_in p s).effects (drained (come q (chunk_in p s).state))
 two_chunks p q s open_ =
     let whole : fed (p ++ q) s ≡ come q (fed p s) = ap (λ (bytes : List ℕ). record s { connection = record { phase = s.connection.phase; pending = bytes } }) (sym (append_assoc s.connection.pending p q)) ∙ sym (come_open q (fed p s) open_) in
     ap drained whole ∙ joins q (fed p s)

@@ -9,7 +9,7 @@ use Rattle.of_switch.specs.declared.event.Report.{Report as Reported}
 use Rattle.std.specs.Prelude.{OnErr}
 use Rattle.of_switch.specs.State.{State}
 use Rattle.of_switch.specs.Steps.{Outcome, gives, next_of}
-use Rattle.of_switch.specs.Runs.{behind, drained, Report, Gives, report_of, reports_of, Happened, happened, Run, run, IsInterrupted, StopsWithin, RunsAll}
+use Rattle.of_switch.specs.Runs.{behind_effects, drained, Report, Gives, report_of, reports_of, Happened, happened, Run, run, IsInterrupted, StopsWithin, RunsAll}
 use Rattle.of_switch.specs.Stepping.{Happens, Drains}
 use Rattle.of_switch.proofs.Draining.{Left, left_all}
 use Rattle.of_switch.proofs.Joining.{drain_same}
@@ -17,9 +17,9 @@ use Rattle.of_switch.proofs.Joining.{drain_same}
 -- A CHUNK
 
 -- what is left is what there is to drain
-left_told : (first s : State) (effects : List Effect) → Left first s effects → drained first ≡ behind effects (drained s)
+left_told : (first s : State) (effects : List Effect) → Left first s effects → drained first ≡ behind_effects effects (drained s)
 left_told first s effects left =
-    left.told ∙ ap (behind effects) (drain_same left.turns (length s.connection.pending + 1) s left.enough (omega arith))
+    left.told ∙ ap (behind_effects effects) (drain_same left.turns (length s.connection.pending + 1) s left.enough (omega arith))
 
 -- one more report
 pub reports_more : (reports reports' : List Reported) (report : Reported) → reports' ≡ reports ++ report ∷ [] → reports_of reports' ≡ reports_of reports ++ report_of report ∷ []
@@ -33,7 +33,7 @@ drains_all first s effects reports reports' none left e =
 -- memory ran out for a message, and what was given is one report
 pub drains_one : (first s : State) (effects : List Effect) (x : AllocError) (reports reports' : List Report) → Left first s effects → reports' ≡ reports ++ Gives effects ∷ [] → Drains (Err x) first s reports reports'
 drains_one first s effects x reports reports' left e =
-    (Gives effects ∷ [], e, (omega arith, tt), left_told first s effects left ∙ ap (λ (es : List Effect). behind es (drained s)) (sym (append-nil effects)))
+    (Gives effects ∷ [], e, (omega arith, tt), left_told first s effects left ∙ ap (λ (es : List Effect). behind_effects es (drained s)) (sym (append-nil effects)))
 
 -- or two
 pub drains_two : (first s : State) (effects more : List Effect) (x : AllocError) (reports reports' reports'' : List Report) → Left first s (effects ++ more)
@@ -42,7 +42,7 @@ drains_two first s effects more x reports reports' reports'' left e f = (
   Gives effects ∷ Gives more ∷ [],
   f ∙ (ap (λ (rs : List Report). rs ++ Gives more ∷ []) e ∙ append_assoc reports (Gives effects ∷ []) (Gives more ∷ [])),
   (omega arith, tt),
-  left_told first s (effects ++ more) left ∙ ap (λ (es : List Effect). behind (effects ++ es) (drained s)) (sym (append-nil more)),
+  left_told first s (effects ++ more) left ∙ ap (λ (es : List Effect). behind_effects (effects ++ es) (drained s)) (sym (append-nil more)),
 )
 
 -- EVENTS

@@ -3,7 +3,7 @@ use Rattle.std.proofs.Common.{◌≡◌, ℕ, ◌≤◌, Bool, false, List, Opti
 use Rattle.std.specs.Prelude.{IfOk, OnOk, OnErr}
 use Rattle.of_actions.specs.declared.instruction.Instruction.{Instruction}
 use Rattle.of_groups.specs.declared.group.Group.{Group}
-use Rattle.of_groups.specs.Groups.{with_group, left}
+use Rattle.of_groups.specs.Groups.{with_group, groups_left}
 use Rattle.of_ports.specs.declared.port.Port.{Port}
 use Rattle.of_table.specs.declared.flow.Flow.{Flow}
 use Rattle.of_table.specs.declared.selection.Selector.{Selector}
@@ -41,8 +41,8 @@ pub group_put : (g : Group) (n : NumberedTables) (gs hs : List Group) (ps : List
 group_put g n gs hs ps b small e s = subst (λ (x : List Group). GroupsExist (without_numbers n x ps b)) (sym e) (put_stands g (without_numbers n gs ps b) small s)
 
 -- groups are removed, and then the entries that name them
-pub groups_gone : (which : Option ℕ) (cause : Cause) (n : NumberedTables) (gs hs : List Group) (ps : List Port) (b : HeldFrames) (new : Forwarding) → cause ≡ OfGroup which → hs ≡ left which gs → new ≡ record (without_numbers n hs ps b) { tables = left_in cause (tables_of n) } → GroupsExist (without_numbers n gs ps b) → GroupsExist new
+pub groups_gone : (which : Option ℕ) (cause : Cause) (n : NumberedTables) (gs hs : List Group) (ps : List Port) (b : HeldFrames) (new : Forwarding) → cause ≡ OfGroup which → hs ≡ groups_left which gs → new ≡ record (without_numbers n hs ps b) { tables = left_in cause (tables_of n) } → GroupsExist (without_numbers n gs ps b) → GroupsExist new
 groups_gone which cause n gs hs ps b new c e f s =
-    let is : new ≡ record (without_numbers n gs ps b) { tables = left_in (OfGroup which) (tables_of n); groups = left which gs } =
+    let is : new ≡ record (without_numbers n gs ps b) { tables = left_in (OfGroup which) (tables_of n); groups = groups_left which gs } =
     f ∙ (ap (λ (x : Cause). record (without_numbers n hs ps b) { tables = left_in x (tables_of n) }) c ∙ ap (λ (x : List Group). record (without_numbers n x ps b) { tables = left_in (OfGroup which) (tables_of n) }) e) in
     subst GroupsExist (sym is) (groups_left_stand which (without_numbers n gs ps b) s)

@@ -16,18 +16,18 @@ use Rattle.of_switch.specs.Calls.{Call, connect_refusal, feed_refusal, port_refu
 use Rattle.of_switch.specs.Runs.{Report, Gives, IsRefused}
 
 -- a call that has effects answers them, or why it did nothing
-abbrev pub Answer : Type 0
-Answer = Result (SmallVec Effect) SwitchError
+abbrev pub CallAnswer : Type 0
+CallAnswer = Result (SmallVec Effect) SwitchError
 
 -- a call, with its arguments and what it answered
 pub data Made : Type 0 where
-  Connected : Answer → Made
+  Connected : CallAnswer → Made
   Lost : Made
   Fed : List ℕ → Result (Unit {0}) SwitchError → Made
   Next : Result (Option (SmallVec Effect)) SwitchError → Made
-  Frame : ℕ → List ℕ → Answer → Made
-  Moment : ℕ → Answer → Made
-  Changed : PortChange → Answer → Made
+  Frame : ℕ → List ℕ → CallAnswer → Made
+  Moment : ℕ → CallAnswer → Made
+  Changed : PortChange → CallAnswer → Made
   Loaded : Configuration → Result (Unit {0}) SwitchError → Made
 
 -- WHAT A CALL DOES is what its function ensures
@@ -73,21 +73,21 @@ others calls = filter (λ m. not (ran_out m)) calls
 -- EVENTS AS CALLS: one call for each; for a chunk it is fed, and then its messages are handled, one by one, until there is none
 
 pub data Deed : Type 0 where
-  Connects : Answer → Deed
+  Connects : CallAnswer → Deed
   Loses : Deed
   Sends : List ℕ → List (SmallVec Effect) → Deed
   IsUnheard : List ℕ → SwitchError → Deed
-  Receives : ℕ → List ℕ → Answer → Deed
-  Waits : ℕ → Answer → Deed
-  Changes : PortChange → Answer → Deed
+  Receives : ℕ → List ℕ → CallAnswer → Deed
+  Waits : ℕ → CallAnswer → Deed
+  Changes : PortChange → CallAnswer → Deed
 
-abbrev pub handled : SmallVec Effect → Made
-handled effects = Next (Ok (Some effects))
+abbrev pub handled_call : SmallVec Effect → Made
+handled_call effects = Next (Ok (Some effects))
 
 abbrev pub calls_of : Deed → List Made
 calls_of (Connects answer) = Connected answer ∷ []
 calls_of Loses = Lost ∷ []
-calls_of (Sends chunk given) = Fed chunk (Ok tt) ∷ (map handled given ++ Next (Ok None) ∷ [])
+calls_of (Sends chunk given) = Fed chunk (Ok tt) ∷ (map handled_call given ++ Next (Ok None) ∷ [])
 calls_of (IsUnheard chunk refusal) = Fed chunk (Err refusal) ∷ []
 calls_of (Receives port frame answer) = Frame port frame answer ∷ []
 calls_of (Waits nanos answer) = Moment nanos answer ∷ []
@@ -102,15 +102,15 @@ event_of (Receives port frame answer) = event.Frame port frame
 event_of (Waits nanos answer) = event.Moment nanos
 event_of (Changes change answer) = event.Ports change
 
-abbrev pub report_for : Answer → Report
+abbrev pub report_for : CallAnswer → Report
 report_for (Ok effects) = Gives effects.items
 report_for (Err refusal) = IsRefused refusal
 
-abbrev pub report_of : Deed → Report
-report_of (Connects answer) = report_for answer
-report_of Loses = Gives []
-report_of (Sends chunk given) = Gives (flat_map (λ effects. effects.items) given)
-report_of (IsUnheard chunk refusal) = IsRefused refusal
-report_of (Receives port frame answer) = report_for answer
-report_of (Waits nanos answer) = report_for answer
-report_of (Changes change answer) = report_for answer
+abbrev pub deed_report : Deed → Report
+deed_report (Connects answer) = report_for answer
+deed_report Loses = Gives []
+deed_report (Sends chunk given) = Gives (flat_map (λ effects. effects.items) given)
+deed_report (IsUnheard chunk refusal) = IsRefused refusal
+deed_report (Receives port frame answer) = report_for answer
+deed_report (Waits nanos answer) = report_for answer
+deed_report (Changes change answer) = report_for answer

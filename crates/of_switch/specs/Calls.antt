@@ -11,14 +11,14 @@ use Rattle.of_ports.specs.Ports.{has_port}
 use Rattle.of_switch.specs.State.{State}
 
 -- the numbers of the refusals; 2 is no longer used
-abbrev pub number_of : SwitchError → ℕ
-number_of NoMemory = 1
-number_of NotConnected = 3
-number_of Connected = 4
-number_of PortExists = 5
-number_of NoSuchPort = 6
-number_of TooManyPorts = 7
-number_of BadPortNumber = 8
+abbrev pub error_number : SwitchError → ℕ
+error_number NoMemory = 1
+error_number NotConnected = 3
+error_number Connected = 4
+error_number PortExists = 5
+error_number NoSuchPort = 6
+error_number TooManyPorts = 7
+error_number BadPortNumber = 8
 
 -- What a call does: the refusal that applies, and nothing else; or what `does` says; or it runs out of memory, and does nothing else.
 abbrev pub Call : {A : Type 0} → Option SwitchError → (A → State → Type 0) → State → Result A SwitchError → State → Type 0
@@ -27,26 +27,26 @@ Call None does old (Ok x) new = does x new
 Call None does old (Err e) new = (e ≡ NoMemory) × (new ≡ old)
 
 -- the first refusal that applies
-abbrev pub first_refusal : List (Bool × SwitchError) → Option SwitchError
-first_refusal [] = None
-first_refusal (r ∷ rs) = if r.0 then Some r.1 else first_refusal rs
+abbrev pub first_error : List (Bool × SwitchError) → Option SwitchError
+first_error [] = None
+first_error (r ∷ rs) = if r.0 then Some r.1 else first_error rs
 
 abbrev pub connect_refusal : State → Option SwitchError
-connect_refusal s = first_refusal ((not (is_disconnected s.connection.phase), Connected) ∷ [])
+connect_refusal s = first_error ((not (is_disconnected s.connection.phase), Connected) ∷ [])
 
 abbrev pub feed_refusal : State → Option SwitchError
-feed_refusal s = first_refusal ((is_disconnected s.connection.phase, NotConnected) ∷ [])
+feed_refusal s = first_error ((is_disconnected s.connection.phase, NotConnected) ∷ [])
 
 -- the number is checked first; a port that is added must not exist, and there are 64 ports at most; one that is removed or whose link changes must exist
 abbrev pub absent_refusal : ℕ → State → Option SwitchError
 absent_refusal number s =
-    first_refusal ((not (is_number number), BadPortNumber)
+    first_error ((not (is_number number), BadPortNumber)
     ∷ (not (has_port number s.core.forwarding.ports), NoSuchPort)
     ∷ [])
 
 abbrev pub new_refusal : ℕ → State → Option SwitchError
 new_refusal number s =
-    first_refusal ((not (is_number number), BadPortNumber)
+    first_error ((not (is_number number), BadPortNumber)
     ∷ (has_port number s.core.forwarding.ports, PortExists)
     ∷ (nat_le MOST_PORTS (length s.core.forwarding.ports), TooManyPorts)
     ∷ [])

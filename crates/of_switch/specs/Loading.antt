@@ -2,14 +2,14 @@
 use Rattle.of_text.specs.Groups.{groups_at}
 use Rattle.of_text.specs.Configs.{Configuration}
 use Rattle.of_datapath.specs.Loading.{configuration_of, loaded_tables}
-use Rattle.of_switch.specs.Steps.{with_groups, with_tables}
+use Rattle.of_switch.specs.Steps.{core_with_groups, with_tables}
 use Rattle.of_switch.specs.State.{Core, State}
 
 -- the groups and the tables are replaced, and all else of the core stays
 abbrev pub loaded_core : Configuration → Core → Core
 loaded_core c k =
     let now = k.forwarding.tables.latest in
-    with_groups (groups_at now c.groups) (with_tables (loaded_tables now c.tables) k)
+    core_with_groups (groups_at now c.groups) (with_tables (loaded_tables now c.tables) k)
 
 -- all else of the switch stays
 abbrev pub loaded : Configuration → State → State

@@ -13,13 +13,13 @@ use Rattle.of_switch.specs.Steps.{Outcome, gives, connected, lost, fed, next_of,
 use Rattle.of_switch.specs.Calls.{connect_refusal, feed_refusal, port_refusal}
 
 -- effects before those of an outcome
-abbrev pub behind : List Effect → Outcome → Outcome
-behind effects o = gives (effects ++ o.effects) o.state
+abbrev pub behind_effects : List Effect → Outcome → Outcome
+behind_effects effects o = gives (effects ++ o.effects) o.state
 
 -- nothing is left, or a message and then the rest
 abbrev pub then_more : (State → Outcome) → State → Option Outcome → Outcome
 then_more rest s None = gives [] s
-then_more rest s (Some o) = behind o.effects (rest o.state)
+then_more rest s (Some o) = behind_effects o.effects (rest o.state)
 
 -- at most n messages
 unfoldable pub drain : ℕ → State → Outcome
@@ -53,7 +53,7 @@ abbrev pub handled_in_turn : List (List ℕ) → State → Outcome
 handled_in_turn [] s = gives [] s
 handled_in_turn (m ∷ ms) s =
     let first = handled_alone m s in
-    behind first.effects (if is_disconnected first.state.connection.phase then gives [] first.state else handled_in_turn ms first.state)
+    behind_effects first.effects (if is_disconnected first.state.connection.phase then gives [] first.state else handled_in_turn ms first.state)
 
 -- THE RUN OF A LIST OF EVENTS
 
@@ -74,17 +74,17 @@ pub record Happened : Type 0 where
   pub report : Report
   pub state : State
 
-abbrev pub unless : Option SwitchError → State → Outcome → Happened
-unless (Some refusal) s o = record { report = IsRefused refusal; state = s }
-unless None s o = record { report = Gives o.effects; state = o.state }
+abbrev pub unless_refusal : Option SwitchError → State → Outcome → Happened
+unless_refusal (Some refusal) s o = record { report = IsRefused refusal; state = s }
+unless_refusal None s o = record { report = Gives o.effects; state = o.state }
 
 abbrev pub happened : Event → State → Happened
-happened Connect s = unless (connect_refusal s) s (connected s)
-happened Lost s = unless None s (gives [] (lost s))
-happened (Chunk bytes) s = unless (feed_refusal s) s (chunk_in bytes s)
-happened (Frame port bytes) s = unless None s (frame_in port bytes s)
-happened (Moment nanos) s = unless None s (moment_in nanos s)
-happened (Ports change) s = unless (port_refusal change s) s (port_changed change s)
+happened Connect s = unless_refusal (connect_refusal s) s (connected s)
+happened Lost s = unless_refusal None s (gives [] (lost s))
+happened (Chunk bytes) s = unless_refusal (feed_refusal s) s (chunk_in bytes s)
+happened (Frame port bytes) s = unless_refusal None s (frame_in port bytes s)
+happened (Moment nanos) s = unless_refusal None s (moment_in nanos s)
+happened (Ports change) s = unless_refusal (port_refusal change s) s (port_changed change s)
 
 -- the reports of events in any order and number, and the switch after them
 pub record Run : Type 0 where
@@ -118,7 +118,7 @@ pub record IsBrokenOff (event : Event) (s t : State) (more : List Report) : Type
   pub chunk : event ≡ Chunk bytes
   pub taken : feed_refusal s ≡ None
   pub reported : IsReported more
-  pub left : chunk_in bytes s ≡ behind (effects_in more) (drained t)
+  pub left : chunk_in bytes s ≡ behind_effects (effects_in more) (drained t)
 
 -- an event for which there was no memory did nothing, or is a chunk that was interrupted so
 abbrev pub IsInterrupted : Event → State → State → List Report → Type 0

@@ -7,7 +7,7 @@ use Rattle.of_switch.specs.declared.event.Event.{Event}
 use Rattle.of_switch.specs.declared.switch_error.SwitchError.{SwitchError}
 use Rattle.of_switch.specs.declared.switch_error.SwitchError.TheVariants.{NoMemory, NotConnected, Connected, PortExists, NoSuchPort, TooManyPorts, BadPortNumber}
 use Rattle.of_switch.specs.State.{State}
-use Rattle.of_switch.specs.Runs.{Report, Gives, IsRefused, happened, drained, behind, effects_in, IsReported, IsInterrupted}
+use Rattle.of_switch.specs.Runs.{Report, Gives, IsRefused, happened, drained, behind_effects, effects_in, IsReported, IsInterrupted}
 
 -- the report of a refusal; running out of memory has none
 abbrev pub TellsRefusal : SwitchError → List Report → Result (Unit {0}) AllocError → List Report → Type 0
@@ -27,10 +27,10 @@ TellsRefusal BadPortNumber old (Ok u) new = new ≡ old ++ IsRefused BadPortNumb
 TellsRefusal BadPortNumber old (Err x) new = ⊥
 
 -- the report of a call
-abbrev pub Tells : Result (SmallVec Effect) SwitchError → List Report → Result (Unit {0}) AllocError → List Report → Type 0
-Tells (Ok effects) old (Ok u) new = new ≡ old ++ Gives effects.items ∷ []
-Tells (Ok effects) old (Err x) new = ⊥
-Tells (Err refusal) old result new = TellsRefusal refusal old result new
+abbrev pub TellsCall : Result (SmallVec Effect) SwitchError → List Report → Result (Unit {0}) AllocError → List Report → Type 0
+TellsCall (Ok effects) old (Ok u) new = new ≡ old ++ Gives effects.items ∷ []
+TellsCall (Ok effects) old (Err x) new = ⊥
+TellsCall (Err refusal) old result new = TellsRefusal refusal old result new
 
 -- an event happens and is reported, or is interrupted
 abbrev pub Happens : Result (Unit {0}) AllocError → Event → State → State → List Report → List Report → Type 0
@@ -40,4 +40,4 @@ Happens (Err x) event s t old new = (more : List Report) × (new ≡ old ++ more
 -- all messages are handled, or those before one that ran out of memory
 abbrev pub Drains : Result (Unit {0}) AllocError → State → State → List Report → List Report → Type 0
 Drains (Ok u) s t old new = (t ≡ (drained s).state) × (new ≡ old ++ Gives (drained s).effects ∷ [])
-Drains (Err x) s t old new = (more : List Report) × (new ≡ old ++ more) × IsReported more × (drained s ≡ behind (effects_in more) (drained t))
+Drains (Err x) s t old new = (more : List Report) × (new ≡ old ++ more) × IsReported more × (drained s ≡ behind_effects (effects_in more) (drained t))

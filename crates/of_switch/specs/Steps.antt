@@ -18,16 +18,16 @@ use Rattle.of_messages.specs.declared.config.SwitchConfig.{SwitchConfig}
 use Rattle.of_messages.specs.Written.{hello_bytes, error_bytes, echo_reply_bytes, barrier_reply_bytes, features_reply_bytes, config_reply_bytes, role_reply_bytes, async_reply_bytes}
 use Rattle.of_session.specs.declared.session.Next.{Next}
 use Rattle.of_session.specs.declared.session.Next.TheVariants.{Nothing, BadStream, NotHello, Opened, Read, Refused}
-use Rattle.of_session.specs.Session.{Connection, alone, is_disconnected, greeting, fed as fed_connection, entered, next_of as next_in}
+use Rattle.of_session.specs.Session.{Connection, alone, is_disconnected, greeting, with_received as fed_connection, entered, next_of_connection as next_in}
 use Rattle.of_table.specs.declared.selection.Cause.TheVariants.{Group}
 use Rattle.of_table.specs.Tables.{Tables, expired, expiry_notices, left_in, notices_in}
 use Rattle.of_groups.specs.declared.bucket.Bucket.{Bucket}
 use Rattle.of_groups.specs.declared.group.Group.{Group as AGroup}
 use Rattle.of_groups.specs.declared.group.GroupKind.{GroupKind}
-use Rattle.of_groups.specs.Groups.{left, modified_group, new_group, with_group}
+use Rattle.of_groups.specs.Groups.{groups_left, modified_group, new_group, with_group}
 use Rattle.of_buffers.specs.Buffers.{Held, forgotten}
 use Rattle.of_machine.specs.Rows.{acts, entering}
-use Rattle.of_datapath.specs.Commands.{flow_mod_refusals, commanded, command_notices, notice_effects, packet_out_refusals, frame_of, frame_named, without_packet}
+use Rattle.of_datapath.specs.Commands.{flow_mod_refusals, commanded, command_notices, notice_effects, packet_out_refusals, packet_out_frame, frame_named, without_packet}
 use Rattle.of_switch.specs.GroupMods.{group_mod_fault, refused_for}
 use Rattle.of_datapath.specs.declared.control.AsyncConfig.{AsyncConfig}
 use Rattle.of_datapath.specs.Control.{heard_of, heard_while, released}
@@ -36,11 +36,11 @@ use Rattle.of_datapath.specs.declared.effect.Effect.TheVariants.{Answer, Closed}
 use Rattle.of_switch.specs.declared.port_change.PortChange.{PortChange}
 use Rattle.of_switch.specs.declared.port_change.PortChange.TheVariants.{Add, Remove, Link}
 use Rattle.of_ports.specs.declared.port.Port.{Port}
-use Rattle.of_ports.specs.Ports.{new_port, port_at, with_port, without_port, at_port, linked, with_config}
+use Rattle.of_ports.specs.Ports.{new_port, port_at, with_port, without_port, changed_at_port, linked, with_config}
 use Rattle.of_datapath.specs.PortStatus.{status_told, change_told}
 use Rattle.of_switch.specs.PortMods.{port_mod_refusals, modified_port}
 use Rattle.of_datapath.specs.Roles.{generation_refusals, with_role}
-use Rattle.of_datapath.specs.Statistics.{multipart_refusals, multipart_bytes}
+use Rattle.of_datapath.specs.Statistics.{absent_port_refusals, multipart_bytes}
 use Rattle.of_datapath.specs.Datapath.{Forwarded, framed, started, through}
 use Rattle.of_switch.specs.State.{Core, State}
 
@@ -59,8 +59,8 @@ with_tables ts k = record k { forwarding = record k.forwarding { tables = ts } }
 abbrev pub with_ports : List Port → Core → Core
 with_ports ports k = record k { forwarding = record k.forwarding { ports = ports } }
 
-abbrev pub with_groups : List AGroup → Core → Core
-with_groups groups k = record k { forwarding = record k.forwarding { groups = groups } }
+abbrev pub core_with_groups : List AGroup → Core → Core
+core_with_groups groups k = record k { forwarding = record k.forwarding { groups = groups } }
 
 -- the effects of forwarding, and the core with what forwards frames after it
 abbrev pub forwarded : Forwarded → Core → Done
@@ -68,7 +68,7 @@ forwarded f k = does f.effects (record k { forwarding = f.forwarding })
 
 -- the refusals of a message that was read, in the written order
 abbrev pub state_refusals : Message → Core → List (Bool × Code)
-state_refusals (Multipart request) k = multipart_refusals request k.forwarding.ports
+state_refusals (Multipart request) k = absent_port_refusals request k.forwarding.ports
 state_refusals (IsRoleRequest request) k = generation_refusals request k.control
 state_refusals (IsPacketOut m) k = packet_out_refusals m k.forwarding.groups k.forwarding.held
 state_refusals (IsPortMod m) k = port_mod_refusals m k.forwarding.ports
@@ -81,28 +81,28 @@ abbrev pub after_command : FlowMod → Core → Done
 after_command m k = does (notice_effects (heard_of k.control) k.forwarding.tables.latest (command_notices m k.forwarding.tables)) (with_tables (commanded m k.forwarding.tables) k)
 
 -- then the held frame that it names begins, if it names one
-abbrev pub begun : ℕ → Option Held → Core → Done
-begun id None k = does [] k
-begun id (Some h) k = forwarded (started (heard_of k.control) id h k.forwarding) k
+abbrev pub held_frame_begun : ℕ → Option Held → Core → Done
+held_frame_begun id None k = does [] k
+held_frame_begun id (Some h) k = forwarded (started (heard_of k.control) id h k.forwarding) k
 
 abbrev pub then_does : Done → (Core → Done) → Done
 then_does d next = let e = next d.core in does (d.effects ++ e.effects) e.core
 
 abbrev pub after_flow_mod : FlowMod → Core → Done
-after_flow_mod m k = then_does (after_command m k) (begun m.buffer (frame_named m k.forwarding.held))
+after_flow_mod m k = then_does (after_command m k) (held_frame_begun m.buffer (frame_named m k.forwarding.held))
 
 -- a GROUP_MOD adds a group, whose time of creation is the latest moment, or gives one another type and other buckets
 abbrev pub group_added : ℕ → GroupKind → List Bucket → Core → Done
-group_added id kind buckets k = does [] (with_groups (with_group (new_group id kind buckets k.forwarding.tables.latest) k.forwarding.groups) k)
+group_added id kind buckets k = does [] (core_with_groups (with_group (new_group id kind buckets k.forwarding.tables.latest) k.forwarding.groups) k)
 
 abbrev pub group_modified : ℕ → GroupKind → List Bucket → Core → Done
-group_modified id kind buckets k = does [] (with_groups (with_group (modified_group id kind buckets k.forwarding.groups) k.forwarding.groups) k)
+group_modified id kind buckets k = does [] (core_with_groups (with_group (modified_group id kind buckets k.forwarding.groups) k.forwarding.groups) k)
 
 -- or deletes one or all, and the entries that name them, with the notices of these entries (6.5)
 abbrev pub groups_deleted : Option ℕ → Core → Done
 groups_deleted which k =
     does (notice_effects (heard_of k.control) k.forwarding.tables.latest (notices_in (Group which) k.forwarding.tables))
-    (with_groups (left which k.forwarding.groups) (with_tables (left_in (Group which) k.forwarding.tables) k))
+    (core_with_groups (groups_left which k.forwarding.groups) (with_tables (left_in (Group which) k.forwarding.tables) k))
 
 abbrev pub after_group_mod : GroupMod → Core → Done
 after_group_mod (group_mod.Add g) k = group_added g.id g.kind g.buckets k
@@ -117,19 +117,19 @@ sent_out m (Some frame) k =
     forwarded (through (heard_of k.control) (entering frame m.in_port) (acts m.actions) (record f { held = without_packet m.packet f.held })) k
 
 abbrev pub after_packet_out : PacketOut → Core → Done
-after_packet_out m k = sent_out m (frame_of m.packet k.forwarding.held) k
+after_packet_out m k = sent_out m (packet_out_frame m.packet k.forwarding.held) k
 
 -- a port gets its new configuration, with a PORT_STATUS where its description changes
 abbrev pub port_modded_at : PortMod → Core → Option Port → Done
 port_modded_at m k None = does [] k
-port_modded_at m k (Some p) = does (change_told (heard_of k.control) p (modified_port m p)) (with_ports (at_port m.port (with_config (modified_port m p).config) k.forwarding.ports) k)
+port_modded_at m k (Some p) = does (change_told (heard_of k.control) p (modified_port m p)) (with_ports (changed_at_port m.port (with_config (modified_port m p).config) k.forwarding.ports) k)
 
 abbrev pub after_port_mod : PortMod → Core → Done
 after_port_mod m k = port_modded_at m k (port_at k.forwarding.ports m.port)
 
 -- what a controller sets: the configuration (7.3.2), its role, with a ROLE_REPLY (7.3.9), and the masks of asynchronous messages (7.3.10)
-abbrev pub configured : SwitchConfig → Core → Done
-configured config k = does [] (record k { control = record k.control { config = config } })
+abbrev pub switch_configured : SwitchConfig → Core → Done
+switch_configured config k = does [] (record k { control = record k.control { config = config } })
 
 abbrev pub role_asked : ℕ → RoleRequest → Core → Done
 role_asked xid request k =
@@ -140,20 +140,20 @@ role_asked xid request k =
 abbrev pub replied : ℕ → MultipartRequest → Core → Done
 replied xid request k = does (map Answer (multipart_bytes xid request k.forwarding)) k
 
-abbrev pub masked : AsyncMasks → Core → Done
-masked masks k = does [] (record k { control = record k.control { masks = masks } })
+abbrev pub masks_configured : AsyncMasks → Core → Done
+masks_configured masks k = does [] (record k { control = record k.control { masks = masks } })
 
 -- what a message that is not refused does: a later HELLO, an ERROR, an ECHO_REPLY and a TABLE_MOD do nothing
 abbrev pub done : ℕ → Message → Core → Done
 done xid (EchoRequest echoed) k = does (Answer (echo_reply_bytes xid echoed) ∷ []) k
 done xid FeaturesRequest k = does (Answer (features_reply_bytes xid k.dpid) ∷ []) k
 done xid GetConfigRequest k = does (Answer (config_reply_bytes xid k.control.config) ∷ []) k
-done xid (SetConfig config) k = configured config k
+done xid (SetConfig config) k = switch_configured config k
 done xid BarrierRequest k = does (Answer (barrier_reply_bytes xid) ∷ []) k
 done xid (Multipart request) k = replied xid request k
 done xid (IsRoleRequest request) k = role_asked xid request k
 done xid GetAsyncRequest k = does (Answer (async_reply_bytes xid k.control.masks) ∷ []) k
-done xid (SetAsync masks) k = masked masks k
+done xid (SetAsync masks) k = masks_configured masks k
 done xid (IsPacketOut m) k = after_packet_out m k
 done xid (IsPortMod m) k = after_port_mod m k
 done xid (IsFlowMod m) k = after_flow_mod m k
@@ -276,7 +276,7 @@ removed_at heard n k (Some p) = does (status_told heard port.Delete p) (with_por
 
 abbrev pub linked_at : AsyncConfig → ℕ → Bool → Core → Option Port → Done
 linked_at heard n up k None = does [] k
-linked_at heard n up k (Some p) = does (change_told heard p (linked up p)) (with_ports (at_port n (linked up) k.forwarding.ports) k)
+linked_at heard n up k (Some p) = does (change_told heard p (linked up p)) (with_ports (changed_at_port n (linked up) k.forwarding.ports) k)
 
 abbrev pub port_done : AsyncConfig → PortChange → Core → Done
 port_done heard (Add number hw name up) k = port_added heard (new_port number hw name up k.forwarding.tables.latest) k

@@ -3,7 +3,7 @@ ghost use Rattle.std.specs.Prelude.{◌≡◌, ◌≤◌, ◌<◌, ◌∷◌, �
 ghost use Rattle.std.specs.Option.{option_map};
 ghost use Rattle.std.specs.Result.{result_err};
 ghost use Rattle.of_messages.specs.Written.{error_bytes};
-ghost use Rattle.of_session.specs.Session.{IsSound, IsWithin};
+ghost use Rattle.of_session.specs.Session.{IsSoundNext, IsNextReceived};
 ghost use Rattle.of_switch.specs.State.{start};
 ghost use Rattle.of_datapath.specs.DryRun.{GainsPrefix, steps_in};
 ghost use Rattle.of_datapath.specs.Numbers.{forwarding_of};
@@ -12,7 +12,7 @@ ghost use Rattle.of_switch.specs.Steps.{came, closing as closing_with, connected
 ghost use Rattle.of_switch.specs.Calls.{Call, absent_refusal, connect_refusal, feed_refusal, new_refusal, port_refusal};
 ghost use Rattle.of_switch.specs.Loading.{config_of, loaded};
 ghost use Rattle.of_switch.specs.Runs.{RunsAll, StopsWithin, reports_of};
-ghost use Rattle.of_switch.specs.Stepping.{Drains, Happens, Tells};
+ghost use Rattle.of_switch.specs.Stepping.{Drains, Happens, TellsCall};
 ghost use Rattle.std.specs.Prelude.{not};
 ghost use Rattle.of_session.specs.Session.{is_disconnected};
 
@@ -153,8 +153,8 @@ impl<L: Lookup> Switch<L> {
 
     // Handles what comes next, and leaves it in the stream.
     fn answer(&mut self, next: Next) -> Result<Option<Effects>, AllocError>
-        requires within { IsWithin next self.old.connection }
-        requires sound { IsSound next }
+        requires within { IsNextReceived next self.old.connection }
+        requires sound { IsSoundNext next }
         ensures came { IfOk result (λ found. came next self.old.connection self.old.core ≡ option_map (λ effects. does effects.items self.new.core) found) }
         ensures none { IfOk result (λ found. IfNone found (self.new.core ≡ self.old.core)) }
         ensures connection { self.new.connection ≡ self.old.connection }
@@ -410,7 +410,7 @@ impl<L: Lookup> Switch<L> {
 // Appends the report of a call, unless it ran out of memory.
 fn tell(called: Result<Effects, SwitchError>, reports: &mut Vec<Report>) -> Result<(), AllocError>
     requires { vec_len reports.old < vec_capacity reports.old }
-    ensures { Tells called (reports_of reports.old.items) result (reports_of reports.new.items) }
+    ensures { TellsCall called (reports_of reports.old.items) result (reports_of reports.new.items) }
 {
     let report = match called {
         Ok(effects) => Report::Gives(effects),

@@ -12,7 +12,7 @@ ghost use Rattle.std.specs.Prelude.{IfErr, Some};
 ghost use Rattle.of_buffers.specs.Buffers.{held};
 ghost use Rattle.of_messages.specs.Messages.{is_delete as is_delete_command};
 ghost use Rattle.of_switch.specs.Handling.{IsUnlessHeld};
-ghost use Rattle.of_datapath.specs.Commands.{add_refusals, frame_of as packet_frame, names_absent_group as naming_absent_group, packet_out_refusals, flow_mod_refusals, has_flag as with_flag, notice_effects, selector_of};
+ghost use Rattle.of_datapath.specs.Commands.{add_refusals, packet_out_frame as packet_frame, names_absent_group as naming_absent_group, packet_out_refusals, flow_mod_refusals, has_flag as with_flag, notice_effects, selector_of};
 ghost use Rattle.of_datapath.specs.Datapath.{framed};
 ghost use Rattle.of_datapath.specs.Numbers.{forwarding_of};
 ghost use Rattle.of_groups.specs.Groups.{modified_group, new_group};
@@ -20,11 +20,11 @@ ghost use Rattle.of_groups.specs.Faults.{add_fault, delete_fault, modify_fault};
 ghost use Rattle.of_switch.specs.GroupMods.{group_mod_fault, refused_for};
 ghost use Rattle.of_datapath.specs.Control.{heard_of};
 ghost use Rattle.of_datapath.specs.Roles.{generation_refusals};
-ghost use Rattle.of_datapath.specs.Statistics.{multipart_bytes, multipart_refusals};
+ghost use Rattle.of_datapath.specs.Statistics.{multipart_bytes, absent_port_refusals};
 ghost use Rattle.of_switch.specs.Handling.{Handles};
 ghost use Rattle.of_datapath.specs.Loading.{configuration_of};
 ghost use Rattle.of_switch.specs.Loading.{loaded_core};
-ghost use Rattle.of_switch.specs.Steps.{after_command, begun, does, done, after_flow_mod, then_does, forwarded, group_added, after_group_mod, group_modified, groups_deleted, linked_at, after_packet_out, port_added, after_port_mod, removed_at, replied, role_asked, state_refusals, with_tables, without_connection, moment_done};
+ghost use Rattle.of_switch.specs.Steps.{after_command, held_frame_begun, does, done, after_flow_mod, then_does, forwarded, group_added, after_group_mod, group_modified, groups_deleted, linked_at, after_packet_out, port_added, after_port_mod, removed_at, replied, role_asked, state_refusals, with_tables, without_connection, moment_done};
 
 use of_actions::InstructionList;
 use of_classifier::Lookup;
@@ -284,7 +284,7 @@ impl<L: Lookup> Core<L> {
     }
 
     fn multipart(&self, xid: u32, request: MultipartRequest) -> Result<Effects, Fault>
-        ensures { Handles (first_of (multipart_refusals request self.now.forwarding.ports)) (replied xid request self.now) self.now result self.now }
+        ensures { Handles (first_of (absent_port_refusals request self.now.forwarding.ports)) (replied xid request self.now) self.now result self.now }
     {
         if asks_absent_port(&request, &self.datapath.ports) {
             return Err(Fault::Refused(OFPBRC_BAD_PORT));
@@ -399,7 +399,8 @@ impl<L: Lookup> Core<L> {
         requires fit { are_for flow_mod.table flow_mod.instructions ≡ true }
         requires checked { all_go_with flow_mod.fields flow_mod.instructions ≡ true }
         ensures { Handles (first_of (add_refusals flow_mod self.old.forwarding.tables))
-            (then_does (after_command flow_mod self.old) (begun flow_mod.buffer (held flow_mod.buffer self.old.forwarding.held))) self.old result self.new }
+            (then_does (after_command flow_mod self.old) (held_frame_begun flow_mod.buffer (held flow_mod.buffer self.old.forwarding.held)))
+            self.old result self.new }
     {
         let id = flow_mod.buffer;
         let mut before = self.datapath.tables.copy_of(flow_mod.table)?;
@@ -415,7 +416,7 @@ impl<L: Lookup> Core<L> {
 
     // A held frame begins at the first table, if one is held under that id. It runs as a copy.
     fn begin(&mut self, id: u32) -> Result<Effects, AllocError>
-        ensures ok { IfOk result (λ effects. begun id (held id self.old.forwarding.held) self.old ≡ does effects.items self.new) }
+        ensures ok { IfOk result (λ effects. held_frame_begun id (held id self.old.forwarding.held) self.old ≡ does effects.items self.new) }
         ensures err { OnErr result (self.new ≡ self.old) }
     {
         let Some(held) = self.datapath.held.frame(id) else {

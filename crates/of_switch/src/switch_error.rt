@@ -1,6 +1,6 @@
 //! Why a call did nothing.
 ghost use Rattle.std.specs.Prelude.{◌≡◌};
-ghost use Rattle.of_switch.specs.Calls.{number_of};
+ghost use Rattle.of_switch.specs.Calls.{error_number};
 ghost use Rattle.of_switch.specs.declared.switch_error.SwitchError.TheVariants.{NoMemory};
 
 use std::alloc::AllocError;
@@ -35,7 +35,7 @@ pub enum SwitchError {
 impl SwitchError {
     /// The number by which event files name it. 2 is not used.
     pub fn number(self) -> u32
-        ensures { result ≡ number_of self }
+        ensures { result ≡ error_number self }
     {
         self as u32
     }

@@ -6,7 +6,7 @@ use Rattle.of_layers.specs.declared.field.Field.{Field}
 use Rattle.of_layers.specs.declared.field.Field.TheVariants.{VlanVid, VlanPcp}
 use Rattle.of_layers.specs.Layers.{inner_tag}
 use Rattle.of_layers.specs.Reading.{layers_of}
-use Rattle.of_layers.specs.WellFormed.{Fits, AreTags}
+use Rattle.of_layers.specs.WellFormed.{FitsItems, AreTags}
 use Rattle.of_layers.proofs.FrameLemmas.{are_layers}
 use Rattle.of_rewrite.specs.Frames.{IsFrame}
 use Rattle.of_rewrite.specs.Views.{Tag, View, IsView, outermost, outermost_set, tag_of_numbers, tag_set}
@@ -54,7 +54,7 @@ all_small (a ∷ l) v h = all_small l (view_by (call_of a) v) (one_small a v h)
 
 -- ---- frames
 
-four_small : (t : List ℕ) → Fits inner_tag t → (tag_of_numbers t).vid < 2 ^ 12
+four_small : (t : List ℕ) → FitsItems inner_tag t → (tag_of_numbers t).vid < 2 ^ 12
 four_small [] h = absurd h
 four_small (a ∷ []) h = absurd h.1
 four_small (a ∷ b ∷ []) h = absurd h.1.1

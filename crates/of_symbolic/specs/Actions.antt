@@ -2,13 +2,13 @@
 use Rattle.std.specs.Prelude.{ℕ, List, [], ◌∷◌, Option, Some, None, IsTrue, ⊤}
 use Rattle.of_layers.specs.Fields.{is_settable}
 use Rattle.of_layers.specs.Reading.{is_tag_type}
-use Rattle.of_rewrite.specs.Calls.{Call, PushVlan, PopVlan, Set, SetTtl, DecTtl, frame_after}
+use Rattle.of_rewrite.specs.Calls.{FrameCall, PushVlan, PopVlan, Set, SetTtl, DecTtl, frame_after}
 use Rattle.of_rewrite.specs.Views.{View, view_after}
 use Rattle.of_actions.specs.declared.action.Action.{Action}
 use Rattle.of_actions.specs.declared.action.Action.TheVariants as actions
 
 -- the call that rewrites the frame; other actions have none
-abbrev pub call_of : Action → Option Call
+abbrev pub call_of : Action → Option FrameCall
 call_of (actions.PushVlan type) = Some (PushVlan type)
 call_of actions.PopVlan = Some PopVlan
 call_of (actions.SetNwTtl ttl) = Some (SetTtl ttl)
@@ -31,11 +31,11 @@ AreRewriting (a ∷ rest) = IsRewriting a × AreRewriting rest
 
 -- ---- the view and the frame after an action, and after several, the first one first
 
-abbrev pub view_by : Option Call → View → View
+abbrev pub view_by : Option FrameCall → View → View
 view_by None v = v
 view_by (Some call) v = view_after call v
 
-abbrev pub frame_by : Option Call → List ℕ → List ℕ
+abbrev pub frame_by : Option FrameCall → List ℕ → List ℕ
 frame_by None frame = frame
 frame_by (Some call) frame = frame_after call frame
 

@@ -25,10 +25,10 @@ is_tag_known number None (Some tag) = true
 is_tag_known number None None = false
 
 -- each field is known, except those of an unknown tag
-abbrev pub is_known : Overlay → Field → Bool
-is_known o VlanVid = is_tag_known (λ (k : PushedTag). k.vid) (slice_get o.pushed.items 0) o.own
-is_known o VlanPcp = is_tag_known (λ (k : PushedTag). k.pcp) (slice_get o.pushed.items 0) o.own
-is_known o f = true
+abbrev pub is_field_known : Overlay → Field → Bool
+is_field_known o VlanVid = is_tag_known (λ (k : PushedTag). k.vid) (slice_get o.pushed.items 0) o.own
+is_field_known o VlanPcp = is_tag_known (λ (k : PushedTag). k.pcp) (slice_get o.pushed.items 0) o.own
+is_field_known o f = true
 
 -- ---- the outermost tag of the packet
 

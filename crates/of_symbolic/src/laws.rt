@@ -11,7 +11,7 @@ ghost use Rattle.of_symbolic.specs.declared.overlay.Overlay.{Overlay};
 ghost use Rattle.of_symbolic.specs.Actions.{AreRewriting, frame_of_actions, view_of_actions};
 ghost use Rattle.of_symbolic.specs.declared.pulling.Pulled.{Pulled};
 ghost use Rattle.of_symbolic.specs.Overlays.{HasVids, IsOverlay, Shows, tags_in};
-ghost use Rattle.of_symbolic.specs.Overlaid.{is_known, overlaid};
+ghost use Rattle.of_symbolic.specs.Overlaid.{is_field_known, overlaid};
 ghost use Rattle.of_symbolic.specs.Pulling.{IsPulled, IsTrueOfFrames};
 ghost use Rattle.of_symbolic.specs.Tags.{PopsOwn};
 
@@ -32,7 +32,7 @@ pub fn rewritten_frames_have_views()
 /// `back`: PUSH_VLAN and then POP_VLAN leave what was known before.
 pub fn overlays_show_views()
     ensures view { (o : Overlay) (actions : List Action) (v : View) → IsOverlay o actions → Shows (value o.set) (tags_in o) v (view_of_actions actions v) }
-    ensures fields { (o : Overlay) (actions : List Action) (v : View) (port metadata : ℕ) (f : Field) → IsOverlay o actions → is_known o f ≡ true →
+    ensures fields { (o : Overlay) (actions : List Action) (v : View) (port metadata : ℕ) (f : Field) → IsOverlay o actions → is_field_known o f ≡ true →
         fields_seen (view_of_actions actions v) port metadata f ≡ overlaid o metadata (fields_seen v port 0) f }
     ensures tag { (o : Overlay) (actions : List Action) → IsOverlay o actions → o.own ≡ None → PopsOwn actions }
     ensures back { (o : Overlay) (actions : List Action) (type : ℕ) → IsOverlay o actions → IsOverlay o (actions ++ PushVlan type ∷ PopVlan ∷ []) }

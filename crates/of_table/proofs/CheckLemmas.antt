@@ -13,7 +13,7 @@ use Rattle.of_actions.specs.declared.action.Action.{Action}
 use Rattle.of_actions.specs.declared.action.Action.TheVariants.{SetField}
 use Rattle.of_actions.specs.declared.instruction.Instruction.{Instruction}
 use Rattle.of_actions.specs.declared.instruction.Instruction.TheVariants.{Apply, Clear, Write, Metadata, Goto}
-use Rattle.of_actions.specs.FlowCheck.{is_prerequisite_met, are_needs_met, goes_with, all_go_with}
+use Rattle.of_actions.specs.FlowCheck.{is_prerequisite_met, are_needs_met, has_prerequisites_met, all_go_with}
 use Rattle.of_table.specs.declared.selection.Selector.{Selector}
 use Rattle.of_table.specs.Table.{FlowEntry}
 use Rattle.of_table.specs.Selecting.{is_meant_by, is_meant, has_cookie, modifies}
@@ -33,7 +33,7 @@ needs_kept d m more (a ∷ rest) h =
     let p = and_true (is_prerequisite_met d a) (are_needs_met d rest) h in
     rw (need_kept d m more a p.0, needs_kept d m more rest p.1) refl
 
-still_goes : (d m : List MatchField) → ((n : Prerequisite) → is_met d n ≡ true → is_met m n ≡ true) → (i : Instruction) → goes_with d i ≡ true → goes_with m i ≡ true
+still_goes : (d m : List MatchField) → ((n : Prerequisite) → is_met d n ≡ true → is_met m n ≡ true) → (i : Instruction) → has_prerequisites_met d i ≡ true → has_prerequisites_met m i ≡ true
 still_goes d m more (Apply actions) h = needs_kept d m more actions h
 still_goes d m more Clear h = refl
 still_goes d m more (Write actions) h = needs_kept d m more actions h
@@ -43,7 +43,7 @@ still_goes d m more (Goto table) h = refl
 all_still_go : (d m : List MatchField) → ((n : Prerequisite) → is_met d n ≡ true → is_met m n ≡ true) → (is : List Instruction) → all_go_with d is ≡ true → all_go_with m is ≡ true
 all_still_go d m more [] h = refl
 all_still_go d m more (i ∷ is) h =
-    let p = and_true (goes_with d i) (all_go_with d is) h in
+    let p = and_true (has_prerequisites_met d i) (all_go_with d is) h in
     rw (still_goes d m more i p.0, all_still_go d m more is p.1) refl
 
 meant_goes : (o : Option ℕ) (w : Selector) (e : FlowEntry) (is : List Instruction) → IsMatch w.fields → IsMatch e.flow.fields → is_meant_by o w e ≡ true → all_go_with w.fields is ≡ true → all_go_with e.flow.fields is ≡ true

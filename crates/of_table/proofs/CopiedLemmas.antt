@@ -16,7 +16,7 @@ use Rattle.of_table.specs.Selecting.{stays, modified}
 use Rattle.of_table.specs.Tables.{Tables, NumberedTables, table_at, with_table, each_from, is_in, modified_table, modified_in, tables_of}
 use Rattle.of_table.specs.Copied.{NumberedCopy, swapped_in, swapped_out}
 use Rattle.of_table.specs.Deadlines.{NoneOver}
-use Rattle.of_table.specs.Sound.{AreSound, AllSound}
+use Rattle.of_table.specs.Sound.{AreSoundEntries, AllSound}
 use Rattle.of_table.proofs.Soundness.{sound_everywhere}
 use Rattle.of_table.proofs.TablesLemmas.{table_is}
 
@@ -29,9 +29,9 @@ copies_stay due es copies same none at lt =
 -- ---- a copy and its table change places
 
 -- the table that is taken out is sound
-pub taken_sound : (k : ℕ) (ns : List Numbered) (t d : Numbered) → k < length ns → t ≡ get_or ns k d → AllSound 0 (map table_of ns) → AreSound k (flows_of t.entries)
+pub taken_sound : (k : ℕ) (ns : List Numbered) (t d : Numbered) → k < length ns → t ≡ get_or ns k d → AllSound 0 (map table_of ns) → AreSoundEntries k (flows_of t.entries)
 taken_sound k ns t d lt is s =
-    let there : AreSound k (slice_index_or (map table_of ns) k empty_table).flows = sound_everywhere ns k _ refl s in
+    let there : AreSoundEntries k (slice_index_or (map table_of ns) k empty_table).flows = sound_everywhere ns k _ refl s in
     let same : slice_index_or (map table_of ns) k empty_table ≡ table_of t = get_or-map table_of ns k no_entries ∙ ap table_of (sym (table_is ns k t d lt is)) in
     rw same at there
 

@@ -11,7 +11,7 @@ use Rattle.of_table.specs.declared.selection.Cause.{Cause}
 use Rattle.of_table.specs.declared.selection.Cause.TheVariants.{Moment}
 use Rattle.of_table.specs.Table.{FlowEntry, is_same, with_flow}
 use Rattle.of_table.specs.Entries.{entry_of, same_entry, added_entries}
-use Rattle.of_table.specs.Selecting.{is_over, modifies, modified_by, modified_entries, modified_entry, reason_of, stays, told_by, told, kept_of}
+use Rattle.of_table.specs.Selecting.{is_over, modifies, modified_by, modified_entries, modified_entry, reason_of, stays, told_by, numbered_notices, kept_of}
 use Rattle.of_table.specs.Deadlines.{all_stay, NoneOver}
 use Rattle.of_table.proofs.Soundness.{all-filter, all-set}
 use Rattle.std.specs.Option.{option_map, option_to_list}
@@ -65,7 +65,7 @@ none_by : (table : ℕ) (e : Entry) (reason : Option FlowRemovedReason) → is_n
 none_by table e None h = refl
 none_by table e (Some reason) h = absurd cc
 
-pub none_told : (cause : Cause) (table : ℕ) (es : List Entry) → all_stay cause es ≡ true → told cause table es ≡ []
+pub none_told : (cause : Cause) (table : ℕ) (es : List Entry) → all_stay cause es ≡ true → numbered_notices cause table es ≡ []
 none_told cause table [] h = refl
 none_told cause table (e ∷ es) h =
     let both = and_true (stays cause (entry_of e)) (all_stay cause es) h in

@@ -4,7 +4,7 @@ use Rattle.std.specs.Prelude.{map}
 use Rattle.std.proofs.lemmas.List.{length-map}
 use Rattle.of_actions.specs.declared.instruction.Instruction.{Instruction}
 use Rattle.of_table.specs.Table.{FlowEntry}
-use Rattle.of_table.specs.Entries.{entry_of, flows_of, row_of, rows_of}
+use Rattle.of_table.specs.Entries.{entry_of, flows_of, classifier_row, rows_of}
 use Rattle.of_table.specs.Selecting.{modified_by, modified, modified_entries}
 use Rattle.of_table.specs.declared.selection.Selector.{Selector}
 use Rattle.of_table.specs.declared.entry.Entry.{Entry}
@@ -15,11 +15,11 @@ set_same {X} {Y} f (y ∷ xs) zero x d lt is = ap (λ (z : Y). z ∷ map f xs) i
 set_same {X} {Y} f (y ∷ xs) (suc k) x d lt is = ap (λ (zs : List Y). f y ∷ zs) (set_same f xs k x d (omega (arith, lt)) is)
 
 pub same_length : (es zs : List Entry) → rows_of es ≡ rows_of zs → length es ≡ length zs
-same_length es zs same = sym (length-map es row_of) ∙ ap length same ∙ length-map zs row_of
+same_length es zs same = sym (length-map es classifier_row) ∙ ap length same ∙ length-map zs classifier_row
 
 -- the classifier knows as much of it as before
-pub rows_kept : (es zs : List Entry) (k : ℕ) (e d : Entry) → k < length zs → rows_of es ≡ rows_of zs → row_of e ≡ row_of (get_or es k d) → rows_of (set es k e) ≡ rows_of zs
-rows_kept es zs k e d lt same is = set_same row_of es k e d (omega (arith, lt, same_length es zs same)) is ∙ same
+pub rows_kept : (es zs : List Entry) (k : ℕ) (e d : Entry) → k < length zs → rows_of es ≡ rows_of zs → classifier_row e ≡ classifier_row (get_or es k d) → rows_of (set es k e) ≡ rows_of zs
+rows_kept es zs k e d lt same is = set_same classifier_row es k e d (omega (arith, lt, same_length es zs same)) is ∙ same
 
 -- the same without the numbers
 pub flows_modified : (w : Selector) (is : List Instruction) (reset : Bool) (es : List Entry) → flows_of (modified_entries w is reset es) ≡ modified w is reset (flows_of es)

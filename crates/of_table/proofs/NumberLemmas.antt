@@ -10,19 +10,19 @@ use Rattle.std.proofs.lemmas.List.Folds.{find_at}
 use Rattle.of_wire.specs.Numbered.{is_used, is_distinct}
 use Rattle.of_wire.proofs.NumberedLemmas.{distinct-map, used_at}
 use Rattle.of_classifier.specs.Rows.{row_number, is_same_row, same_of}
-use Rattle.of_classifier.specs.Winner.{number_of}
+use Rattle.of_classifier.specs.Winner.{winner_number}
 use Rattle.of_table.proofs.PlaceLemmas.{any-map, any-place, find-map, find_none, place-map, position_some, position_none, position-first, position-later}
 use Rattle.of_oxm.specs.declared.match_field.MatchField.{MatchField}
 use Rattle.of_table.specs.Table.{flow_at}
-use Rattle.of_table.specs.Entries.{entry_of, flows_of, row_of, rows_of, entry_number, is_there, place_of, find_number}
+use Rattle.of_table.specs.Entries.{entry_of, flows_of, classifier_row, rows_of, entry_number, is_entry_there, place_of, find_number}
 use Rattle.of_table.specs.declared.entry.Entry.{Entry}
 
 -- the classifier's numbers are distinct exactly where those of the entries are
 pub distinct-rows : (es : List Entry) → is_distinct row_number (rows_of es) ≡ is_distinct entry_number es
-distinct-rows es = distinct-map row_of row_number es
+distinct-rows es = distinct-map classifier_row row_number es
 
-pub used-rows : (number : ℕ) (es : List Entry) → is_used row_number number (rows_of es) ≡ is_there number es
-used-rows number es = any-map row_of (λ r. eqb r.number number) es ∙ sym (any-map entry_number (λ n. eqb n number) es)
+pub used-rows : (number : ℕ) (es : List Entry) → is_used row_number number (rows_of es) ≡ is_entry_there number es
+used-rows number es = any-map classifier_row (λ r. eqb r.number number) es ∙ sym (any-map entry_number (λ n. eqb n number) es)
 
 place-number : (number : ℕ) (es : List Entry) → place_of number es ≡ position_or_len (λ e. eqb e.number number) es
 place-number number es = place-map entry_number (λ n. eqb n number) es
@@ -43,7 +43,7 @@ number_some number es k h =
     let s = position_some (λ e. eqb e.number number) es k h in
     (s.0 ∙ sym (place-number number es), s.1)
 
-pub number_none : (number : ℕ) (es : List Entry) → position (λ e. eqb e.number number) es ≡ None → is_there number es ≡ false
+pub number_none : (number : ℕ) (es : List Entry) → position (λ e. eqb e.number number) es ≡ None → is_entry_there number es ≡ false
 number_none number es h = any-map entry_number (λ n. eqb n number) es ∙ position_none (λ e. eqb e.number number) es h
 
 -- ---- the place of the first entry that passes is that of its number
@@ -56,7 +56,7 @@ found_there p (x ∷ es) e h = by_test (p x) h (λ g. found_there p es e g)
     by_test true g ih = let same : x ≡ e = cc in rw (← same) (grind (arith, nat_tests))
     by_test false g ih = let used = ih g in grind (arith, nat_tests, used)
 
-pub found_is_there : (p : Entry → Bool) (es : List Entry) (e : Entry) → find p es ≡ Some e → is_there e.number es ≡ true
+pub found_is_there : (p : Entry → Bool) (es : List Entry) (e : Entry) → find p es ≡ Some e → is_entry_there e.number es ≡ true
 found_is_there p es e h = any-map entry_number (λ n. eqb n e.number) es ∙ found_there p es e h
 
 here : (e : Entry) (es : List Entry) → place_of e.number (e ∷ es) ≡ 0
@@ -108,29 +108,29 @@ number_place es e p h =
     rw within (ap Some (sym (place-number e.number es)))
 
 -- the number that a classifier finds for a match and a priority is that of the entry
-answers : (fields : List MatchField) (priority : ℕ) (es : List Entry) → number_of (same_of (rows_of es) fields priority) ≡ option_map entry_number (find (λ e. is_same_row fields priority (row_of e)) es)
-answers fields priority es = ap number_of (find-map row_of (is_same_row fields priority) es) ∙ by_case (find (λ e. is_same_row fields priority (row_of e)) es)
+answers : (fields : List MatchField) (priority : ℕ) (es : List Entry) → winner_number (same_of (rows_of es) fields priority) ≡ option_map entry_number (find (λ e. is_same_row fields priority (classifier_row e)) es)
+answers fields priority es = ap winner_number (find-map classifier_row (is_same_row fields priority) es) ∙ by_case (find (λ e. is_same_row fields priority (classifier_row e)) es)
   where
-    by_case : (o : Option Entry) → number_of (option_map row_of o) ≡ option_map entry_number o
+    by_case : (o : Option Entry) → winner_number (option_map classifier_row o) ≡ option_map entry_number o
     by_case None = refl
     by_case (Some e) = refl
 
-pub same_some : (fields : List MatchField) (priority : ℕ) (es : List Entry) (number : ℕ) → is_distinct entry_number es ≡ true → Some number ≡ number_of (same_of (rows_of es) fields priority) → position (λ e. eqb e.number number) es ≡ position (λ e. is_same_row fields priority (row_of e)) es
-same_some fields priority es number distinct is = by_case (find (λ e. is_same_row fields priority (row_of e)) es) refl (is ∙ answers fields priority es)
+pub same_some : (fields : List MatchField) (priority : ℕ) (es : List Entry) (number : ℕ) → is_distinct entry_number es ≡ true → Some number ≡ winner_number (same_of (rows_of es) fields priority) → position (λ e. eqb e.number number) es ≡ position (λ e. is_same_row fields priority (classifier_row e)) es
+same_some fields priority es number distinct is = by_case (find (λ e. is_same_row fields priority (classifier_row e)) es) refl (is ∙ answers fields priority es)
   where
-    by_case : (o : Option Entry) → find (λ e. is_same_row fields priority (row_of e)) es ≡ o → Some number ≡ option_map entry_number o → position (λ e. eqb e.number number) es ≡ position (λ e. is_same_row fields priority (row_of e)) es
+    by_case : (o : Option Entry) → find (λ e. is_same_row fields priority (classifier_row e)) es ≡ o → Some number ≡ option_map entry_number o → position (λ e. eqb e.number number) es ≡ position (λ e. is_same_row fields priority (classifier_row e)) es
     by_case None found h = absurd cc
     by_case (Some e) found h =
         let same : e.number ≡ number = cc in
-        let there : position (λ x. eqb x.number number) es ≡ Some (place_of e.number es) = ap (λ (n : ℕ). position (λ x. eqb x.number n) es) (sym same) ∙ number_place es e (λ x. is_same_row fields priority (row_of x)) found in
-        let first : position (λ x. is_same_row fields priority (row_of x)) es ≡ Some (place_of e.number es) = rw found at (found_place (λ x. is_same_row fields priority (row_of x)) es distinct) in
+        let there : position (λ x. eqb x.number number) es ≡ Some (place_of e.number es) = ap (λ (n : ℕ). position (λ x. eqb x.number n) es) (sym same) ∙ number_place es e (λ x. is_same_row fields priority (classifier_row x)) found in
+        let first : position (λ x. is_same_row fields priority (classifier_row x)) es ≡ Some (place_of e.number es) = rw found at (found_place (λ x. is_same_row fields priority (classifier_row x)) es distinct) in
         there ∙ sym first
 
-pub same_none : (fields : List MatchField) (priority : ℕ) (es : List Entry) → is_distinct entry_number es ≡ true → None ≡ number_of (same_of (rows_of es) fields priority) → position (λ e. is_same_row fields priority (row_of e)) es ≡ None
-same_none fields priority es distinct is = by_case (find (λ e. is_same_row fields priority (row_of e)) es) refl (is ∙ answers fields priority es)
+pub same_none : (fields : List MatchField) (priority : ℕ) (es : List Entry) → is_distinct entry_number es ≡ true → None ≡ winner_number (same_of (rows_of es) fields priority) → position (λ e. is_same_row fields priority (classifier_row e)) es ≡ None
+same_none fields priority es distinct is = by_case (find (λ e. is_same_row fields priority (classifier_row e)) es) refl (is ∙ answers fields priority es)
   where
-    by_case : (o : Option Entry) → find (λ e. is_same_row fields priority (row_of e)) es ≡ o → None ≡ option_map entry_number o → position (λ e. is_same_row fields priority (row_of e)) es ≡ None
-    by_case None found h = rw found at (found_place (λ x. is_same_row fields priority (row_of x)) es distinct)
+    by_case : (o : Option Entry) → find (λ e. is_same_row fields priority (classifier_row e)) es ≡ o → None ≡ option_map entry_number o → position (λ e. is_same_row fields priority (classifier_row e)) es ≡ None
+    by_case None found h = rw found at (found_place (λ x. is_same_row fields priority (classifier_row x)) es distinct)
     by_case (Some e) found h = absurd cc
 
 -- what is at the place of a number
@@ -142,7 +142,7 @@ number_at number es k e h is =
 pub number_nowhere : (number : ℕ) (es : List Entry) → position (λ x. eqb x.number number) es ≡ None → find_number number es ≡ None
 number_nowhere number es h = find_none (λ x. eqb x.number number) es (position_none (λ x. eqb x.number number) es h)
 
-pub there_not_none : {A : Type 0} (number : ℕ) (es : List Entry) → is_there number es ≡ true → find_number number es ≡ None → A
+pub there_not_none : {A : Type 0} (number : ℕ) (es : List Entry) → is_entry_there number es ≡ true → find_number number es ≡ None → A
 there_not_none number es there none =
     let some : list_any (λ e. eqb e.number number) es ≡ true = sym (any-map entry_number (λ n. eqb n number) es) ∙ there in
     never (find_some (λ e. eqb e.number number) es some) none

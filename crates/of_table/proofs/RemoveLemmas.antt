@@ -10,8 +10,8 @@ use Rattle.of_wire.proofs.NumberedLemmas.{without_unused}
 use Rattle.of_classifier.specs.declared.Row.{Row}
 use Rattle.of_classifier.specs.Rows.{row_number}
 use Rattle.of_table.proofs.PlaceLemmas.{filter-map}
-use Rattle.of_table.specs.Entries.{entry_of, flows_of, row_of, rows_of}
-use Rattle.of_table.specs.Selecting.{Notice, Told, stays, left, reason_of, notice_by, notices, notice_of, notices_of, with_number, told_by, told, all_told, kept_of}
+use Rattle.of_table.specs.Entries.{entry_of, flows_of, classifier_row, rows_of}
+use Rattle.of_table.specs.Selecting.{Notice, NumberedNotice, stays, entries_left, reason_of, notice_by, notices, notice_of, notices_of, numbered_notice, told_by, numbered_notices, all_told, kept_of}
 use Rattle.of_wire.specs.declared.reasons.FlowRemovedReason.{FlowRemovedReason}
 use Rattle.of_table.specs.declared.selection.Cause.{Cause}
 use Rattle.of_table.specs.declared.selection.Removed.{Removed}
@@ -51,9 +51,9 @@ between : (b : Bool) (k r : List Entry) (e : Entry) → is_distinct row_number (
     cond b (rows_of (k ++ e ∷ r)) (without row_number e.number (rows_of (k ++ e ∷ r))) ≡ rows_of ((k ++ cond b (e ∷ []) []) ++ r)
 between true k r e distinct = ap rows_of (sym (append_assoc k (e ∷ []) r))
 between false k r e distinct =
-    let parts : rows_of (k ++ e ∷ r) ≡ rows_of k ++ row_of e ∷ rows_of r = map-append row_of k (e ∷ r) in
-    let apart : is_distinct row_number (rows_of k ++ row_of e ∷ rows_of r) ≡ true = rw parts at distinct in
-    ap (without row_number e.number) parts ∙ without_between row_number (rows_of k) (rows_of r) (row_of e) apart ∙ sym (map-append row_of k r)
+    let parts : rows_of (k ++ e ∷ r) ≡ rows_of k ++ classifier_row e ∷ rows_of r = map-append classifier_row k (e ∷ r) in
+    let apart : is_distinct row_number (rows_of k ++ classifier_row e ∷ rows_of r) ≡ true = rw parts at distinct in
+    ap (without row_number e.number) parts ∙ without_between row_number (rows_of k) (rows_of r) (classifier_row e) apart ∙ sym (map-append classifier_row k r)
     ∙ ap (λ (zs : List Entry). rows_of (zs ++ r)) (sym (append-nil k))
 
 -- the entry that comes next is removed if the cause applies to it
@@ -91,11 +91,11 @@ taken_stays cause es i e before after lt at is distinct none same = taken_more c
 
 -- ---- the same without the numbers
 
-pub flows_left : (cause : Cause) (es : List Entry) → flows_of (kept_of cause es) ≡ left cause (flows_of es)
+pub flows_left : (cause : Cause) (es : List Entry) → flows_of (kept_of cause es) ≡ entries_left cause (flows_of es)
 flows_left cause es = sym (filter-map entry_of (stays cause) es)
 
 -- a notice without the number
-abbrev pub untold : Told → Notice
+abbrev pub untold : NumberedNotice → Notice
 untold t = record { table = t.table; reason = t.reason; entry = entry_of t.entry }
 
 pub notices_all : (removed : List Removed) → notices_of removed ≡ map untold (all_told removed)
@@ -106,12 +106,12 @@ told_one : (table : ℕ) (e : Entry) (reason : Option FlowRemovedReason) → map
 told_one table e None = refl
 told_one table e (Some reason) = by_test e.flow.flags.send_removed
   where
-    by_test : (b : Bool) → map untold (option_to_list (option_map (with_number e) (cond b (Some (record { table = table; reason = reason; entry = entry_of e })) None))) ≡ option_to_list (cond b (Some (record { table = table; reason = reason; entry = entry_of e })) None)
+    by_test : (b : Bool) → map untold (option_to_list (option_map (numbered_notice e) (cond b (Some (record { table = table; reason = reason; entry = entry_of e })) None))) ≡ option_to_list (cond b (Some (record { table = table; reason = reason; entry = entry_of e })) None)
     by_test true = refl
     by_test false = refl
 
-pub notices_told : (cause : Cause) (table : ℕ) (es : List Entry) → map untold (told cause table es) ≡ notices cause table (flows_of es)
+pub notices_told : (cause : Cause) (table : ℕ) (es : List Entry) → map untold (numbered_notices cause table es) ≡ notices cause table (flows_of es)
 notices_told cause table [] = refl
 notices_told cause table (e ∷ es) =
-    map-append untold (option_to_list (told_by table e (reason_of cause (entry_of e)))) (told cause table es)
+    map-append untold (option_to_list (told_by table e (reason_of cause (entry_of e)))) (numbered_notices cause table es)
     ∙ (λ i. told_one table e (reason_of cause (entry_of e)) i ++ notices_told cause table es i)

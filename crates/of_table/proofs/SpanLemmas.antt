@@ -18,12 +18,12 @@ use Rattle.of_table.specs.declared.selection.Cause.{Cause}
 use Rattle.of_table.specs.declared.selection.Cause.TheVariants.{Delete}
 use Rattle.of_wire.proofs.Changing.{changed_to}
 use Rattle.of_table.specs.Table.{FlowEntry}
-use Rattle.of_table.specs.Entries.{Numbered, entry_of, flows_of, row_of, on_entry}
-use Rattle.of_table.specs.Selecting.{is_meant_by, is_meant, modifies, selects, modified_by, modified_entries, stays, reason_of, kept_of, Told, told_by, told}
+use Rattle.of_table.specs.Entries.{Numbered, entry_of, flows_of, classifier_row, on_entry}
+use Rattle.of_table.specs.Selecting.{is_meant_by, is_meant, modifies, selects, modified_by, modified_entries, stays, reason_of, kept_of, NumberedNotice, told_by, numbered_notices}
 use Rattle.of_table.specs.Copies.{Supply, is_modified, wanted, wanted_in}
 use Rattle.of_table.specs.Tables.{is_in, concerns, told_table, kept_table}
 use Rattle.of_table.specs.Deadlines.{all_stay}
-use Rattle.of_table.specs.Sound.{Key, key_of, is_same_key, are_unlike}
+use Rattle.of_table.specs.Sound.{Key, entry_key, is_same_key, are_unlike}
 use Rattle.of_table.specs.Spans.{Outside}
 use Rattle.of_table.proofs.PlaceLemmas.{any-map, position_none}
 use Rattle.of_table.proofs.Unlike.{same_key, unlike_parts, none_first, none_second, filter_fewer}
@@ -60,14 +60,14 @@ none_inside p xs h = record { order = omega arith; within = omega arith; before 
 -- ---- the entry of a priority and match
 
 abbrev pub of_key : Key → Entry → Bool
-of_key key e = is_same_key key (key_of (entry_of e))
+of_key key e = is_same_key key (entry_key (entry_of e))
 
-none_behind : (key : Key) (es : List Entry) (k : ℕ) (d : Entry) → are_unlike (map key_of (flows_of es)) ≡ true → k < length es → of_key key (get_or es k d) ≡ true → list_any (of_key key) (drop (suc k) es) ≡ false
+none_behind : (key : Key) (es : List Entry) (k : ℕ) (d : Entry) → are_unlike (map entry_key (flows_of es)) ≡ true → k < length es → of_key key (get_or es k d) ≡ true → list_any (of_key key) (drop (suc k) es) ≡ false
 none_behind key [] k d unlike lt is = absurd (omega (arith, lt))
 none_behind key (e ∷ es) zero d unlike lt is =
     let parts = unlike_parts (entry_of e) (flows_of es) unlike in
-    let same : key_of (entry_of e) ≡ key = same_key key (key_of (entry_of e)) is in
-    sym (any-map entry_of (λ f. is_same_key key (key_of f)) es) ∙ subst (λ (l : Key). list_any (λ f. is_same_key l (key_of f)) (flows_of es) ≡ false) same parts.0
+    let same : entry_key (entry_of e) ≡ key = same_key key (entry_key (entry_of e)) is in
+    sym (any-map entry_of (λ f. is_same_key key (entry_key f)) es) ∙ subst (λ (l : Key). list_any (λ f. is_same_key l (entry_key f)) (flows_of es) ≡ false) same parts.0
 none_behind key (e ∷ es) (suc k) d unlike lt is = none_behind key es k d (unlike_parts (entry_of e) (flows_of es) unlike).1 (omega (arith, lt)) is
 
 none_before : {X : Type 0} (p : X → Bool) (xs : List X) (k : ℕ) (d : X) → k ≤ length xs → ((j : ℕ) → j < k → p (get_or xs j d) ≡ false) → list_any p (take k xs) ≡ false
@@ -76,31 +76,31 @@ none_before p [] (suc k) d le h = refl
 none_before p (x ∷ xs) (suc k) d le h = rw (h 0 (omega arith), none_before p xs k d (omega (arith, le)) (λ j lt. h (suc j) (omega (arith, lt)))) refl
 
 -- where it exists, there is no other of them outside
-inside_at : (fields : List MatchField) (priority : ℕ) (es : List Entry) (k : ℕ) (d : Entry) → are_unlike (map key_of (flows_of es)) ≡ true → position (λ e. is_same_row fields priority (row_of e)) es ≡ Some k →
-    Outside (λ e. is_same_row fields priority (row_of e)) es k (k + 1)
+inside_at : (fields : List MatchField) (priority : ℕ) (es : List Entry) (k : ℕ) (d : Entry) → are_unlike (map entry_key (flows_of es)) ≡ true → position (λ e. is_same_row fields priority (classifier_row e)) es ≡ Some k →
+    Outside (λ e. is_same_row fields priority (classifier_row e)) es k (k + 1)
 inside_at fields priority es k d unlike h =
     let key : Key = record { priority = priority; fields = fields } in
-    let s = position-Some (λ e. is_same_row fields priority (row_of e)) es k d h in
+    let s = position-Some (λ e. is_same_row fields priority (classifier_row e)) es k d h in
     record {
       order = omega arith;
       within = omega (arith, s.0);
-      before = none_before (λ e. is_same_row fields priority (row_of e)) es k d (omega (arith, s.0)) s.2;
+      before = none_before (λ e. is_same_row fields priority (classifier_row e)) es k d (omega (arith, s.0)) s.2;
       behind = rw add-one (none_behind key es k d unlike s.0 s.1);
     }
 
-pub one_inside : (fields : List MatchField) (priority : ℕ) (es : List Entry) (k : ℕ) → are_unlike (map key_of (flows_of es)) ≡ true → position (λ e. is_same_row fields priority (row_of e)) es ≡ Some k →
-    Outside (λ e. is_same_row fields priority (row_of e)) es k (k + 1)
+pub one_inside : (fields : List MatchField) (priority : ℕ) (es : List Entry) (k : ℕ) → are_unlike (map entry_key (flows_of es)) ≡ true → position (λ e. is_same_row fields priority (classifier_row e)) es ≡ Some k →
+    Outside (λ e. is_same_row fields priority (classifier_row e)) es k (k + 1)
 one_inside fields priority [] k unlike h = absurd cc
 one_inside fields priority (e ∷ es) k unlike h = inside_at fields priority (e ∷ es) k e unlike h
 
 -- a strict command selects that entry alone
-pub meant_inside : (w : Selector) (priority : ℕ) (es : List Entry) (k : ℕ) → w.priority ≡ Some priority → are_unlike (map key_of (flows_of es)) ≡ true → position (λ e. is_same_row w.fields priority (row_of e)) es ≡ Some k →
+pub meant_inside : (w : Selector) (priority : ℕ) (es : List Entry) (k : ℕ) → w.priority ≡ Some priority → are_unlike (map entry_key (flows_of es)) ≡ true → position (λ e. is_same_row w.fields priority (classifier_row e)) es ≡ Some k →
     Outside (λ e. is_meant w (entry_of e)) es k (k + 1)
 meant_inside w priority es k is unlike h = subst (λ (o : Option ℕ). Outside (λ e. is_meant_by o w (entry_of e)) es k (k + 1)) (sym is) (one_inside w.fields priority es k unlike h)
 
-pub meant_nowhere : (w : Selector) (priority : ℕ) (es : List Entry) → w.priority ≡ Some priority → position (λ e. is_same_row w.fields priority (row_of e)) es ≡ None → Outside (λ e. is_meant w (entry_of e)) es 0 0
+pub meant_nowhere : (w : Selector) (priority : ℕ) (es : List Entry) → w.priority ≡ Some priority → position (λ e. is_same_row w.fields priority (classifier_row e)) es ≡ None → Outside (λ e. is_meant w (entry_of e)) es 0 0
 meant_nowhere w priority es is h =
-    subst (λ (o : Option ℕ). Outside (λ e. is_meant_by o w (entry_of e)) es 0 0) (sym is) (none_inside (λ e. is_same_row w.fields priority (row_of e)) es (position_none (λ e. is_same_row w.fields priority (row_of e)) es h))
+    subst (λ (o : Option ℕ). Outside (λ e. is_meant_by o w (entry_of e)) es 0 0) (sym is) (none_inside (λ e. is_same_row w.fields priority (classifier_row e)) es (position_none (λ e. is_same_row w.fields priority (classifier_row e)) es h))
 
 -- ---- what a span has is what all have
 
@@ -200,23 +200,23 @@ none_from_all s (x ∷ xs) h = by_test (s x) h (none_from_all s xs)
 pub none_going : (cause : Cause) (es : List Entry) → all_stay cause es ≡ true → Outside (λ e. not (stays cause (entry_of e))) es 0 0
 none_going cause es h = none_inside (λ e. not (stays cause (entry_of e))) es (none_from_all (λ e. stays cause (entry_of e)) es h)
 
-pub told_inside : (cause : Cause) (table : ℕ) (es : List Entry) (a b : ℕ) → Outside (λ e. not (stays cause (entry_of e))) es a b → told cause table (slice_range es a b) ≡ told cause table es
+pub told_inside : (cause : Cause) (table : ℕ) (es : List Entry) (a b : ℕ) → Outside (λ e. not (stays cause (entry_of e))) es a b → numbered_notices cause table (slice_range es a b) ≡ numbered_notices cause table es
 told_inside cause table es a b o =
     let f = λ (e : Entry). option_to_list (told_by table e (reason_of cause (entry_of e))) in
-    let before : told cause table (take a es) ≡ [] = none_told cause table (take a es) (all_from_none (λ e. stays cause (entry_of e)) (take a es) o.before) in
-    let behind : told cause table (drop b es) ≡ [] = none_told cause table (drop b es) (all_from_none (λ e. stays cause (entry_of e)) (drop b es) o.behind) in
+    let before : numbered_notices cause table (take a es) ≡ [] = none_told cause table (take a es) (all_from_none (λ e. stays cause (entry_of e)) (take a es) o.before) in
+    let behind : numbered_notices cause table (drop b es) ≡ [] = none_told cause table (drop b es) (all_from_none (λ e. stays cause (entry_of e)) (drop b es) o.behind) in
     sym (
-    ap (told cause table) (in_parts es a b o.order) ∙ flat_map-append f (take a es) (slice_range es a b ++ drop b es)
+    ap (numbered_notices cause table) (in_parts es a b o.order) ∙ flat_map-append f (take a es) (slice_range es a b ++ drop b es)
     ∙ (λ i. before i ++ flat_map-append f (slice_range es a b) (drop b es) i)
-    ∙ ap (λ (ts : List Told). told cause table (slice_range es a b) ++ ts) behind
-    ∙ append-nil (told cause table (slice_range es a b))
+    ∙ ap (λ (ts : List NumberedNotice). numbered_notices cause table (slice_range es a b) ++ ts) behind
+    ∙ append-nil (numbered_notices cause table (slice_range es a b))
     )
 
-pub told_by_span : {A E : Type 0} (r : Result A E) (cause : Cause) (k : ℕ) (t : Numbered) (es : List Entry) (a b : ℕ) (before after : List Told) → concerns cause k ≡ true → es ≡ t.entries → Outside (λ e. not (stays cause (entry_of e))) t.entries a b →
-    OnOk r (after ≡ before ++ told cause k (slice_range es a b)) → OnOk r (after ≡ before ++ told_table cause k t)
+pub told_by_span : {A E : Type 0} (r : Result A E) (cause : Cause) (k : ℕ) (t : Numbered) (es : List Entry) (a b : ℕ) (before after : List NumberedNotice) → concerns cause k ≡ true → es ≡ t.entries → Outside (λ e. not (stays cause (entry_of e))) t.entries a b →
+    OnOk r (after ≡ before ++ numbered_notices cause k (slice_range es a b)) → OnOk r (after ≡ before ++ told_table cause k t)
 told_by_span (Ok x) cause k t es a b before after for same o made =
-    let all : told cause k (slice_range es a b) ≡ told_table cause k t = ap (λ (xs : List Entry). told cause k (slice_range xs a b)) same ∙ told_inside cause k t.entries a b o ∙ rw for refl in
-    made ∙ ap (λ (ts : List Told). before ++ ts) all
+    let all : numbered_notices cause k (slice_range es a b) ≡ told_table cause k t = ap (λ (xs : List Entry). numbered_notices cause k (slice_range xs a b)) same ∙ told_inside cause k t.entries a b o ∙ rw for refl in
+    made ∙ ap (λ (ts : List NumberedNotice). before ++ ts) all
 told_by_span (Err e) cause k t es a b before after for same o made = made
 
 -- nothing is removed from an empty span
@@ -254,10 +254,10 @@ one_goes cause es k d o is = one_split cause es k d o ∙ rw (is, add-one k) ref
 -- ---- at most one
 
 -- a filter by priority and match has that one entry alone
-pub one_of_key : (fields : List MatchField) (priority : ℕ) (es : List Entry) (k : ℕ) → are_unlike (map key_of (flows_of es)) ≡ true → position (λ e. is_same_row fields priority (row_of e)) es ≡ Some k →
-    length (filter (λ e. is_same_row fields priority (row_of e)) es) ≤ 1
+pub one_of_key : (fields : List MatchField) (priority : ℕ) (es : List Entry) (k : ℕ) → are_unlike (map entry_key (flows_of es)) ≡ true → position (λ e. is_same_row fields priority (classifier_row e)) es ≡ Some k →
+    length (filter (λ e. is_same_row fields priority (classifier_row e)) es) ≤ 1
 one_of_key fields priority es k unlike h =
-    let p = λ (e : Entry). is_same_row fields priority (row_of e) in
+    let p = λ (e : Entry). is_same_row fields priority (classifier_row e) in
     let o = one_inside fields priority es k unlike h in
     let short : length (slice_range es k (k + 1)) ≤ 1 = omega (arith, length-take (k + 1 - k) (drop k es)) in
     rw (filter_inside p es k (k + 1) o) (omega (arith, short, filter_fewer p (slice_range es k (k + 1))))

@@ -10,14 +10,14 @@ use Rattle.of_table.proofs.CopyLemmas.{replicate_more}
 use Rattle.of_table.proofs.AddLemmas.{flows_added}
 use Rattle.of_table.specs.declared.flow.Flow.{Flow}
 use Rattle.of_table.specs.Table.{FlowEntry, Table, empty_table, added}
-use Rattle.of_table.specs.Entries.{Numbered, AddsEntry, IsNumberFor, added_entries, no_entries, table_of, flows_of, numbers_of}
-use Rattle.of_table.specs.Selecting.{Told, left, kept_of, modified, modified_entries, notices, notices_of, told, all_told}
+use Rattle.of_table.specs.Entries.{Numbered, AddsEntry, IsNumberFor, added_entries, no_entries, table_of, flows_of, entry_numbers}
+use Rattle.of_table.specs.Selecting.{NumberedNotice, entries_left, kept_of, modified, modified_entries, notices, notices_of, numbered_notices, all_told}
 use Rattle.of_table.specs.Copies.{wanted_in, wanted_from}
 use Rattle.of_table.specs.declared.selection.Cause.{Cause}
 use Rattle.of_table.specs.declared.selection.Cause.TheVariants.{Delete, Group}
 use Rattle.of_table.specs.declared.selection.Selector.{Selector}
 use Rattle.of_table.specs.declared.selection.Removed.{Removed}
-use Rattle.of_table.specs.Tables.{NumberedTables, AddsFlow, numbered_at, added_to, is_in, concerns, table_at, with_table, tables_of, all_numbers, each_from, cause_at, latest_after, left_table, left_in, modified_table, modified_in, table_notices, notices_from, notices_in, modified_numbered, all_modified, kept_table, all_kept, told_table, told_from, told_in}
+use Rattle.of_table.specs.Tables.{NumberedTables, AddsFlow, numbered_at, added_to, is_in, concerns, table_at, with_table, tables_of, all_numbers, each_from, cause_at, latest_after, left_table, left_in, modified_table, modified_in, table_notices, notices_from, notices_in, modified_numbered, all_modified, kept_table, all_kept, told_table, numbered_notices_from, told_in}
 
 any_default : {X : Type 0} (xs : List X) (k : ℕ) (c d : X) → k < length xs → get_or xs k c ≡ get_or xs k d
 any_default [] k c d lt = absurd (omega (arith, lt))
@@ -48,9 +48,9 @@ tables_set ns k latest old new d f lt is by =
     let changed : map table_of (set ns k new) ≡ slice_set (map table_of ns) k (f (slice_index_or (map table_of ns) k empty_table)) = map-set table_of ns k new ∙ ap (set (map table_of ns) k) (by ∙ ap f value) in
     λ j. record { tables = changed j; latest = latest }
 
-pub numbers_set : (ns : List Numbered) (k latest : ℕ) (old new d : Numbered) → k < length ns → old ≡ get_or ns k d → numbers_of new.entries ≡ numbers_of old.entries →
+pub numbers_set : (ns : List Numbered) (k latest : ℕ) (old new d : Numbered) → k < length ns → old ≡ get_or ns k d → entry_numbers new.entries ≡ entry_numbers old.entries →
     all_numbers (record { tables = set ns k new; latest = latest }) ≡ all_numbers (record { tables = ns; latest = latest })
-numbers_set ns k latest old new d lt is same = set_same (λ t. numbers_of t.entries) ns k new d lt (same ∙ ap (λ (t : Numbered). numbers_of t.entries) is)
+numbers_set ns k latest old new d lt is same = set_same (λ t. entry_numbers t.entries) ns k new d lt (same ∙ ap (λ (t : Numbered). entry_numbers t.entries) is)
 
 -- ---- tables changed one after the other, each by its number
 
@@ -87,19 +87,19 @@ pub each_all : {X : Type 0} (f : ℕ → X → X) (k : ℕ) (ts : List X) → le
 each_all f k ts le = rw (take_all k ts le, drop_all k ts le) (append-nil (each_from f 0 ts))
 
 -- the notices of one more table
-told_more_from : (cause : Cause) (j k : ℕ) (ts : List Numbered) (d : Numbered) → k < length ts → told_from cause j (take k ts) ++ told_table cause (j + k) (get_or ts k d) ≡ told_from cause j (take (suc k) ts)
+told_more_from : (cause : Cause) (j k : ℕ) (ts : List Numbered) (d : Numbered) → k < length ts → numbered_notices_from cause j (take k ts) ++ told_table cause (j + k) (get_or ts k d) ≡ numbered_notices_from cause j (take (suc k) ts)
 told_more_from cause j k [] d lt = absurd (omega (arith, lt))
 told_more_from cause j zero (t ∷ ts) d lt = let same : j + 0 ≡ j = omega arith in ap (λ (i : ℕ). told_table cause i t) same ∙ sym (append-nil (told_table cause j t))
 told_more_from cause j (suc k) (t ∷ ts) d lt =
     let same : j + suc k ≡ suc j + k = omega arith in
-    append_assoc (told_table cause j t) (told_from cause (suc j) (take k ts)) (told_table cause (j + suc k) (get_or ts k d))
-    ∙ ap (λ (ns : List Told). told_table cause j t ++ ns) (ap (λ (i : ℕ). told_from cause (suc j) (take k ts) ++ told_table cause i (get_or ts k d)) same ∙ told_more_from cause (suc j) k ts d (omega (arith, lt)))
+    append_assoc (told_table cause j t) (numbered_notices_from cause (suc j) (take k ts)) (told_table cause (j + suc k) (get_or ts k d))
+    ∙ ap (λ (ns : List NumberedNotice). told_table cause j t ++ ns) (ap (λ (i : ℕ). numbered_notices_from cause (suc j) (take k ts) ++ told_table cause i (get_or ts k d)) same ∙ told_more_from cause (suc j) k ts d (omega (arith, lt)))
 
-pub told_more : (cause : Cause) (k : ℕ) (ts : List Numbered) (d : Numbered) (before now now' : List Told) → k < length ts → d ≡ get_or ts k d → now ≡ before ++ told_from cause 0 (take k ts) → now' ≡ now ++ told_table cause k d → now' ≡ before ++ told_from cause 0 (take (k + 1) ts)
+pub told_more : (cause : Cause) (k : ℕ) (ts : List Numbered) (d : Numbered) (before now now' : List NumberedNotice) → k < length ts → d ≡ get_or ts k d → now ≡ before ++ numbered_notices_from cause 0 (take k ts) → now' ≡ now ++ told_table cause k d → now' ≡ before ++ numbered_notices_from cause 0 (take (k + 1) ts)
 told_more cause k ts d before now now' lt at was is =
     let zero_more : k ≡ 0 + k = omega arith in
-    is ∙ ap (λ (t : Numbered). now ++ told_table cause k t) at ∙ ap (λ (ns : List Told). ns ++ told_table cause k (get_or ts k d)) was ∙ append_assoc before (told_from cause 0 (take k ts)) (told_table cause k (get_or ts k d))
-    ∙ ap (λ (ns : List Told). before ++ ns) (ap (λ (i : ℕ). told_from cause 0 (take k ts) ++ told_table cause i (get_or ts k d)) zero_more ∙ rw add-one (told_more_from cause 0 k ts d lt))
+    is ∙ ap (λ (t : Numbered). now ++ told_table cause k t) at ∙ ap (λ (ns : List NumberedNotice). ns ++ told_table cause k (get_or ts k d)) was ∙ append_assoc before (numbered_notices_from cause 0 (take k ts)) (told_table cause k (get_or ts k d))
+    ∙ ap (λ (ns : List NumberedNotice). before ++ ns) (ap (λ (i : ℕ). numbered_notices_from cause 0 (take k ts) ++ told_table cause i (get_or ts k d)) zero_more ∙ rw add-one (told_more_from cause 0 k ts d lt))
 
 -- the copies that one more table needs
 wanted_more_from : (w : Selector) (j k : ℕ) (ts : List Numbered) (d : Numbered) → k < length ts → wanted_from w j (take (suc k) ts) ≡ wanted_from w j (take k ts) + wanted_in w (j + k) (get_or ts k d)
@@ -136,7 +136,7 @@ each-map f g same j (t ∷ ns) = λ i. same j t i ∷ each-map f g same (suc j) 
 pub kept_one : (cause : Cause) (k : ℕ) (t : Numbered) → table_of (kept_table cause k t) ≡ left_table cause k (table_of t)
 kept_one cause k t = by_test (concerns cause k)
   where
-    by_test : (b : Bool) → table_of (cond b (record t { entries = kept_of cause t.entries }) t) ≡ cond b (record (table_of t) { flows = left cause (flows_of t.entries) }) (table_of t)
+    by_test : (b : Bool) → table_of (cond b (record t { entries = kept_of cause t.entries }) t) ≡ cond b (record (table_of t) { flows = entries_left cause (flows_of t.entries) }) (table_of t)
     by_test true = ap (λ (fs : List FlowEntry). record (table_of t) { flows = fs }) (flows_left cause t.entries)
     by_test false = refl
 
@@ -156,13 +156,13 @@ tables_modified w is reset n = ap (λ (ts : List Table). record { tables = ts; l
 notices_one : (cause : Cause) (k : ℕ) (t : Numbered) → map untold (told_table cause k t) ≡ table_notices cause k (table_of t)
 notices_one cause k t = by_test (concerns cause k)
   where
-    by_test : (b : Bool) → map untold (cond b (told cause k t.entries) []) ≡ cond b (notices cause k (flows_of t.entries)) []
+    by_test : (b : Bool) → map untold (cond b (numbered_notices cause k t.entries) []) ≡ cond b (notices cause k (flows_of t.entries)) []
     by_test true = notices_told cause k t.entries
     by_test false = refl
 
-pub notices_from_told : (cause : Cause) (j : ℕ) (ns : List Numbered) → map untold (told_from cause j ns) ≡ notices_from cause j (map table_of ns)
+pub notices_from_told : (cause : Cause) (j : ℕ) (ns : List Numbered) → map untold (numbered_notices_from cause j ns) ≡ notices_from cause j (map table_of ns)
 notices_from_told cause j [] = refl
-notices_from_told cause j (t ∷ ns) = map-append untold (told_table cause j t) (told_from cause (suc j) ns) ∙ (λ i. notices_one cause j t i ++ notices_from_told cause (suc j) ns i)
+notices_from_told cause j (t ∷ ns) = map-append untold (told_table cause j t) (numbered_notices_from cause (suc j) ns) ∙ (λ i. notices_one cause j t i ++ notices_from_told cause (suc j) ns i)
 
 -- a list of removed entries gives the notices
 pub notices_listed : (cause : Cause) (n : NumberedTables) (removed : List Removed) → all_told removed ≡ told_in cause n → notices_of removed ≡ notices_in cause (tables_of n)
@@ -204,8 +204,8 @@ pub command_at : (cause : Cause) (latest : ℕ) → ((w : Selector) × (cause �
 command_at cause latest (inl d) = rw d.1 (refl, refl)
 command_at cause latest (inr g) = rw g.1 (refl, refl)
 
-pub notices_ok : {V E : Type 0} (r : Result V E) (items : V → List Removed) (cause at : Cause) (n : NumberedTables) → IfOk r (λ v. all_told (items v) ≡ told_from at 0 n.tables) → at ≡ cause_at n.latest cause → IfOk r (λ v. notices_of (items v) ≡ notices_in cause (tables_of n))
-notices_ok (Ok v) items cause at n is when = notices_listed cause n (items v) (is ∙ ap (λ (c : Cause). told_from c 0 n.tables) when)
+pub notices_ok : {V E : Type 0} (r : Result V E) (items : V → List Removed) (cause at : Cause) (n : NumberedTables) → IfOk r (λ v. all_told (items v) ≡ numbered_notices_from at 0 n.tables) → at ≡ cause_at n.latest cause → IfOk r (λ v. notices_of (items v) ≡ notices_in cause (tables_of n))
+notices_ok (Ok v) items cause at n is when = notices_listed cause n (items v) (is ∙ ap (λ (c : Cause). numbered_notices_from c 0 n.tables) when)
 notices_ok (Err e) items cause at n is when = is
 
 -- one more empty table

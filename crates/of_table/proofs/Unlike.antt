@@ -11,12 +11,12 @@ use Rattle.of_oxm.specs.SameMatch.{is_same_match}
 use Rattle.of_table.specs.declared.flow.Flow.{Flow}
 use Rattle.of_table.specs.declared.entry.Entry.{Entry}
 use Rattle.of_table.specs.declared.table_fault.TableFault.TheVariants.{Overlap, Full}
-use Rattle.of_table.specs.Table.{FlowEntry, is_same, is_full, is_overlapped, add_fault, with_flow, added}
+use Rattle.of_table.specs.Table.{FlowEntry, is_same, is_full, is_overlapped, add_flow_fault, with_flow, added}
 use Rattle.of_classifier.specs.declared.Row.{Row}
 use Rattle.of_table.specs.declared.selection.Cause.{Cause}
 use Rattle.of_table.specs.Selecting.{stays, kept_of}
 use Rattle.of_table.specs.Entries.{entry_of, flows_of, rows_of, added_entries}
-use Rattle.of_table.specs.Sound.{Key, key_of, is_same_key, are_unlike}
+use Rattle.of_table.specs.Sound.{Key, entry_key, is_same_key, are_unlike}
 use Rattle.of_table.proofs.AddLemmas.{same_is, is_itself, flows_added}
 use Rattle.of_table.proofs.RemoveLemmas.{flows_left}
 use Rattle.of_table.proofs.PlaceLemmas.{any-map, filter_others, position-first, position-later}
@@ -74,16 +74,16 @@ both false c h = (refl, h)
 both_from : (b c : Bool) → b ≡ false → c ≡ true → (not b && c) ≡ true
 both_from b c f g = rw (f, g) refl
 
-unlike_by : (e : FlowEntry) (flows : List FlowEntry) → list_any (λ f. is_same_key (key_of e) (key_of f)) flows ≡ false → are_unlike (map key_of flows) ≡ true → are_unlike (map key_of (e ∷ flows)) ≡ true
-unlike_by e flows none h = both_from _ _ (any-map key_of (is_same_key (key_of e)) flows ∙ none) h
+unlike_by : (e : FlowEntry) (flows : List FlowEntry) → list_any (λ f. is_same_key (entry_key e) (entry_key f)) flows ≡ false → are_unlike (map entry_key flows) ≡ true → are_unlike (map entry_key (e ∷ flows)) ≡ true
+unlike_by e flows none h = both_from _ _ (any-map entry_key (is_same_key (entry_key e)) flows ∙ none) h
 
-pub unlike_parts : (e : FlowEntry) (flows : List FlowEntry) → are_unlike (map key_of (e ∷ flows)) ≡ true → (list_any (λ f. is_same_key (key_of e) (key_of f)) flows ≡ false) × (are_unlike (map key_of flows) ≡ true)
+pub unlike_parts : (e : FlowEntry) (flows : List FlowEntry) → are_unlike (map entry_key (e ∷ flows)) ≡ true → (list_any (λ f. is_same_key (entry_key e) (entry_key f)) flows ≡ false) × (are_unlike (map entry_key flows) ≡ true)
 unlike_parts e flows h =
-    let p = both (list_any (is_same_key (key_of e)) (map key_of flows)) (are_unlike (map key_of flows)) h in
-    (sym (any-map key_of (is_same_key (key_of e)) flows) ∙ p.0, p.1)
+    let p = both (list_any (is_same_key (entry_key e)) (map entry_key flows)) (are_unlike (map entry_key flows)) h in
+    (sym (any-map entry_key (is_same_key (entry_key e)) flows) ∙ p.0, p.1)
 
 -- but for the one entry of the flow's priority and match, none is of them
-pub others_left : (flow : Flow) (es : List Entry) (k : ℕ) → are_unlike (map key_of (flows_of es)) ≡ true → position (λ e. is_same flow (entry_of e)) es ≡ Some k → remove es k ≡ filter (λ e. not (is_same flow (entry_of e))) es
+pub others_left : (flow : Flow) (es : List Entry) (k : ℕ) → are_unlike (map entry_key (flows_of es)) ≡ true → position (λ e. is_same flow (entry_of e)) es ≡ Some k → remove es k ≡ filter (λ e. not (is_same flow (entry_of e))) es
 others_left flow [] k unlike h = absurd cc
 others_left flow (e ∷ es) k unlike h =
     let parts = unlike_parts (entry_of e) (flows_of es) unlike in
@@ -96,12 +96,12 @@ others_left flow (e ∷ es) k unlike h =
         let next : suc j ≡ k = (let n : j + 1 ≡ k = cc in omega arith) in
         subst (λ (n : ℕ). remove (e ∷ es) n ≡ e ∷ filter (λ x. not (is_same flow (entry_of x))) es) next (ap (λ (xs : List Entry). e ∷ xs) (ih j is))
 
-    split : (b : Bool) → is_same flow (entry_of e) ≡ b → list_any (λ f. is_same_key (key_of (entry_of e)) (key_of f)) (flows_of es) ≡ false → ((j : ℕ) → position (λ x. is_same flow (entry_of x)) es ≡ Some j → remove es j ≡ filter (λ x. not (is_same flow (entry_of x))) es) →
+    split : (b : Bool) → is_same flow (entry_of e) ≡ b → list_any (λ f. is_same_key (entry_key (entry_of e)) (entry_key f)) (flows_of es) ≡ false → ((j : ℕ) → position (λ x. is_same flow (entry_of x)) es ≡ Some j → remove es j ≡ filter (λ x. not (is_same flow (entry_of x))) es) →
         remove (e ∷ es) k ≡ filter (λ x. not (is_same flow (entry_of x))) (e ∷ es)
     split true is none ih =
         let first : 0 ≡ k = (let g = sym (position-first (λ x. is_same flow (entry_of x)) e es is) ∙ h in cc) in
-        let same : key_of (entry_of e) ≡ flow_key flow = same_key (flow_key flow) (key_of (entry_of e)) is in
-        let apart : list_any (is_same flow) (flows_of es) ≡ false = subst (λ (l : Key). list_any (λ f. is_same_key l (key_of f)) (flows_of es) ≡ false) same none in
+        let same : entry_key (entry_of e) ≡ flow_key flow = same_key (flow_key flow) (entry_key (entry_of e)) is in
+        let apart : list_any (is_same flow) (flows_of es) ≡ false = subst (λ (l : Key). list_any (λ f. is_same_key l (entry_key f)) (flows_of es) ≡ false) same none in
         let others : filter (λ x. not (is_same flow (entry_of x))) es ≡ es = filter_others (λ x. is_same flow (entry_of x)) es (sym (any-map entry_of (is_same flow) es) ∙ apart) in
         subst (λ (n : ℕ). remove (e ∷ es) n ≡ filter (λ x. not (is_same flow (entry_of x))) (e ∷ es)) first (rw (is, others) refl)
     split false is none ih = rw is (by_rest (position (λ x. is_same flow (entry_of x)) es) refl (sym (position-later (λ x. is_same flow (entry_of x)) e es is) ∙ h) ih)
@@ -113,7 +113,7 @@ unlike_last (l ∷ ls) k h none =
     let apart : is_same_key l k ≡ false = turned_key k l (none_first (is_same_key k l) (list_any (is_same_key k) ls) none) in
     both_from _ _ (list_any-append (is_same_key l) ls (k ∷ []) ∙ rw (parts.0, apart) refl) (unlike_last ls k parts.1 (none_second (is_same_key k l) (list_any (is_same_key k) ls) none))
 
-with_flow_key : (now : ℕ) (flow : Flow) (old : Option FlowEntry) → key_of (with_flow now flow old) ≡ flow_key flow
+with_flow_key : (now : ℕ) (flow : Flow) (old : Option FlowEntry) → entry_key (with_flow now flow old) ≡ flow_key flow
 with_flow_key now flow None = refl
 with_flow_key now flow (Some e) = refl
 
@@ -125,24 +125,24 @@ any_filter p q (x ∷ xs) h = split (p x) (any_filter p q xs (none_second (q x) 
     split true ih = rw (none_first (q x) (list_any q xs) h, ih) refl
     split false ih = ih
 
-pub unlike_filter : (p : FlowEntry → Bool) (flows : List FlowEntry) → are_unlike (map key_of flows) ≡ true → are_unlike (map key_of (filter p flows)) ≡ true
+pub unlike_filter : (p : FlowEntry → Bool) (flows : List FlowEntry) → are_unlike (map entry_key flows) ≡ true → are_unlike (map entry_key (filter p flows)) ≡ true
 unlike_filter p [] h = refl
 unlike_filter p (e ∷ es) h =
     let parts = unlike_parts e es h in
-    split (p e) (any_filter p (λ f. is_same_key (key_of e) (key_of f)) es parts.0) (unlike_filter p es parts.1)
+    split (p e) (any_filter p (λ f. is_same_key (entry_key e) (entry_key f)) es parts.0) (unlike_filter p es parts.1)
   where
-    split : (b : Bool) → list_any (λ f. is_same_key (key_of e) (key_of f)) (filter p es) ≡ false → are_unlike (map key_of (filter p es)) ≡ true → are_unlike (map key_of (cond b (e ∷ filter p es) (filter p es))) ≡ true
+    split : (b : Bool) → list_any (λ f. is_same_key (entry_key e) (entry_key f)) (filter p es) ≡ false → are_unlike (map entry_key (filter p es)) ≡ true → are_unlike (map entry_key (cond b (e ∷ filter p es) (filter p es))) ≡ true
     split true none ih = unlike_by e (filter p es) none ih
     split false none ih = ih
 
-pub unlike_added : (now : ℕ) (flow : Flow) (flows : List FlowEntry) → are_unlike (map key_of flows) ≡ true → are_unlike (map key_of (added now flow flows)) ≡ true
+pub unlike_added : (now : ℕ) (flow : Flow) (flows : List FlowEntry) → are_unlike (map entry_key flows) ≡ true → are_unlike (map entry_key (added now flow flows)) ≡ true
 unlike_added now flow flows h =
     let rest = filter (λ e. not (is_same flow e)) flows in
     let new = with_flow now flow (find (is_same flow) flows) in
-    let last : key_of new ≡ flow_key flow = with_flow_key now flow (find (is_same flow) flows) in
-    let parts : map key_of (rest ++ new ∷ []) ≡ map key_of rest ++ flow_key flow ∷ [] = map-append key_of rest (new ∷ []) ∙ ap (λ (k : Key). map key_of rest ++ k ∷ []) last in
-    let none : list_any (is_same_key (flow_key flow)) (map key_of rest) ≡ false = any-map key_of (is_same_key (flow_key flow)) rest ∙ none_passes (is_same flow) flows in
-    ap are_unlike parts ∙ unlike_last (map key_of rest) (flow_key flow) (unlike_filter (λ e. not (is_same flow e)) flows h) none
+    let last : entry_key new ≡ flow_key flow = with_flow_key now flow (find (is_same flow) flows) in
+    let parts : map entry_key (rest ++ new ∷ []) ≡ map entry_key rest ++ flow_key flow ∷ [] = map-append entry_key rest (new ∷ []) ∙ ap (λ (k : Key). map entry_key rest ++ k ∷ []) last in
+    let none : list_any (is_same_key (flow_key flow)) (map entry_key rest) ≡ false = any-map entry_key (is_same_key (flow_key flow)) rest ∙ none_passes (is_same flow) flows in
+    ap are_unlike parts ∙ unlike_last (map entry_key rest) (flow_key flow) (unlike_filter (λ e. not (is_same flow e)) flows h) none
 
 pub filter_fewer : {X : Type 0} (p : X → Bool) (xs : List X) → length (filter p xs) ≤ length xs
 filter_fewer p [] = omega arith
@@ -165,18 +165,18 @@ filter_one_fewer p (x ∷ xs) h = split (p x) h (filter_one_fewer p xs)
 abbrev row_key : Row → Key
 row_key r = record { priority = r.priority; fields = r.fields }
 
-row_keys : (es : List Entry) → map key_of (flows_of es) ≡ map row_key (rows_of es)
+row_keys : (es : List Entry) → map entry_key (flows_of es) ≡ map row_key (rows_of es)
 row_keys [] = refl
-row_keys (e ∷ es) = ap (λ (ks : List Key). key_of (entry_of e) ∷ ks) (row_keys es)
+row_keys (e ∷ es) = ap (λ (ks : List Key). entry_key (entry_of e) ∷ ks) (row_keys es)
 
-pub unlike_rows : (es zs : List Entry) → rows_of zs ≡ rows_of es → are_unlike (map key_of (flows_of es)) ≡ true → are_unlike (map key_of (flows_of zs)) ≡ true
+pub unlike_rows : (es zs : List Entry) → rows_of zs ≡ rows_of es → are_unlike (map entry_key (flows_of es)) ≡ true → are_unlike (map entry_key (flows_of zs)) ≡ true
 unlike_rows es zs same h = ap are_unlike (row_keys zs ∙ ap (map row_key) same ∙ sym (row_keys es)) ∙ h
 
-pub unlike_kept : (cause : Cause) (es zs : List Entry) → zs ≡ kept_of cause es → are_unlike (map key_of (flows_of es)) ≡ true → are_unlike (map key_of (flows_of zs)) ≡ true
-unlike_kept cause es zs is h = ap (λ (xs : List Entry). are_unlike (map key_of (flows_of xs))) is ∙ ap (λ (fs : List FlowEntry). are_unlike (map key_of fs)) (flows_left cause es) ∙ unlike_filter (stays cause) (flows_of es) h
+pub unlike_kept : (cause : Cause) (es zs : List Entry) → zs ≡ kept_of cause es → are_unlike (map entry_key (flows_of es)) ≡ true → are_unlike (map entry_key (flows_of zs)) ≡ true
+unlike_kept cause es zs is h = ap (λ (xs : List Entry). are_unlike (map entry_key (flows_of xs))) is ∙ ap (λ (fs : List FlowEntry). are_unlike (map entry_key fs)) (flows_left cause es) ∙ unlike_filter (stays cause) (flows_of es) h
 
-pub unlike_with : (number now : ℕ) (flow : Flow) (es zs : List Entry) → zs ≡ added_entries number now flow es → are_unlike (map key_of (flows_of es)) ≡ true → are_unlike (map key_of (flows_of zs)) ≡ true
-unlike_with number now flow es zs is h = ap (λ (xs : List Entry). are_unlike (map key_of (flows_of xs))) is ∙ ap (λ (fs : List FlowEntry). are_unlike (map key_of fs)) (flows_added number now flow es) ∙ unlike_added now flow (flows_of es) h
+pub unlike_with : (number now : ℕ) (flow : Flow) (es zs : List Entry) → zs ≡ added_entries number now flow es → are_unlike (map entry_key (flows_of es)) ≡ true → are_unlike (map entry_key (flows_of zs)) ≡ true
+unlike_with number now flow es zs is h = ap (λ (xs : List Entry). are_unlike (map entry_key (flows_of xs))) is ∙ ap (λ (fs : List FlowEntry). are_unlike (map entry_key fs)) (flows_added number now flow es) ∙ unlike_added now flow (flows_of es) h
 
 -- ---- how many there are
 
@@ -185,7 +185,7 @@ not_full true f h = absurd cc
 not_full false true h = absurd cc
 not_full false false h = refl
 
-pub few_added : (now : ℕ) (flow : Flow) (flows : List FlowEntry) → None ≡ add_fault flow flows → length flows ≤ 4096 → length (added now flow flows) ≤ 4096
+pub few_added : (now : ℕ) (flow : Flow) (flows : List FlowEntry) → None ≡ add_flow_fault flow flows → length flows ≤ 4096 → length (added now flow flows) ≤ 4096
 few_added now flow flows fault few =
     let rest = filter (λ e. not (is_same flow e)) flows in
     let new = with_flow now flow (find (is_same flow) flows) in

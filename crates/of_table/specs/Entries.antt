@@ -13,36 +13,36 @@ abbrev pub entry_of : Entry → FlowEntry
 entry_of e = record { flow = e.flow; packets = e.packets; bytes = e.bytes; created = e.created; last = e.last }
 
 -- and with it
-abbrev pub numbered : ℕ → FlowEntry → Entry
-numbered number e = record { number = number; flow = e.flow; packets = e.packets; bytes = e.bytes; created = e.created; last = e.last }
+abbrev pub numbered_entry : ℕ → FlowEntry → Entry
+numbered_entry number e = record { number = number; flow = e.flow; packets = e.packets; bytes = e.bytes; created = e.created; last = e.last }
 
 -- a change of an entry, which keeps its number
 abbrev pub on_entry : (FlowEntry → FlowEntry) → Entry → Entry
-on_entry f e = numbered e.number (f (entry_of e))
+on_entry f e = numbered_entry e.number (f (entry_of e))
 
 abbrev pub flows_of : List Entry → List FlowEntry
 flows_of entries = map entry_of entries
 
 -- what a classifier knows of an entry
-abbrev pub row_of : Entry → Row
-row_of e = made_row e.number e.flow.priority e.flow.fields
+abbrev pub classifier_row : Entry → Row
+classifier_row e = made_row e.number e.flow.priority e.flow.fields
 
 abbrev pub rows_of : List Entry → List Row
-rows_of entries = map row_of entries
+rows_of entries = map classifier_row entries
 
 abbrev pub entry_number : Entry → ℕ
 entry_number e = e.number
 
-abbrev pub numbers_of : List Entry → List ℕ
-numbers_of entries = map entry_number entries
+abbrev pub entry_numbers : List Entry → List ℕ
+entry_numbers entries = map entry_number entries
 
 -- some entry has the number
-abbrev pub is_there : ℕ → List Entry → Bool
-is_there number entries = list_any (λ n. n == number) (numbers_of entries)
+abbrev pub is_entry_there : ℕ → List Entry → Bool
+is_entry_there number entries = list_any (λ n. n == number) (entry_numbers entries)
 
 -- the place of the entry of a number, from 0; the length where there is none
 abbrev pub place_of : ℕ → List Entry → ℕ
-place_of number entries = position_or_len (λ n. n == number) (numbers_of entries)
+place_of number entries = position_or_len (λ n. n == number) (entry_numbers entries)
 
 abbrev pub find_number : ℕ → List Entry → Option Entry
 find_number number entries = find (λ e. e.number == number) entries
@@ -55,11 +55,11 @@ same_entry flow entries = find (λ e. is_same flow (entry_of e)) entries
 
 -- the number of the entry that the flow replaces, or else one that is not in use
 abbrev pub IsNumberFor : Flow → List Entry → ℕ → Type 0
-IsNumberFor flow entries number = MatchOption (same_entry flow entries) (is_there number entries ≡ false) (λ e. number ≡ e.number)
+IsNumberFor flow entries number = MatchOption (same_entry flow entries) (is_entry_there number entries ≡ false) (λ e. number ≡ e.number)
 
 -- with the new entry under a number
 abbrev pub added_entries : ℕ → ℕ → Flow → List Entry → List Entry
-added_entries number now flow entries = filter (λ e. not (is_same flow (entry_of e))) entries ++ numbered number (with_flow now flow (option_map entry_of (same_entry flow entries))) ∷ []
+added_entries number now flow entries = filter (λ e. not (is_same flow (entry_of e))) entries ++ numbered_entry number (with_flow now flow (option_map entry_of (same_entry flow entries))) ∷ []
 
 -- ---- tables
 

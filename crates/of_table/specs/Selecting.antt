@@ -44,12 +44,12 @@ has_action is_so (Apply actions) = list_any is_so actions
 has_action is_so (Write actions) = list_any is_so actions
 has_action is_so other = false
 
-abbrev pub sends_to : ℕ → Instruction → Bool
-sends_to port = has_action (is_output_to port)
+abbrev pub sends_to_port : ℕ → Instruction → Bool
+sends_to_port port = has_action (is_output_to port)
 
 -- no port is asked for, or some action sends to it
 abbrev pub passes_port : Selector → FlowEntry → Bool
-passes_port w e = option_map_or (λ port. list_any (sends_to port) e.flow.instructions) w.out_port true
+passes_port w e = option_map_or (λ port. list_any (sends_to_port port) e.flow.instructions) w.out_port true
 
 -- to this group; where none is named, to any
 abbrev pub is_to : Option ℕ → Action → Bool
@@ -133,8 +133,8 @@ abbrev pub stays : Cause → FlowEntry → Bool
 stays cause e = is_none (reason_of cause e)
 
 -- the entries that stay, in order
-abbrev pub left : Cause → List FlowEntry → List FlowEntry
-left cause flows = filter (stays cause) flows
+abbrev pub entries_left : Cause → List FlowEntry → List FlowEntry
+entries_left cause flows = filter (stays cause) flows
 
 -- a notice of a removed entry
 pub record Notice : Type 0 where
@@ -155,26 +155,26 @@ abbrev pub kept_of : Cause → List Entry → List Entry
 kept_of cause entries = filter (λ e. stays cause (entry_of e)) entries
 
 -- a notice of a removed entry, with its number
-pub record Told : Type 0 where
+pub record NumberedNotice : Type 0 where
   pub table : ℕ
   pub reason : FlowRemovedReason
   pub entry : Entry
 
-abbrev pub with_number : Entry → Notice → Told
-with_number e n = record { table = n.table; reason = n.reason; entry = e }
+abbrev pub numbered_notice : Entry → Notice → NumberedNotice
+numbered_notice e n = record { table = n.table; reason = n.reason; entry = e }
 
-abbrev pub told_by : ℕ → Entry → Option FlowRemovedReason → Option Told
-told_by table e reason = option_map (with_number e) (notice_by table (entry_of e) reason)
+abbrev pub told_by : ℕ → Entry → Option FlowRemovedReason → Option NumberedNotice
+told_by table e reason = option_map (numbered_notice e) (notice_by table (entry_of e) reason)
 
-abbrev pub told : Cause → ℕ → List Entry → List Told
-told cause table entries = flat_map (λ e. option_to_list (told_by table e (reason_of cause (entry_of e)))) entries
+abbrev pub numbered_notices : Cause → ℕ → List Entry → List NumberedNotice
+numbered_notices cause table entries = flat_map (λ e. option_to_list (told_by table e (reason_of cause (entry_of e)))) entries
 
 -- the notices of a list, with the numbers of the entries and without
-abbrev pub told_of : Removed → Told
-told_of r = record { table = r.table; reason = r.reason; entry = r.entry.now }
+abbrev pub numbered_notice_of : Removed → NumberedNotice
+numbered_notice_of r = record { table = r.table; reason = r.reason; entry = r.entry.now }
 
-abbrev pub all_told : List Removed → List Told
-all_told removed = map told_of removed
+abbrev pub all_told : List Removed → List NumberedNotice
+all_told removed = map numbered_notice_of removed
 
 abbrev pub notice_of : Removed → Notice
 notice_of r = record { table = r.table; reason = r.reason; entry = entry_of r.entry.now }

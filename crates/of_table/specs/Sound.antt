@@ -12,11 +12,11 @@ use Rattle.of_table.specs.Table.{FlowEntry, Table}
 use Rattle.of_table.specs.Tables.{is_in}
 
 -- the instructions are valid in an entry of the table: in execution order, one of a type, and GOTO_TABLE leads to a later table
-abbrev pub are_fit : ℕ → List Instruction → Bool
-are_fit k instructions = are_kept instructions && are_for k instructions
+abbrev pub are_instructions_fit : ℕ → List Instruction → Bool
+are_instructions_fit k instructions = are_kept instructions && are_for k instructions
 
-abbrev pub is_fit : ℕ → FlowEntry → Bool
-is_fit k e = are_fit k e.flow.instructions
+abbrev pub is_entry_fit : ℕ → FlowEntry → Bool
+is_entry_fit k e = are_instructions_fit k e.flow.instructions
 
 -- their set-field actions have their prerequisites in the match
 abbrev pub is_checked : FlowEntry → Bool
@@ -27,8 +27,8 @@ pub record Key : Type 0 where
   pub priority : ℕ
   pub fields : List MatchField
 
-abbrev pub key_of : FlowEntry → Key
-key_of e = record { priority = e.flow.priority; fields = e.flow.fields }
+abbrev pub entry_key : FlowEntry → Key
+entry_key e = record { priority = e.flow.priority; fields = e.flow.fields }
 
 -- what a classifier keeps of an entry beside its number
 abbrev pub row_key : Row → Key
@@ -36,7 +36,7 @@ row_key r = record { priority = r.priority; fields = r.fields }
 
 -- the rows of a classifier are the entries of a table, whatever their numbers: by age, each of its entry's priority and match
 abbrev pub AreRowsOf : List FlowEntry → List Row → Type 0
-AreRowsOf flows rows = map row_key rows ≡ map key_of flows
+AreRowsOf flows rows = map row_key rows ≡ map entry_key flows
 
 abbrev pub is_same_key : Key → Key → Bool
 is_same_key k l = l.priority == k.priority && is_same_match l.fields k.fields
@@ -47,16 +47,16 @@ are_unlike [] = true
 are_unlike (k ∷ ks) = not (list_any (is_same_key k) ks) && are_unlike ks
 
 -- at most 4,096 entries, no two of the same priority and match, and the instructions of each are valid in it
-pub record AreSound (k : ℕ) (flows : List FlowEntry) : Type 0 where
+pub record AreSoundEntries (k : ℕ) (flows : List FlowEntry) : Type 0 where
   pub few : length flows ≤ 4096
-  pub unlike : IsTrue (are_unlike (map key_of flows))
-  pub fit : IsTrue (list_all (is_fit k) flows)
+  pub unlike : IsTrue (are_unlike (map entry_key flows))
+  pub fit : IsTrue (list_all (is_entry_fit k) flows)
   pub checked : IsTrue (list_all is_checked flows)
 
 -- the tables, numbered from k on
 abbrev pub AllSound : ℕ → List Table → Type 0
 AllSound k [] = ⊤
-AllSound k (t ∷ ts) = AreSound k t.flows × AllSound (suc k) ts
+AllSound k (t ∷ ts) = AreSoundEntries k t.flows × AllSound (suc k) ts
 
 -- the instructions of a MODIFY are valid in each table that it selects
 abbrev pub AreForAll : Selector → List Instruction → Type 0

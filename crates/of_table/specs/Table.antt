@@ -8,7 +8,7 @@ use Rattle.of_oxm.specs.Relations.{overlaps_match}
 use Rattle.of_oxm.specs.SameMatch.{is_same_match}
 use Rattle.of_classifier.specs.declared.Row.{Row}
 use Rattle.of_classifier.specs.Rows.{made_row}
-use Rattle.of_classifier.specs.Winner.{winner_of, number_of}
+use Rattle.of_classifier.specs.Winner.{winner_of, winner_number}
 use Rattle.of_table.specs.declared.flow.Flow.{Flow}
 use Rattle.of_table.specs.declared.flow.FlowFlags.{FlowFlags}
 use Rattle.of_table.specs.declared.table_fault.TableFault.{TableFault}
@@ -74,8 +74,8 @@ abbrev pub is_full : Flow → List FlowEntry → Bool
 is_full flow flows = not (list_any (is_same flow) flows) && nat_le MOST_ENTRIES (length flows)
 
 -- why a flow is not added, where it is not
-abbrev pub add_fault : Flow → List FlowEntry → Option TableFault
-add_fault flow flows = if is_overlapped flow flows then Some Overlap else if is_full flow flows then Some Full else None
+abbrev pub add_flow_fault : Flow → List FlowEntry → Option TableFault
+add_flow_fault flow flows = if is_overlapped flow flows then Some Overlap else if is_full flow flows then Some Full else None
 
 -- ---- matching (5.3)
 
@@ -86,7 +86,7 @@ rows_from k (e ∷ flows) = made_row k e.flow.priority e.flow.fields ∷ rows_fr
 
 -- the place, from 0, of the entry that a packet hits: the winner of a classifier
 abbrev pub winner_place : (Field → Option ℕ) → List FlowEntry → Option ℕ
-winner_place map flows = number_of (winner_of (rows_from 0 flows) map)
+winner_place map flows = winner_number (winner_of (rows_from 0 flows) map)
 
 -- the flow of the entry at a place
 abbrev pub flow_at : ℕ → List FlowEntry → Option Flow
@@ -99,13 +99,13 @@ abbrev pub incremented : Bool → ℕ → ℕ → ℕ
 incremented uncounted counter n = if uncounted then counter else (counter + n) % 2 ^ 64
 
 -- one more packet of this many bytes, now
-abbrev pub counted : ℕ → ℕ → FlowEntry → FlowEntry
-counted now bytes e = record e { packets = incremented e.flow.flags.no_packet_counts e.packets 1; bytes = incremented e.flow.flags.no_byte_counts e.bytes bytes; last = Some now }
+abbrev pub counted_entry : ℕ → ℕ → FlowEntry → FlowEntry
+counted_entry now bytes e = record e { packets = incremented e.flow.flags.no_packet_counts e.packets 1; bytes = incremented e.flow.flags.no_byte_counts e.bytes bytes; last = Some now }
 
 -- at the entry at a place
 abbrev pub counted_at : ℕ → ℕ → ℕ → List FlowEntry → List FlowEntry
 counted_at now place bytes [] = []
-counted_at now zero bytes (e ∷ flows) = counted now bytes e ∷ flows
+counted_at now zero bytes (e ∷ flows) = counted_entry now bytes e ∷ flows
 counted_at now (suc place) bytes (e ∷ flows) = e ∷ counted_at now place bytes flows
 
 -- one more packet was looked up

@@ -8,9 +8,9 @@ use Rattle.of_table.specs.declared.table_fault.TableFault.TheVariants.{BadTable}
 use Rattle.of_table.specs.declared.selection.Selector.{Selector}
 use Rattle.of_table.specs.declared.selection.Cause.{Cause}
 use Rattle.of_table.specs.declared.selection.Cause.TheVariants.{Delete, Moment, Group}
-use Rattle.of_table.specs.Table.{Table, empty_table, added, add_fault, looked, matched_at}
-use Rattle.of_table.specs.Selecting.{Notice, Told, modified, modified_entries, left, kept_of, notices, told}
-use Rattle.of_table.specs.Entries.{Numbered, no_entries, table_of, numbers_of, IsNumberFor, added_entries}
+use Rattle.of_table.specs.Table.{Table, empty_table, added, add_flow_fault, looked, matched_at}
+use Rattle.of_table.specs.Selecting.{Notice, NumberedNotice, modified, modified_entries, entries_left, kept_of, notices, numbered_notices}
+use Rattle.of_table.specs.Entries.{Numbered, no_entries, table_of, entry_numbers, IsNumberFor, added_entries}
 
 -- ---- as a reader sees them
 
@@ -27,7 +27,7 @@ with_table k t ts = record ts { tables = slice_set ts.tables k t }
 
 -- ADD: the table's number is checked first
 abbrev pub tables_fault : ℕ → Flow → Tables → Option TableFault
-tables_fault k flow ts = if nat_le 16 k then Some BadTable else add_fault flow (table_at k ts).flows
+tables_fault k flow ts = if nat_le 16 k then Some BadTable else add_flow_fault flow (table_at k ts).flows
 
 abbrev pub added_to : ℕ → Flow → Tables → Tables
 added_to k flow ts = with_table k (record (table_at k ts) { flows = added ts.latest flow (table_at k ts).flows }) ts
@@ -54,7 +54,7 @@ concerns (Moment now) k = true
 concerns (Group group) k = true
 
 abbrev pub left_table : Cause → ℕ → Table → Table
-left_table cause k t = if concerns cause k then record t { flows = left cause t.flows } else t
+left_table cause k t = if concerns cause k then record t { flows = entries_left cause t.flows } else t
 
 -- a moment below the latest counts as the latest
 abbrev pub cause_at : ℕ → Cause → Cause
@@ -114,7 +114,7 @@ tables_of n = record { tables = map table_of n.tables; latest = n.latest }
 
 -- the numbers of the entries of each table
 abbrev pub all_numbers : NumberedTables → List (List ℕ)
-all_numbers n = map (λ t. numbers_of t.entries) n.tables
+all_numbers n = map (λ t. entry_numbers t.entries) n.tables
 
 -- ---- what the commands do to them
 
@@ -139,12 +139,12 @@ kept_table cause k t = if concerns cause k then record t { entries = kept_of cau
 abbrev pub all_kept : Cause → NumberedTables → NumberedTables
 all_kept cause n = record { tables = each_from (kept_table (cause_at n.latest cause)) 0 n.tables; latest = latest_after cause n.latest }
 
-abbrev pub told_table : Cause → ℕ → Numbered → List Told
-told_table cause k t = if concerns cause k then told cause k t.entries else []
+abbrev pub told_table : Cause → ℕ → Numbered → List NumberedNotice
+told_table cause k t = if concerns cause k then numbered_notices cause k t.entries else []
 
-abbrev pub told_from : Cause → ℕ → List Numbered → List Told
-told_from cause k [] = []
-told_from cause k (t ∷ ts) = told_table cause k t ++ told_from cause (suc k) ts
+abbrev pub numbered_notices_from : Cause → ℕ → List Numbered → List NumberedNotice
+numbered_notices_from cause k [] = []
+numbered_notices_from cause k (t ∷ ts) = told_table cause k t ++ numbered_notices_from cause (suc k) ts
 
-abbrev pub told_in : Cause → NumberedTables → List Told
-told_in cause n = told_from (cause_at n.latest cause) 0 n.tables
+abbrev pub told_in : Cause → NumberedTables → List NumberedNotice
+told_in cause n = numbered_notices_from (cause_at n.latest cause) 0 n.tables

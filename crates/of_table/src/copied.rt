@@ -1,7 +1,7 @@
 //! Copies of flow tables.
 
 ghost use Rattle.std.specs.Prelude.{◌≡◌, [], IfOk};
-ghost use Rattle.of_table.specs.Entries.{entry_of, numbered, flows_of, rows_of};
+ghost use Rattle.of_table.specs.Entries.{entry_of, numbered_entry, flows_of, rows_of};
 
 use crate::entry::Entry;
 use crate::flow::Flow;
@@ -22,13 +22,13 @@ impl<L: Lookup> Model for Copied<L> {
     ghost use Rattle.std.specs.Prelude.{◌<◌};
     ghost use Rattle.of_table.specs.Entries.{table_of};
     ghost use Rattle.of_table.specs.Copied.{NumberedCopy};
-    ghost use Rattle.of_table.specs.Sound.{AreSound};
+    ghost use Rattle.of_table.specs.Sound.{AreSoundEntries};
 
     ghost Value = { NumberedCopy };
 
     ghost view = { λ c. record { table = c.table; copy = c.copy } };
 
-    ghost invariant = { λ c. (c.table < 16) × AreSound c.table (table_of c.copy).flows };
+    ghost invariant = { λ c. (c.table < 16) × AreSoundEntries c.table (table_of c.copy).flows };
 }
 
 /// Copies of the entries, oldest first, under the numbers that a classifier without entries gives them.
@@ -52,7 +52,7 @@ pub(crate) fn copy_entries<L: Lookup>(
 
 // A copy of the entry, under that number.
 fn copy_entry(entry: &Entry, number: usize) -> Result<Entry, AllocError>
-    ensures { IfOk result (λ e. e ≡ numbered number (entry_of entry.now)) }
+    ensures { IfOk result (λ e. e ≡ numbered_entry number (entry_of entry.now)) }
 {
     Ok(Entry {
         number,

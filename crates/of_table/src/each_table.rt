@@ -3,9 +3,9 @@
 ghost use Rattle.std.specs.Prelude.{◌≡◌, ◌≤◌, ◌+◌, ◌-◌, ℕ, true, map, length, OnOk, IfOk};
 ghost use Rattle.of_table.specs.Selecting.{all_told};
 ghost use Rattle.of_table.specs.Entries.{table_of};
-ghost use Rattle.of_table.specs.Tables.{is_in as is_within, each_from, modified_numbered, kept_table, told_from};
+ghost use Rattle.of_table.specs.Tables.{is_in as is_within, each_from, modified_numbered, kept_table, numbered_notices_from};
 ghost use Rattle.of_table.specs.Copies.{Supply, wanted_in, wanted_from};
-ghost use Rattle.of_table.specs.Sound.{AreSound, AllSound, are_fit};
+ghost use Rattle.of_table.specs.Sound.{AreSoundEntries, AllSound, are_instructions_fit};
 ghost use Rattle.of_actions.specs.FlowCheck.{all_go_with};
 
 use crate::copies::Copies;
@@ -40,7 +40,7 @@ pub(crate) fn modify_tables<L: Lookup>(
     requires copies { wanted_from which.now 0 tables.old ≤ copies.old.count }
     ensures tables { tables.new ≡ each_from (modified_numbered which.now copies.old.instructions reset) 0 tables.old }
     ensures length { length tables.new ≡ length tables.old }
-    ensures sound { ((k : ℕ) → is_within which.now.table k ≡ true → are_fit k copies.old.instructions ≡ true) →
+    ensures sound { ((k : ℕ) → is_within which.now.table k ≡ true → are_instructions_fit k copies.old.instructions ≡ true) →
         all_go_with which.now.fields copies.old.instructions ≡ true → AllSound 0 (map table_of tables.old) → AllSound 0 (map table_of tables.new) }
 {
     for (number, table) in tables.iter_mut().enumerate() {
@@ -55,7 +55,7 @@ pub(crate) fn list_all<'a, L: Lookup>(
     cause: &Cause,
 ) -> Result<Vec<Removed<'a>>, AllocError>
     requires { length tables.now ≤ 16 }
-    ensures { IfOk result (λ v. all_told v.items ≡ told_from cause.now 0 tables.now) }
+    ensures { IfOk result (λ v. all_told v.items ≡ numbered_notices_from cause.now 0 tables.now) }
 {
     let mut removed = Vec::new(alloc);
     for (number, table) in tables.iter().enumerate() {

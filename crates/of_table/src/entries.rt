@@ -6,8 +6,8 @@ ghost use Rattle.of_wire.specs.Numbered.{is_used, is_distinct, moved_to_end};
 ghost use Rattle.of_classifier.specs.Rows.{row_number};
 ghost use Rattle.of_oxm.specs.Relations.{overlaps_match};
 ghost use Rattle.of_table.specs.Table.{is_same, is_overlapped as overlapped, with_flow, incremented as with_more, counted_at};
-ghost use Rattle.of_table.specs.Entries.{entry_of, flows_of, rows_of, numbers_of, place_of, is_there, IsNumberFor, added_entries};
-ghost use Rattle.of_table.specs.Sound.{key_of, are_unlike};
+ghost use Rattle.of_table.specs.Entries.{entry_of, flows_of, rows_of, entry_numbers, place_of, is_entry_there, IsNumberFor, added_entries};
+ghost use Rattle.of_table.specs.Sound.{entry_key, are_unlike};
 ghost use Rattle.of_table.specs.Deadlines.{all_stay};
 
 use crate::deadlines::entry_deadline;
@@ -87,7 +87,7 @@ pub(crate) fn put_last(
 ) -> usize
     requires within { replaced.old ≤ length entries.old.items }
     requires same { position (λ e. is_same flow (entry_of e)) (drop replaced.old entries.old.items) ≡ Some place }
-    requires unlike { are_unlike (map key_of (flows_of (drop replaced.old entries.old.items))) ≡ true }
+    requires unlike { are_unlike (map entry_key (flows_of (drop replaced.old entries.old.items))) ≡ true }
     requires distinct { IsTrue (is_distinct row_number (rows_of (drop replaced.old entries.old.items))) }
     ensures used { IsTrue (is_used row_number result (rows_of (drop replaced.old entries.old.items))) }
     ensures rows { rows_of (drop replaced.new entries.new.items) ≡ moved_to_end row_number result (rows_of (drop replaced.old entries.old.items)) }
@@ -130,7 +130,7 @@ fn push_again(entries: &mut Vec<Entry>, replaced: usize, flow: Flow, now: u64) -
     requires within { replaced < length entries.old.items }
     requires room { vec_len entries.old < vec_capacity entries.old }
     requires same { position (λ e. is_same flow (entry_of e)) (drop replaced entries.old.items) ≡ Some 0 }
-    requires unlike { are_unlike (map key_of (flows_of (drop replaced entries.old.items))) ≡ true }
+    requires unlike { are_unlike (map entry_key (flows_of (drop replaced entries.old.items))) ≡ true }
     requires distinct { IsTrue (is_distinct row_number (rows_of (drop replaced entries.old.items))) }
     ensures used { IsTrue (is_used row_number result (rows_of (drop replaced entries.old.items))) }
     ensures rows { rows_of (drop (replaced + 1) entries.new.items) ≡ moved_to_end row_number result (rows_of (drop replaced entries.old.items)) }
@@ -159,7 +159,7 @@ fn hollow_out(entries: &mut Vec<Entry>, place: usize)
 // The entry at that place gets the flow and moves to the end; those after it move up. Its number.
 fn move_last(entries: &mut Vec<Entry>, place: usize, flow: Flow, now: u64) -> usize
     requires same { position (λ e. is_same flow (entry_of e)) entries.old.items ≡ Some place }
-    requires unlike { are_unlike (map key_of (flows_of entries.old.items)) ≡ true }
+    requires unlike { are_unlike (map entry_key (flows_of entries.old.items)) ≡ true }
     requires distinct { IsTrue (is_distinct row_number (rows_of entries.old.items)) }
     ensures used { IsTrue (is_used row_number result (rows_of entries.old.items)) }
     ensures rows { rows_of entries.new.items ≡ moved_to_end row_number result (rows_of entries.old.items) }
@@ -200,7 +200,7 @@ pub(crate) fn count_at(
     ensures due { (at : ℕ) → at < result → all_stay (Cause.Moment at) (drop replaced entries.old.items) ≡ true →
         all_stay (Cause.Moment at) (drop replaced entries.new.items) ≡ true }
     ensures flows { flows_of (drop replaced entries.new.items) ≡ counted_at now place bytes (flows_of (drop replaced entries.old.items)) }
-    ensures numbers { numbers_of (drop replaced entries.new.items) ≡ numbers_of (drop replaced entries.old.items) }
+    ensures numbers { entry_numbers (drop replaced entries.new.items) ≡ entry_numbers (drop replaced entries.old.items) }
     ensures rows { rows_of (drop replaced entries.new.items) ≡ rows_of (drop replaced entries.old.items) }
     ensures length { length entries.new.items ≡ length entries.old.items }
 {

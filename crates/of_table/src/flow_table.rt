@@ -6,14 +6,14 @@ ghost use Rattle.std.specs.Option.{option_map, option_copied};
 ghost use Rattle.of_headers.specs.FieldMap.{value};
 ghost use Rattle.of_wire.specs.Numbered.{is_distinct};
 ghost use Rattle.of_classifier.specs.Rows.{is_same_row};
-ghost use Rattle.of_table.specs.Table.{is_same, add_fault, winner_place, looked as one_looked_up, matched_at};
-ghost use Rattle.of_table.specs.Entries.{Numbered, AddsEntry, no_entries, table_of, entry_of, flows_of, numbers_of, row_of, rows_of, entry_number, place_of, is_there, find_number};
+ghost use Rattle.of_table.specs.Table.{is_same, add_flow_fault, winner_place, looked as one_looked_up, matched_at};
+ghost use Rattle.of_table.specs.Entries.{Numbered, AddsEntry, no_entries, table_of, entry_of, flows_of, entry_numbers, classifier_row, rows_of, entry_number, place_of, is_entry_there, find_number};
 ghost use Rattle.of_table.specs.Selecting.{is_meant, stays, modified_entries, kept_of, all_told};
 ghost use Rattle.of_table.specs.Tables.{is_in as is_within, modified_numbered, kept_table, told_table};
 ghost use Rattle.of_table.specs.Copies.{Supply, wanted, wanted_in};
 ghost use Rattle.of_table.specs.Spans.{Outside};
-ghost use Rattle.of_table.specs.Faults.{fault_in};
-ghost use Rattle.of_table.specs.Sound.{AreSound, are_fit, key_of, are_unlike};
+ghost use Rattle.of_table.specs.Faults.{flow_fault_in};
+ghost use Rattle.of_table.specs.Sound.{AreSoundEntries, are_instructions_fit, entry_key, are_unlike};
 ghost use Rattle.of_actions.specs.FlowCheck.{all_go_with};
 
 use crate::copied::copy_entries;
@@ -58,13 +58,13 @@ impl<L: Lookup> Model for FlowTable<L> {
     ghost use Rattle.std.specs.Prelude.{◌≡◌, ◌≤◌, true, map, drop, length};
     ghost use Rattle.of_table.specs.Entries.{Numbered, flows_of, rows_of};
     ghost use Rattle.of_table.specs.Deadlines.{NoneOver};
-    ghost use Rattle.of_table.specs.Sound.{key_of, are_unlike};
+    ghost use Rattle.of_table.specs.Sound.{entry_key, are_unlike};
 
     ghost Value = { Numbered };
 
     ghost view = { λ t. record { lookups = t.lookups; matched = t.matched; entries = drop t.replaced t.entries.items } };
 
-    ghost invariant = { λ t. (L.content t.lookup ≡ rows_of (drop t.replaced t.entries.items)) × NoneOver t.due (drop t.replaced t.entries.items) × (t.replaced ≤ length t.entries.items) × (are_unlike (map key_of (flows_of (drop t.replaced t.entries.items))) ≡ true) };
+    ghost invariant = { λ t. (L.content t.lookup ≡ rows_of (drop t.replaced t.entries.items)) × NoneOver t.due (drop t.replaced t.entries.items) × (t.replaced ≤ length t.entries.items) × (are_unlike (map entry_key (flows_of (drop t.replaced t.entries.items))) ≡ true) };
 }
 
 impl<L: Lookup> FlowTable<L> {
@@ -113,7 +113,7 @@ impl<L: Lookup> FlowTable<L> {
     /// are to be reset, and becomes the youngest; that needs no memory. Else there is a new entry,
     /// with counters of 0.
     pub fn add(&mut self, flow: Flow, now: u64) -> Result<(), TableFault>
-        ensures fault { fault_in result ≡ add_fault flow (flows_of self.old.entries) }
+        ensures fault { flow_fault_in result ≡ add_flow_fault flow (flows_of self.old.entries) }
         ensures ok { OnOk result (AddsEntry now flow self.old self.new) }
         ensures err { OnErr result (self.new ≡ self.old) }
     {
@@ -159,7 +159,7 @@ impl<L: Lookup> FlowTable<L> {
 
     // The place of the entry of that match and priority.
     fn same_place(&self, fields: &Match, priority: u16) -> Option<usize>
-        ensures { result ≡ position (λ e. is_same_row fields.now priority (row_of e)) self.now.entries }
+        ensures { result ≡ position (λ e. is_same_row fields.now priority (classifier_row e)) self.now.entries }
     {
         self.known();
         match self.lookup.same(fields, priority) {
@@ -263,8 +263,9 @@ impl<L: Lookup> FlowTable<L> {
         requires { wanted_in which.now table self.old ≤ copies.old.count }
         ensures table { self.new ≡ modified_numbered which.now copies.old.instructions reset table self.old }
         ensures copies { copies.new ≡ record copies.old { count = copies.old.count - wanted_in which.now table self.old } }
-        ensures sound { (is_within which.now.table table ≡ true → are_fit table copies.old.instructions ≡ true) →
-            all_go_with which.now.fields copies.old.instructions ≡ true → AreSound table (table_of self.old).flows → AreSound table (table_of self.new).flows }
+        ensures sound { (is_within which.now.table table ≡ true → are_instructions_fit table copies.old.instructions ≡ true) →
+            all_go_with which.now.fields copies.old.instructions ≡ true → AreSoundEntries table (table_of self.old).flows →
+            AreSoundEntries table (table_of self.new).flows }
     {
         if is_in(which, table) {
             let span = self.span_of(which);
@@ -343,7 +344,7 @@ impl<L: Lookup> FlowTable<L> {
     /// No counter changes.
     pub fn lookup(&mut self, key: &FieldKey) -> Option<usize>
         ensures place { winner_place (value key.now) (flows_of self.old.entries) ≡ option_map (λ number. place_of number self.old.entries) result }
-        ensures there { IfSome result (λ number. IsTrue (is_there number self.old.entries)) }
+        ensures there { IfSome result (λ number. IsTrue (is_entry_there number self.old.entries)) }
         ensures kept { self.new ≡ self.old }
     {
         self.lookup.known();
@@ -353,7 +354,7 @@ impl<L: Lookup> FlowTable<L> {
     /// As `lookup`, for a table that is only borrowed.
     pub fn peek(&self, key: &FieldKey) -> Option<usize>
         ensures place { winner_place (value key.now) (flows_of self.now.entries) ≡ option_map (λ number. place_of number self.now.entries) result }
-        ensures there { IfSome result (λ number. IsTrue (is_there number self.now.entries)) }
+        ensures there { IfSome result (λ number. IsTrue (is_entry_there number self.now.entries)) }
     {
         self.lookup.known();
         self.lookup.peek(key)
@@ -370,7 +371,7 @@ impl<L: Lookup> FlowTable<L> {
     /// A packet of this many bytes hit the entry of that number, now; where there is none, the table alone counts it.
     pub fn count(&mut self, number: usize, bytes: usize, now: u64)
         ensures table { table_of self.new ≡ matched_at now (place_of number self.old.entries) bytes (table_of self.old) }
-        ensures numbers { numbers_of self.new.entries ≡ numbers_of self.old.entries }
+        ensures numbers { entry_numbers self.new.entries ≡ entry_numbers self.old.entries }
     {
         let place = self.place(number);
         self.matched = self.matched.wrapping_add(1);
@@ -417,7 +418,7 @@ impl<L: Lookup> FlowTable<L> {
     /// No two entries have the same number, and no two the same priority and match.
     pub fn known(&self)
         ensures distinct { IsTrue (is_distinct entry_number self.now.entries) }
-        ensures unlike { are_unlike (map key_of (flows_of self.now.entries)) ≡ true }
+        ensures unlike { are_unlike (map entry_key (flows_of self.now.entries)) ≡ true }
     {
         self.lookup.known();
     }

@@ -6,11 +6,11 @@ ghost use Rattle.of_headers.specs.FieldMap.{value};
 ghost use Rattle.of_wire.specs.Numbered.{is_distinct};
 ghost use Rattle.of_table.specs.Table.{winner_place, flow_at};
 ghost use Rattle.of_table.specs.Selecting.{notices_of, all_told};
-ghost use Rattle.of_table.specs.Entries.{no_entries, table_of, flows_of, rows_of, place_of, is_there, find_number, entry_number};
-ghost use Rattle.of_table.specs.Tables.{no_tables, AddsFlow, numbered_at, table_at, with_table, tables_of, all_numbers, tables_fault, added_to, modified_in, left_in, notices_in, looked_in, matched_in, all_modified, all_kept, each_from, kept_table, told_from, told_in};
+ghost use Rattle.of_table.specs.Entries.{no_entries, table_of, flows_of, rows_of, place_of, is_entry_there, find_number, entry_number};
+ghost use Rattle.of_table.specs.Tables.{no_tables, AddsFlow, numbered_at, table_at, with_table, tables_of, all_numbers, tables_fault, added_to, modified_in, left_in, notices_in, looked_in, matched_in, all_modified, all_kept, each_from, kept_table, numbered_notices_from, told_in};
 ghost use Rattle.of_table.specs.Copied.{swapped_in, swapped_out};
-ghost use Rattle.of_table.specs.Faults.{fault_in};
-ghost use Rattle.of_table.specs.Sound.{AreForAll, AreSound};
+ghost use Rattle.of_table.specs.Faults.{flow_fault_in};
+ghost use Rattle.of_table.specs.Sound.{AreForAll, AreSoundEntries};
 ghost use Rattle.of_actions.specs.FlowCheck.{all_go_with};
 ghost use Rattle.of_actions.specs.InstructionLists.{are_for};
 
@@ -78,7 +78,7 @@ impl<L: Lookup> FlowTables<L> {
     pub fn add(&mut self, table: u8, flow: Flow) -> Result<(), TableFault>
         requires fit { table < 16 → are_for table flow.instructions ≡ true }
         requires checked { table < 16 → all_go_with flow.fields flow.instructions ≡ true }
-        ensures fault { fault_in result ≡ tables_fault table flow (tables_of self.old) }
+        ensures fault { flow_fault_in result ≡ tables_fault table flow (tables_of self.old) }
         ensures tables { OnOk result (tables_of self.new ≡ added_to table flow (tables_of self.old)) }
         ensures ok { OnOk result (AddsFlow table flow self.old self.new) }
         ensures err { OnErr result (self.new ≡ self.old) }
@@ -190,7 +190,7 @@ impl<L: Lookup> FlowTables<L> {
         requires { table < 16 }
         ensures place { winner_place (value key.now) (flows_of (numbered_at table self.old).entries) ≡
             option_map (λ number. place_of number (numbered_at table self.old).entries) result }
-        ensures there { IfSome result (λ number. IsTrue (is_there number (numbered_at table self.old).entries)) }
+        ensures there { IfSome result (λ number. IsTrue (is_entry_there number (numbered_at table self.old).entries)) }
         ensures kept { self.new ≡ self.old }
     {
         self.tables[table as usize].lookup(key)
@@ -201,7 +201,7 @@ impl<L: Lookup> FlowTables<L> {
         requires { table < 16 }
         ensures place { winner_place (value key.now) (flows_of (numbered_at table self.now).entries) ≡
             option_map (λ number. place_of number (numbered_at table self.now).entries) result }
-        ensures there { IfSome result (λ number. IsTrue (is_there number (numbered_at table self.now).entries)) }
+        ensures there { IfSome result (λ number. IsTrue (is_entry_there number (numbered_at table self.now).entries)) }
     {
         self.tables[table as usize].peek(key)
     }
@@ -236,7 +236,7 @@ impl<L: Lookup> FlowTables<L> {
     /// The flow of the entry of that number of a table.
     pub fn flow(&self, table: u8, number: usize) -> &Flow
         requires table { table < 16 }
-        requires number { IsTrue (is_there number (numbered_at table self.now).entries) }
+        requires number { IsTrue (is_entry_there number (numbered_at table self.now).entries) }
         ensures { flow_at (place_of number (numbered_at table self.now).entries) (flows_of (numbered_at table self.now).entries) ≡ Some result.now }
     {
         match self.tables[table as usize].entry(number) {
@@ -282,7 +282,7 @@ impl<L: Lookup> FlowTables<L> {
     /// There are sixteen tables; in each there are at most 4,096 entries, no two of the same number or of the same priority and match, and the instructions of each are valid in it.
     pub fn known(&self)
         ensures sixteen { length self.now.tables ≡ 16 }
-        ensures sound { (k : ℕ) → AreSound k (table_at k (tables_of self.now)).flows }
+        ensures sound { (k : ℕ) → AreSoundEntries k (table_at k (tables_of self.now)).flows }
         ensures distinct { (k : ℕ) → IsTrue (is_distinct entry_number (numbered_at k self.now).entries) }
     {
         known_tables(&self.tables);

@@ -1,11 +1,11 @@
 //! Entries changed by a MODIFY command.
 
 ghost use Rattle.std.specs.Prelude.{◌≡◌, ◌≤◌, ◌+◌, ◌-◌, ℕ, true, OnOk, if◌then◌else◌};
-ghost use Rattle.of_table.specs.Entries.{entry_of, flows_of, row_of, rows_of, on_entry};
+ghost use Rattle.of_table.specs.Entries.{entry_of, flows_of, classifier_row, rows_of, on_entry};
 ghost use Rattle.of_table.specs.Selecting.{is_meant, modified_by, modified_entries};
 ghost use Rattle.of_table.specs.Spans.{Outside};
 ghost use Rattle.of_table.specs.Copies.{Supply, is_modified, wanted};
-ghost use Rattle.of_table.specs.Sound.{AreSound, are_fit, is_fit, is_checked};
+ghost use Rattle.of_table.specs.Sound.{AreSoundEntries, are_instructions_fit, is_entry_fit, is_checked};
 ghost use Rattle.of_actions.specs.FlowCheck.{all_go_with};
 
 use crate::copies::Copies;
@@ -33,10 +33,11 @@ pub(crate) fn make_copies(
 // The entry gets the instructions, if the command selects it.
 fn modify_entry(entry: &mut Entry, which: &Selector, copies: &mut Copies<'_>, reset: bool)
     requires { (if is_modified which.now entry.old then 1 else 0) ≤ copies.old.count }
-    ensures row { row_of entry.new ≡ row_of entry.old }
+    ensures row { classifier_row entry.new ≡ classifier_row entry.old }
     ensures checked { all_go_with which.now.fields copies.old.instructions ≡ true → is_checked (entry_of entry.old) ≡ true →
         is_checked (entry_of entry.new) ≡ true }
-    ensures fit { (k : ℕ) → are_fit k copies.old.instructions ≡ true → is_fit k (entry_of entry.old) ≡ true → is_fit k (entry_of entry.new) ≡ true }
+    ensures fit { (k : ℕ) → are_instructions_fit k copies.old.instructions ≡ true → is_entry_fit k (entry_of entry.old) ≡ true →
+        is_entry_fit k (entry_of entry.new) ≡ true }
     ensures entry { entry.new ≡ on_entry (modified_by which.now copies.old.instructions reset) entry.old }
     ensures copies { copies.new ≡ record copies.old { count = copies.old.count - (if is_modified which.now entry.old then 1 else 0) } }
 {
@@ -63,8 +64,8 @@ pub(crate) fn modify_all(
 )
     requires copies { wanted which.now entries.old ≤ copies.old.count }
     requires span { Outside (λ e. is_meant which.now (entry_of e)) entries.old span.first span.end }
-    ensures sound { (k : ℕ) → are_fit k copies.old.instructions ≡ true → all_go_with which.now.fields copies.old.instructions ≡ true →
-        AreSound k (flows_of entries.old) → AreSound k (flows_of entries.new) }
+    ensures sound { (k : ℕ) → are_instructions_fit k copies.old.instructions ≡ true → all_go_with which.now.fields copies.old.instructions ≡ true →
+        AreSoundEntries k (flows_of entries.old) → AreSoundEntries k (flows_of entries.new) }
     ensures rows { rows_of entries.new ≡ rows_of entries.old }
     ensures entries { entries.new ≡ modified_entries which.now copies.old.instructions reset entries.old }
     ensures copies { copies.new ≡ record copies.old { count = copies.old.count - wanted which.now entries.old } }

@@ -5,7 +5,7 @@ ghost use Rattle.std.specs.Option.{option_map};
 ghost use Rattle.of_wire.specs.Numbered.{is_used, without};
 ghost use Rattle.of_classifier.specs.Rows.{row_number};
 ghost use Rattle.of_table.specs.Entries.{entry_of, rows_of};
-ghost use Rattle.of_table.specs.Selecting.{stays, reason_of, told_by, told, told_of, all_told, kept_of};
+ghost use Rattle.of_table.specs.Selecting.{stays, reason_of, told_by, numbered_notices, numbered_notice_of, all_told, kept_of};
 
 use crate::entry::Entry;
 use crate::selection::{Cause, Removed, reason};
@@ -32,7 +32,7 @@ pub(crate) fn list_gone<'a>(
     cause: &Cause,
     removed: &mut Vec<Removed<'a>>,
 ) -> Result<(), AllocError>
-    ensures { OnOk result (all_told removed.new.items ≡ all_told removed.old.items ++ told cause.now table entries.now) }
+    ensures { OnOk result (all_told removed.new.items ≡ all_told removed.old.items ++ numbered_notices cause.now table entries.now) }
 {
     for entry in entries {
         match reason(cause, entry) {

@@ -17,12 +17,12 @@ use Rattle.of_lines.specs.declared.order.Place.TheVariants.{Start, InGroup, InBu
 use Rattle.of_lines.specs.declared.row.FlowHead.{FlowHead}
 use Rattle.of_text.specs.Groups.{TextGroup, rows_of_groups}
 use Rattle.of_lines.specs.Reading.{◌>>=◌}
-use Rattle.of_lines.specs.Order.{start, following, standing, flow_next, flow_standing}
-use Rattle.of_text.specs.Flows.{Flow, flow_rows, rows_of, step_rows, text_rows}
+use Rattle.of_lines.specs.Order.{start_place, following, following_all, flow_next, flow_standing}
+use Rattle.of_text.specs.Flows.{Flow, flow_rows, rows_of_all_flows, step_rows, text_rows}
 use Rattle.of_text.specs.Refusals.{all_there, flow_refusals, table_refusals}
 use Rattle.of_text.specs.Texts.{AreRows}
 use Rattle.of_text.specs.First.{flows_for, refusals_behind, refused_from, refused_group, first_refusal}
-use Rattle.of_text.specs.Configs.{Configuration, tables_from, tables_of, IsConfig, EncodeConfig, all_flows, config_text}
+use Rattle.of_text.specs.Configs.{Configuration, tables_from, tables_of_flows, IsConfig, EncodeConfig, all_flows, config_text}
 use Rattle.of_text.proofs.TextLemmas.{all_front, all_back, all_both, standing_both, flow_both, some_front, one_list}
 use Rattle.of_text.proofs.GatherLemmas.{all_in_flow}
 use Rattle.of_text.proofs.WriteLemmas.{text_encodes}
@@ -80,8 +80,8 @@ same_tables (suc n) t fs gs h =
     let others = same_tables n (suc t) fs gs (λ u l m. h u (omega (arith, l)) (omega (arith, m))) in
     rw (one, others) refl
 
-pub tables_again : (fs : List Flow) → tables_of (all_flows (tables_of fs)) ≡ tables_of fs
-unfolding tables_of
+pub tables_again : (fs : List Flow) → tables_of_flows (all_flows (tables_of_flows fs)) ≡ tables_of_flows fs
+unfolding tables_of_flows
 tables_again fs = same_tables 16 0 fs (all_flows (tables_from 16 0 fs)) (λ u l m. some_for 16 0 u l m fs)
 
 -- ---- none of a table is refused
@@ -162,27 +162,27 @@ pub record IsWhole (f : Flow) : Type 0 where
   pub fits : AllByRecursion Fits (flow_rows f)
   pub order : IsSome (flow_standing 0 (body f))
 
-pub each_whole : (p : ℕ) (fs : List Flow) → AllByRecursion Fits (rows_of fs) → IsSome (flow_standing p (rows_of fs)) → AllByRecursion IsWhole fs
+pub each_whole : (p : ℕ) (fs : List Flow) → AllByRecursion Fits (rows_of_all_flows fs) → IsSome (flow_standing p (rows_of_all_flows fs)) → AllByRecursion IsWhole fs
 unfolding flow_next
 each_whole p [] f o = tt
 each_whole p (x ∷ xs) f o =
-    let next = some_front (flow_standing 0 (body x)) (λ q. flow_standing q (rows_of xs)) (rw (flow_both 0 (body x) (rows_of xs)) at o) in
-    (record { fits = all_front Fits (flow_rows x) (rows_of xs) f; order = rw next.1 refl }, each_whole next.0 xs (all_back Fits (flow_rows x) (rows_of xs) f) (rw (flow_both 0 (body x) (rows_of xs), next.1) at o))
+    let next = some_front (flow_standing 0 (body x)) (λ q. flow_standing q (rows_of_all_flows xs)) (rw (flow_both 0 (body x) (rows_of_all_flows xs)) at o) in
+    (record { fits = all_front Fits (flow_rows x) (rows_of_all_flows xs) f; order = rw next.1 refl }, each_whole next.0 xs (all_back Fits (flow_rows x) (rows_of_all_flows xs) f) (rw (flow_both 0 (body x) (rows_of_all_flows xs), next.1) at o))
 
-whole_fits : (fs : List Flow) → AllByRecursion IsWhole fs → AllByRecursion Fits (rows_of fs)
+whole_fits : (fs : List Flow) → AllByRecursion IsWhole fs → AllByRecursion Fits (rows_of_all_flows fs)
 whole_fits [] h = tt
-whole_fits (x ∷ xs) h = all_both Fits (flow_rows x) (rows_of xs) h.0.fits (whole_fits xs h.1)
+whole_fits (x ∷ xs) h = all_both Fits (flow_rows x) (rows_of_all_flows xs) h.0.fits (whole_fits xs h.1)
 
 is_some : (o : Option ℕ) → IsSome o → (q : ℕ) × (o ≡ Some q)
 is_some None h = absurd cc
 is_some (Some q) h = (q, refl)
 
-whole_stands : (p : ℕ) (fs : List Flow) → AllByRecursion IsWhole fs → IsSome (flow_standing p (rows_of fs))
+whole_stands : (p : ℕ) (fs : List Flow) → AllByRecursion IsWhole fs → IsSome (flow_standing p (rows_of_all_flows fs))
 unfolding flow_next
 whole_stands p [] h = refl
 whole_stands p (x ∷ xs) h =
     let next = is_some (flow_standing 0 (body x)) h.0.order in
-    rw (flow_both 0 (body x) (rows_of xs), next.1) (whole_stands next.0 xs h.1)
+    rw (flow_both 0 (body x) (rows_of_all_flows xs), next.1) (whole_stands next.0 xs h.1)
 
 pub kept_whole : (t : ℕ) (fs : List Flow) → AllByRecursion IsWhole fs → AllByRecursion IsWhole (flows_for t fs)
 kept_whole t [] h = tt
@@ -213,44 +213,44 @@ some_mapped : {A B : Type 0} (f : A → B) (o : Option A) → IsSome (option_map
 some_mapped f None h = absurd cc
 some_mapped f (Some a) h = refl
 
-pub flows_whole : (place : Place) (fs : List Flow) → AllByRecursion Fits (rows_of fs) → IsSome (standing place (rows_of fs)) → AllByRecursion IsWhole fs
+pub flows_whole : (place : Place) (fs : List Flow) → AllByRecursion Fits (rows_of_all_flows fs) → IsSome (following_all place (rows_of_all_flows fs)) → AllByRecursion IsWhole fs
 unfolding flow_next
 flows_whole place [] f o = tt
 flows_whole place (x ∷ xs) f o =
-    let inner : IsSome (standing (InFlow 0) (body x ++ rows_of xs)) = rw (flow_begins place x.head) at o in
-    each_whole 0 (x ∷ xs) f (some_mapped InFlow (flow_standing 0 (body x ++ rows_of xs)) (rw (all_in_flow 0 (body x ++ rows_of xs)) at inner))
+    let inner : IsSome (following_all (InFlow 0) (body x ++ rows_of_all_flows xs)) = rw (flow_begins place x.head) at o in
+    each_whole 0 (x ∷ xs) f (some_mapped InFlow (flow_standing 0 (body x ++ rows_of_all_flows xs)) (rw (all_in_flow 0 (body x ++ rows_of_all_flows xs)) at inner))
 
-pub whole_placed : (place : Place) (fs : List Flow) → AllByRecursion IsWhole fs → IsSome (standing place (rows_of fs))
+pub whole_placed : (place : Place) (fs : List Flow) → AllByRecursion IsWhole fs → IsSome (following_all place (rows_of_all_flows fs))
 unfolding flow_next
 whole_placed place [] h = refl
-whole_placed place (x ∷ xs) h = rw (flow_begins place x.head, all_in_flow 0 (body x ++ rows_of xs)) (mapped_some InFlow (flow_standing 0 (body x ++ rows_of xs)) (whole_stands 0 (x ∷ xs) h))
+whole_placed place (x ∷ xs) h = rw (flow_begins place x.head, all_in_flow 0 (body x ++ rows_of_all_flows xs)) (mapped_some InFlow (flow_standing 0 (body x ++ rows_of_all_flows xs)) (whole_stands 0 (x ∷ xs) h))
 
 -- groups that are in order, with flows after them
 pub record Parts (gs : List TextGroup) (fs : List Flow) : Type 0 where
   pub fits : AllByRecursion Fits (rows_of_groups gs)
   pub place : Place
-  pub order : standing start (rows_of_groups gs) ≡ Some place
+  pub order : following_all start_place (rows_of_groups gs) ≡ Some place
   pub whole : AllByRecursion IsWhole fs
 
 pub parts_of : (gs : List TextGroup) (fs : List Flow) → AreRows (text_rows gs fs) → Parts gs fs
 parts_of gs fs h =
-    let both : IsSome (standing start (rows_of_groups gs) >>= λ q. standing q (rows_of fs)) = rw (standing_both start (rows_of_groups gs) (rows_of fs)) at h.order in
-    let next = some_front (standing start (rows_of_groups gs)) (λ q. standing q (rows_of fs)) both in
+    let both : IsSome (following_all start_place (rows_of_groups gs) >>= λ q. following_all q (rows_of_all_flows fs)) = rw (standing_both start_place (rows_of_groups gs) (rows_of_all_flows fs)) at h.order in
+    let next = some_front (following_all start_place (rows_of_groups gs)) (λ q. following_all q (rows_of_all_flows fs)) both in
     record {
-      fits = all_front Fits (rows_of_groups gs) (rows_of fs) h.fits;
+      fits = all_front Fits (rows_of_groups gs) (rows_of_all_flows fs) h.fits;
       place = next.0;
       order = next.1;
-      whole = flows_whole next.0 fs (all_back Fits (rows_of_groups gs) (rows_of fs) h.fits) (rw next.1 at both);
+      whole = flows_whole next.0 fs (all_back Fits (rows_of_groups gs) (rows_of_all_flows fs) h.fits) (rw next.1 at both);
     }
 
 pub rows_from : (gs : List TextGroup) (fs : List Flow) → Parts gs fs → AreRows (text_rows gs fs)
 rows_from gs fs p = record {
-  fits = all_both Fits (rows_of_groups gs) (rows_of fs) p.fits (whole_fits fs p.whole);
-  order = rw (standing_both start (rows_of_groups gs) (rows_of fs), p.order) (whole_placed p.place fs p.whole);
+  fits = all_both Fits (rows_of_groups gs) (rows_of_all_flows fs) p.fits (whole_fits fs p.whole);
+  order = rw (standing_both start_place (rows_of_groups gs) (rows_of_all_flows fs), p.order) (whole_placed p.place fs p.whole);
 }
 
-pub rows_again : (gs : List TextGroup) (fs : List Flow) → AreRows (text_rows gs fs) → AreRows (text_rows gs (all_flows (tables_of fs)))
-unfolding tables_of
+pub rows_again : (gs : List TextGroup) (fs : List Flow) → AreRows (text_rows gs fs) → AreRows (text_rows gs (all_flows (tables_of_flows fs)))
+unfolding tables_of_flows
 rows_again gs fs h =
     let p = parts_of gs fs h in
     rows_from gs (all_flows (tables_from 16 0 fs)) (record { fits = p.fits; place = p.place; order = p.order; whole = tables_whole 16 0 fs p.whole })
@@ -258,12 +258,12 @@ rows_again gs fs h =
 -- ---- configurations
 
 pub canonical_encodes : (c : Configuration) → IsConfig c → EncodeConfig (lines_of (config_text c)) c
-unfolding tables_of
+unfolding tables_of_flows
 canonical_encodes c k =
     rw k.filled (record {
-      flows = all_flows (tables_of k.flows);
-      encoded = text_encodes c.groups (all_flows (tables_of k.flows)) (rows_again c.groups k.flows k.rows);
-      stand = both_stand c.groups (all_flows (tables_of k.flows)) (groups_stand c.groups k.flows k.stand) (all_stand c.groups 16 0 [] k.flows (λ u l. refl) (flows_stand c.groups k.flows k.stand));
+      flows = all_flows (tables_of_flows k.flows);
+      encoded = text_encodes c.groups (all_flows (tables_of_flows k.flows)) (rows_again c.groups k.flows k.rows);
+      stand = both_stand c.groups (all_flows (tables_of_flows k.flows)) (groups_stand c.groups k.flows k.stand) (all_stand c.groups 16 0 [] k.flows (λ u l. refl) (flows_stand c.groups k.flows k.stand));
       filled = sym (tables_again k.flows);
     })
 
@@ -276,9 +276,9 @@ same_config a b g t = ap (λ (x : List TextGroup). record { groups = x; tables =
 pub one_config : (lines : List (List ℕ)) (a b : Configuration) → EncodeConfig lines a → EncodeConfig lines b → a ≡ b
 one_config lines a b s t =
     let one = one_list lines a.groups b.groups s.flows t.flows s.encoded t.encoded in
-    same_config a b one.0 (s.filled ∙ (ap tables_of one.1 ∙ sym t.filled))
+    same_config a b one.0 (s.filled ∙ (ap tables_of_flows one.1 ∙ sym t.filled))
 
-pub config_fits : (c : Configuration) → IsConfig c → AllByRecursion Fits (rows_of_groups c.groups) × AllByRecursion Fits (rows_of (all_flows c.tables))
+pub config_fits : (c : Configuration) → IsConfig c → AllByRecursion Fits (rows_of_groups c.groups) × AllByRecursion Fits (rows_of_all_flows (all_flows c.tables))
 config_fits c k =
-    let p = parts_of c.groups (all_flows (tables_of k.flows)) (rows_again c.groups k.flows k.rows) in
-    (p.fits, rw k.filled (whole_fits (all_flows (tables_of k.flows)) p.whole))
+    let p = parts_of c.groups (all_flows (tables_of_flows k.flows)) (rows_again c.groups k.flows k.rows) in
+    (p.fits, rw k.filled (whole_fits (all_flows (tables_of_flows k.flows)) p.whole))

@@ -11,7 +11,7 @@ use Rattle.of_wire.specs.declared.code.Code.{Code}
 use Rattle.of_wire.specs.Refusals.{first_of, refusal}
 use Rattle.of_wire.proofs.FirstLemmas.{none_applies}
 use Rattle.of_layers.specs.declared.field.Field.{Field}
-use Rattle.of_layers.specs.Fields.{number_of, bits_of, ones_of, is_maskable, is_settable}
+use Rattle.of_layers.specs.Fields.{number_of, bit_count, ones_of, is_maskable, is_settable}
 use Rattle.of_layers.proofs.Table.{ones_is}
 use Rattle.of_oxm.specs.declared.match_field.MatchField.{MatchField}
 use Rattle.of_oxm.specs.NormalForm.{IsKept, IsKeptMask, IsAscending, IsMatch}
@@ -32,7 +32,7 @@ use Rattle.of_lines.specs.Order.{flow_next, flow_standing}
 use Rattle.of_lines.specs.Reading.{◌>>=◌}
 use Rattle.of_text.specs.Groups.{TextGroup}
 use Rattle.of_text.specs.Flows.{Step, Apply, Clear, Write, Metadata, Goto, Flow, step_rows}
-use Rattle.of_text.specs.Refusals.{field_refusals, action_refusals, list_refusals, step_refusals, goto_refusals, goes_with, match_refusals, steps_refusals, flow_refusals, table_refusals, or_else}
+use Rattle.of_text.specs.Refusals.{text_field_refusals, text_action_refusals, list_refusals, step_refusals, goto_refusals, goes_with, match_refusals, steps_refusals, flow_refusals, table_refusals, or_else}
 use Rattle.of_text.specs.Kept.{instruction_of, IsEntry, StandsBehind, AllStandBehind}
 use Rattle.of_text.specs.First.{flows_for}
 use Rattle.of_text.specs.Configs.{Configuration, IsConfig}
@@ -68,8 +68,8 @@ none_each f (x ∷ xs) h = let parts = none_both (f x) (flat_map f xs) h in (par
 pub within : (f : Field) (mask : ℕ) → mask < ones_of f → bit_and mask (ones_of f) ≡ mask
 within f mask h =
     let is = ones_is f in
-    let small : mask < 2 ^ bits_of f = omega (arith, h, is) in
-    ap (bit_and mask) is ∙ (and_mask mask (bits_of f) ∙ mod-eq_of_lt small)
+    let small : mask < 2 ^ bit_count f = omega (arith, h, is) in
+    ap (bit_and mask) is ∙ (and_mask mask (bit_count f) ∙ mod-eq_of_lt small)
 
 pub and_true : (b : Bool) → (b && true) ≡ b
 and_true true = refl
@@ -81,12 +81,12 @@ mask_kept f v (Some m) k h i =
     let partial : eqb (bit_and m (ones_of f)) (ones_of f) ≡ false = ne_eqb _ _ (λ e. omega (arith, e, within f m k.not_all, k.not_all)) in
     record { maskable = not-false _ (sym (and_true (not (is_maskable f))) ∙ (rw partial at h)); some = k.some; not_all = k.not_all; within = within f m k.not_all; covers = eqb-true _ _ (not-false _ i) }
 
-field_kept : (e : MatchField) → FieldFits e → first_of (field_refusals e) ≡ None → IsKept e
+field_kept : (e : MatchField) → FieldFits e → first_of (text_field_refusals e) ≡ None → IsKept e
 field_kept e k h =
-    let none = none_applies (field_refusals e) h in
+    let none = none_applies (text_field_refusals e) h in
     record { value = ltb-false (ones_of e.field) e.value none.1.0; mask = mask_kept e.field e.value e.mask k.1 none.0 none.1.1.0 }
 
-fields_kept : (m : List MatchField) → AllByRecursion Fits (map rows.Match m) → AllByRecursion (λ e. first_of (field_refusals e) ≡ None) m → AllByRecursion IsKept m
+fields_kept : (m : List MatchField) → AllByRecursion Fits (map rows.Match m) → AllByRecursion (λ e. first_of (text_field_refusals e) ≡ None) m → AllByRecursion IsKept m
 fields_kept [] k h = tt
 fields_kept (e ∷ es) k h = (field_kept e k.0 h.0, fields_kept es k.1 h.1)
 
@@ -144,26 +144,26 @@ steps_rise p (s ∷ ss) h =
     above n (x ∷ xs) h = let k : 41 + n ≤ 40 + run_place x = h.0 in and_from _ _ (lt-ltb n (run_place x) (omega (arith, k))) (above n xs h.1)
 
 -- an action that is not refused is supported
-pub action_served : (a : Action) → ActionFits a → first_of (action_refusals a) ≡ None → is_supported false a ≡ true
+pub action_served : (a : Action) → ActionFits a → first_of (text_action_refusals a) ≡ None → is_supported false a ≡ true
 unfolding is_supported
-action_served (Output p m) k h = let none = none_applies (action_refusals (Output p m)) h in and_from (is_port false p) (nat_lt m 0x10000) (not-false _ none.0) (lt-ltb m 0x10000 k.1)
-action_served (PushVlan t) k h = let none = none_applies (action_refusals (PushVlan t)) h in not-false _ none.0
+action_served (Output p m) k h = let none = none_applies (text_action_refusals (Output p m)) h in and_from (is_port false p) (nat_lt m 0x10000) (not-false _ none.0) (lt-ltb m 0x10000 k.1)
+action_served (PushVlan t) k h = let none = none_applies (text_action_refusals (PushVlan t)) h in not-false _ none.0
 action_served (SetField f v) k h =
-    let none = none_applies (action_refusals (SetField f v)) h in
+    let none = none_applies (text_action_refusals (SetField f v)) h in
     and_from (is_settable f) (nat_le v (ones_of f)) (not-false _ none.0) (le-leb v (ones_of f) (ltb-false (ones_of f) v none.1.0))
 action_served other k h = grind (arith, nat_tests)
 
-each_served : (xs : List Action) → AllByRecursion Fits (map rows.Do xs) → AllByRecursion (λ a. first_of (action_refusals a) ≡ None) xs → list_all (is_supported false) xs ≡ true
+each_served : (xs : List Action) → AllByRecursion Fits (map rows.Do xs) → AllByRecursion (λ a. first_of (text_action_refusals a) ≡ None) xs → list_all (is_supported false) xs ≡ true
 each_served [] k h = refl
 each_served (a ∷ xs) k h = and_from _ _ (action_served a k.0 h.0) (each_served xs k.1 h.1)
 
 pub list_served : (xs : List Action) → AllByRecursion Fits (map rows.Do xs) → first_of (list_refusals xs) ≡ None → are_supported false xs ≡ true
 unfolding list_refusals
 list_served xs k h =
-    let parts = none_both (flat_map action_refusals (take 64 xs)) _ h in
+    let parts = none_both (flat_map text_action_refusals (take 64 xs)) _ h in
     let few : length xs ≤ 64 = ltb-false 64 (length xs) (none_next _ [] parts.1).0 in
-    let all : first_of (flat_map action_refusals xs) ≡ None = ap (λ (ys : List Action). first_of (flat_map action_refusals ys)) (sym (take_all 64 xs few)) ∙ parts.0 in
-    and_from (nat_le (length xs) 64) (list_all (is_supported false) xs) (le-leb (length xs) 64 few) (each_served xs k (none_each action_refusals xs all))
+    let all : first_of (flat_map text_action_refusals xs) ≡ None = ap (λ (ys : List Action). first_of (flat_map text_action_refusals ys)) (sym (take_all 64 xs few)) ∙ parts.0 in
+    and_from (nat_le (length xs) 64) (list_all (is_supported false) xs) (le-leb (length xs) 64 few) (each_served xs k (none_each text_action_refusals xs all))
 
 step_served : (table : ℕ) (s : Step) → AllByRecursion Fits (step_rows s) → first_of (step_refusals s) ≡ None → first_of (goto_refusals table s) ≡ None → (is_served_body (instruction_of s) ≡ true) × (is_for table (instruction_of s) ≡ true)
 unfolding step_refusals
@@ -196,9 +196,9 @@ goes_same m (Goto t ∷ ss) = ap (λ (b : Bool). true && b) (goes_same m ss)
 match_is : (m : List MatchField) (rest : List Row) → AllByRecursion Fits (map rows.Match m) → IsSome (flow_standing 0 (map rows.Match m ++ rest)) → first_of (match_refusals m) ≡ None → IsMatch m
 unfolding match_refusals
 match_is m rest k o h =
-    let parts = none_both (flat_map field_refusals m) _ h in
+    let parts = none_both (flat_map text_field_refusals m) _ h in
     record {
-      each = fields_kept m k (none_each field_refusals m parts.0);
+      each = fields_kept m k (none_each text_field_refusals m parts.0);
       rising = (fields_rise 0 m rest o).1;
       met = not-false (prerequisites_met m) (none_next _ [] parts.1).0;
     }

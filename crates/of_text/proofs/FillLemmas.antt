@@ -14,7 +14,7 @@ use Rattle.of_text.specs.Flows.{Flow}
 use Rattle.of_text.specs.Refusals.{flow_refusals, table_refusals}
 use Rattle.of_text.specs.Views.{view, view_flows}
 use Rattle.of_text.specs.First.{flows_for, refusals_behind, refused_from}
-use Rattle.of_text.specs.Configs.{tables_from, tables_of, IsConfig, with_flow, view_table, view_tables, view_config}
+use Rattle.of_text.specs.Configs.{tables_from, tables_of_flows, IsConfig, with_flow_in_table, view_table, view_tables, view_config}
 
 -- ---- one more flow
 
@@ -46,12 +46,12 @@ at_table zero t i fs h = absurd (omega (arith, h))
 at_table (suc n) t zero fs h = ap (λ (u : ℕ). flows_for u fs) (omega arith)
 at_table (suc n) t (suc i) fs h = at_table n (suc t) i fs (omega (arith, h)) ∙ ap (λ (u : ℕ). flows_for u fs) (omega arith)
 
-pub table_at : (fs : List Flow) (t : ℕ) → t < 16 → slice_index_or (tables_of fs) t [] ≡ flows_for t fs
-unfolding tables_of
+pub table_at : (fs : List Flow) (t : ℕ) → t < 16 → slice_index_or (tables_of_flows fs) t [] ≡ flows_for t fs
+unfolding tables_of_flows
 table_at fs t h = at_table 16 0 t fs h ∙ ap (λ (u : ℕ). flows_for u fs) (omega arith)
 
-pub tables_more : (before : List Flow) (f : Flow) → f.head.table < 16 → tables_of (before ++ f ∷ []) ≡ with_flow f (tables_of before)
-unfolding tables_of
+pub tables_more : (before : List Flow) (f : Flow) → f.head.table < 16 → tables_of_flows (before ++ f ∷ []) ≡ with_flow_in_table f (tables_of_flows before)
+unfolding tables_of_flows
 tables_more before f h =
     set_one 16 0 f.head.table before f (omega arith) h
     ∙ ap (λ (x : List Flow). set (tables_from 16 0 before) f.head.table (x ++ f ∷ [])) (sym (table_at before f.head.table h))
@@ -60,16 +60,16 @@ length_tables : (n t : ℕ) (fs : List Flow) → length (tables_from n t fs) ≡
 length_tables zero t fs = refl
 length_tables (suc n) t fs = let others = length_tables n (suc t) fs in omega (arith, others)
 
-pub sixteen : (fs : List Flow) → length (tables_of fs) ≡ 16
-unfolding tables_of
+pub sixteen : (fs : List Flow) → length (tables_of_flows fs) ≡ 16
+unfolding tables_of_flows
 sixteen fs = length_tables 16 0 fs
 
 -- what is refused after the flows in tables
-pub refusal_same : (gs : List TextGroup) (before : List Flow) (f : Flow) → first_of (flow_refusals f ++ table_refusals gs (slice_index_or (tables_of before) f.head.table []) f) ≡ first_of (refusals_behind gs before f)
+pub refusal_same : (gs : List TextGroup) (before : List Flow) (f : Flow) → first_of (flow_refusals f ++ table_refusals gs (slice_index_or (tables_of_flows before) f.head.table []) f) ≡ first_of (refusals_behind gs before f)
 unfolding flow_refusals
 refusal_same gs before f = by_test (nat_lt 15 f.head.table) refl
   where
-    by_test : (b : Bool) → nat_lt 15 f.head.table ≡ b → first_of (flow_refusals f ++ table_refusals gs (slice_index_or (tables_of before) f.head.table []) f) ≡ first_of (refusals_behind gs before f)
+    by_test : (b : Bool) → nat_lt 15 f.head.table ≡ b → first_of (flow_refusals f ++ table_refusals gs (slice_index_or (tables_of_flows before) f.head.table []) f) ≡ first_of (refusals_behind gs before f)
     by_test true e = rw e refl
     by_test false e =
         let small = ltb-false 15 f.head.table e in
@@ -81,13 +81,13 @@ pub record Filling (gs : List TextGroup) (all : List Flow) (left : List FlowText
   pub before : List Flow
   pub whole : all ≡ before ++ view_flows (reverse left)
   pub place : length all ≡ length before + length left
-  pub filled : view_tables tables ≡ tables_of before
+  pub filled : view_tables tables ≡ tables_of_flows before
   pub so_far : refused_from gs [] all ≡ refused_from gs before (view_flows (reverse left))
 
 pub filling_sixteen : (gs : List TextGroup) (all : List Flow) (left : List FlowText) (tables : List (Vec FlowText)) → Filling gs all left tables → length tables ≡ 16
 filling_sixteen gs all left tables g = let a = length-map tables (λ (t : Vec FlowText). view_flows t.items) in let b = ap length g.filled in let c = sixteen g.before in omega (arith, a, b, c)
 
-pub filling_start : (gs : List TextGroup) (flows left : List FlowText) (tables : List (Vec FlowText)) → view_tables tables ≡ tables_of [] → left ≡ reverse flows → Filling gs (view_flows flows) left tables
+pub filling_start : (gs : List TextGroup) (flows left : List FlowText) (tables : List (Vec FlowText)) → view_tables tables ≡ tables_of_flows [] → left ≡ reverse flows → Filling gs (view_flows flows) left tables
 filling_start gs flows left tables t l = record {
   before = [];
   whole = ap view_flows (sym (ap reverse l ∙ reverse-reverse flows));
@@ -105,7 +105,7 @@ refusal_is gs all left tables g x = ap (λ (ts : List (List Flow)). first_of (fl
 
 pub filling_more : (gs : List TextGroup) (all : List Flow) (old left : List FlowText) (tables more : List (Vec FlowText)) (x : FlowText) → Filling gs all old tables → old ≡ left ++ x ∷ []
     → first_of (flow_refusals (view x) ++ table_refusals gs (slice_index_or (view_tables tables) (view x).head.table []) (view x)) ≡ None
-    → (view x).head.table < 16 → view_tables more ≡ with_flow (view x) (view_tables tables) → Filling gs all left more
+    → (view x).head.table < 16 → view_tables more ≡ with_flow_in_table (view x) (view_tables tables) → Filling gs all left more
 filling_more gs all old left tables more x g e n small put =
     let none : first_of (refusals_behind gs g.before (view x)) ≡ None = sym (refusal_is gs all old tables g x) ∙ n in
     let next : view_flows (reverse old) ≡ view x ∷ view_flows (reverse left) = ap (λ (l : List FlowText). view_flows (reverse l)) e ∙ next_left left x in
@@ -113,7 +113,7 @@ filling_more gs all old left tables more x g e n small put =
       before = g.before ++ view x ∷ [];
       whole = g.whole ∙ (ap (λ (l : List Flow). g.before ++ l) next ∙ sym (append_assoc g.before (view x ∷ []) (view_flows (reverse left))));
       place = omega (arith, g.place, ap length e, length-append left (x ∷ []), length-append g.before (view x ∷ []));
-      filled = put ∙ (ap (with_flow (view x)) g.filled ∙ sym (tables_more g.before (view x) small));
+      filled = put ∙ (ap (with_flow_in_table (view x)) g.filled ∙ sym (tables_more g.before (view x) small));
       so_far = g.so_far ∙ (ap (refused_from gs g.before) next ∙ rw none refl);
     }
 
@@ -126,14 +126,14 @@ filling_stops gs all old left tables x code place g e r p =
     let there : length gs + length g.before ≡ place = omega (arith, p, g.place, ap length e, length-append left (x ∷ [])) in
     g.so_far ∙ (ap (refused_from gs g.before) next ∙ rw (one, there) refl)
 
-pub filling_done : (gs : List TextGroup) (all : List Flow) (left : List FlowText) (tables : List (Vec FlowText)) → Filling gs all left tables → left ≡ [] → (view_tables tables ≡ tables_of all) × (refused_from gs [] all ≡ None)
+pub filling_done : (gs : List TextGroup) (all : List Flow) (left : List FlowText) (tables : List (Vec FlowText)) → Filling gs all left tables → left ≡ [] → (view_tables tables ≡ tables_of_flows all) × (refused_from gs [] all ≡ None)
 filling_done gs all left tables g e =
     let whole : all ≡ g.before = g.whole ∙ (ap (λ (l : List FlowText). g.before ++ view_flows (reverse l)) e ∙ append-nil g.before) in
-    (g.filled ∙ ap tables_of (sym whole), g.so_far ∙ ap (λ (l : List FlowText). refused_from gs g.before (view_flows (reverse l))) e)
+    (g.filled ∙ ap tables_of_flows (sym whole), g.so_far ∙ ap (λ (l : List FlowText). refused_from gs g.before (view_flows (reverse l))) e)
 
 -- ---- as tables are in memory
 
-pub put_there : (tables : List (Vec FlowText)) (old new d : Vec FlowText) (x : FlowText) → (view x).head.table < length tables → old ≡ get_or tables (view x).head.table d → new.items ≡ old.items ++ x ∷ [] → view_tables (set tables (view x).head.table new) ≡ with_flow (view x) (view_tables tables)
+pub put_there : (tables : List (Vec FlowText)) (old new d : Vec FlowText) (x : FlowText) → (view x).head.table < length tables → old ≡ get_or tables (view x).head.table d → new.items ≡ old.items ++ x ∷ [] → view_tables (set tables (view x).head.table new) ≡ with_flow_in_table (view x) (view_tables tables)
 put_there tables old new d x lt is put =
     let there : get_or (view_tables tables) (view x).head.table [] ≡ view_table old = get_or-map view_table tables (view x).head.table d [] lt ∙ ap view_table (sym is) in
     let more : view_table new ≡ view_table old ++ view x ∷ [] = ap view_flows put ∙ map-append view old.items (x ∷ []) in

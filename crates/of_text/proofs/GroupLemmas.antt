@@ -12,7 +12,7 @@ use Rattle.of_actions.specs.declared.action.Action.{Action}
 use Rattle.of_actions.specs.Rising.{is_ascending}
 use Rattle.of_groups.specs.declared.group.Group.{Group}
 use Rattle.of_groups.specs.Buckets.{any_sends, are_fit, is_fit}
-use Rattle.of_groups.specs.Groups.{number_of, any_watches}
+use Rattle.of_groups.specs.Groups.{group_number, any_watches}
 use Rattle.of_groups.specs.Chains.{chain, leads}
 use Rattle.of_groups.specs.Faults.{is_absent, is_bad_watch, is_not_one}
 use Rattle.of_groups.specs.Sound.{is_fit_group, is_whole}
@@ -22,7 +22,7 @@ use Rattle.of_lines.specs.declared.order.Place.TheVariants.{InGroup, InBucket}
 use Rattle.of_lines.specs.declared.row.Row.{Row}
 use Rattle.of_lines.specs.declared.row.Row.TheVariants as rows
 use Rattle.of_lines.specs.Rows.{Fits}
-use Rattle.of_lines.specs.Order.{start, following, standing}
+use Rattle.of_lines.specs.Order.{start_place, following, following_all}
 use Rattle.of_lines.specs.Reading.{◌>>=◌}
 use Rattle.of_text.specs.Groups.{TextBucket, TextGroup, bucket_rows, group_rows, rows_of_groups, bucket_of, buckets_of, group_at, groups_at}
 use Rattle.of_text.specs.Flows.{text_rows}
@@ -146,25 +146,25 @@ short_from there place (g ∷ gs) h =
 
 -- ---- in ascending order of number
 
-actions_placed : (n : ℕ) (xs : List Action) (rest : List Row) → standing (InBucket n) (map rows.Do xs ++ rest) ≡ standing (InBucket n) rest
+actions_placed : (n : ℕ) (xs : List Action) (rest : List Row) → following_all (InBucket n) (map rows.Do xs ++ rest) ≡ following_all (InBucket n) rest
 unfolding following
 actions_placed n [] rest = refl
 actions_placed n (x ∷ xs) rest = actions_placed n xs rest
 
-bucket_placed : (n : ℕ) (b : Bool) (x : TextBucket) (rest : List Row) → standing (in_group n b) (bucket_rows x ++ rest) ≡ standing (InBucket n) rest
+bucket_placed : (n : ℕ) (b : Bool) (x : TextBucket) (rest : List Row) → following_all (in_group n b) (bucket_rows x ++ rest) ≡ following_all (InBucket n) rest
 unfolding following
 bucket_placed n false x rest = actions_placed n x.actions rest
 bucket_placed n true x rest = actions_placed n x.actions rest
 
-buckets_placed : (n : ℕ) (b : Bool) (bs : List TextBucket) (rest : List Row) → (c : Bool) × (standing (in_group n b) (flat_map bucket_rows bs ++ rest) ≡ standing (in_group n c) rest)
+buckets_placed : (n : ℕ) (b : Bool) (bs : List TextBucket) (rest : List Row) → (c : Bool) × (following_all (in_group n b) (flat_map bucket_rows bs ++ rest) ≡ following_all (in_group n c) rest)
 buckets_placed n b [] rest = (b, refl)
 buckets_placed n b (x ∷ bs) rest =
     let others = buckets_placed n true bs rest in
-    (others.0, ap (standing (in_group n b)) (append_assoc (bucket_rows x) (flat_map bucket_rows bs) rest) ∙ (bucket_placed n b x (flat_map bucket_rows bs ++ rest) ∙ others.1))
+    (others.0, ap (following_all (in_group n b)) (append_assoc (bucket_rows x) (flat_map bucket_rows bs) rest) ∙ (bucket_placed n b x (flat_map bucket_rows bs ++ rest) ∙ others.1))
 
 -- after the line of the next group
-begun : (n : ℕ) (b : Bool) (g : TextGroup) (rest : List Row) → standing (in_group n b) (group_rows g ++ rest) ≡ (cond (nat_lt n g.head.id) (Some (InGroup g.head.id)) None >>= λ p. standing p (flat_map bucket_rows g.buckets ++ rest))
-begun n b g rest = ap (λ (o : Option Place). o >>= λ p. standing p (flat_map bucket_rows g.buckets ++ rest)) (next_in n b (rows.Group g.head))
+begun : (n : ℕ) (b : Bool) (g : TextGroup) (rest : List Row) → following_all (in_group n b) (group_rows g ++ rest) ≡ (cond (nat_lt n g.head.id) (Some (InGroup g.head.id)) None >>= λ p. following_all p (flat_map bucket_rows g.buckets ++ rest))
+begun n b g rest = ap (λ (o : Option Place). o >>= λ p. following_all p (flat_map bucket_rows g.buckets ++ rest)) (next_in n b (rows.Group g.head))
 
 abbrev above : ℕ → List TextGroup → Bool
 above n gs = list_all (λ (g : Group). nat_lt n g.id) (groups_at 0 gs)
@@ -175,15 +175,15 @@ higher n m l (g ∷ gs) h =
     let parts = and_parts (nat_lt m g.head.id) (above m gs) h in
     and_from _ _ (lt-ltb n g.head.id (omega (arith, ltb-true n m l, ltb-true m g.head.id parts.0))) (higher n m l gs parts.1)
 
-groups_rise : (n : ℕ) (b : Bool) (gs : List TextGroup) (q : Place) → standing (in_group n b) (rows_of_groups gs) ≡ Some q → (above n gs ≡ true) × (is_ascending number_of (groups_at 0 gs) ≡ true)
+groups_rise : (n : ℕ) (b : Bool) (gs : List TextGroup) (q : Place) → following_all (in_group n b) (rows_of_groups gs) ≡ Some q → (above n gs ≡ true) × (is_ascending group_number (groups_at 0 gs) ≡ true)
 groups_rise n b [] q h = (refl, refl)
 groups_rise n b (g ∷ gs) q h =
-    let parts = bind_cond (nat_lt n g.head.id) (InGroup g.head.id) (λ p. standing p (flat_map bucket_rows g.buckets ++ rows_of_groups gs)) q (sym (begun n b g (rows_of_groups gs)) ∙ h) in
+    let parts = bind_cond (nat_lt n g.head.id) (InGroup g.head.id) (λ p. following_all p (flat_map bucket_rows g.buckets ++ rows_of_groups gs)) q (sym (begun n b g (rows_of_groups gs)) ∙ h) in
     let next = buckets_placed g.head.id false g.buckets (rows_of_groups gs) in
     let others = groups_rise g.head.id next.0 gs q (sym next.1 ∙ parts.1) in
     (and_from _ _ parts.0 (higher n g.head.id parts.0 gs others.0), and_from _ _ others.0 others.1)
 
-all_rise : (gs : List TextGroup) (q : Place) → standing start (rows_of_groups gs) ≡ Some q → is_ascending number_of (groups_at 0 gs) ≡ true
+all_rise : (gs : List TextGroup) (q : Place) → following_all start_place (rows_of_groups gs) ≡ Some q → is_ascending group_number (groups_at 0 gs) ≡ true
 unfolding following
 all_rise [] q h = refl
 all_rise (g ∷ gs) q h =
@@ -191,20 +191,20 @@ all_rise (g ∷ gs) q h =
     let others = groups_rise g.head.id next.0 gs q (sym next.1 ∙ h) in
     and_from _ _ others.0 others.1
 
-risen_placed : (n : ℕ) (b : Bool) (gs : List TextGroup) → above n gs ≡ true → is_ascending number_of (groups_at 0 gs) ≡ true → (q : Place) × (standing (in_group n b) (rows_of_groups gs) ≡ Some q)
+risen_placed : (n : ℕ) (b : Bool) (gs : List TextGroup) → above n gs ≡ true → is_ascending group_number (groups_at 0 gs) ≡ true → (q : Place) × (following_all (in_group n b) (rows_of_groups gs) ≡ Some q)
 risen_placed n b [] h k = (in_group n b, refl)
 risen_placed n b (g ∷ gs) h k =
     let parts = and_parts (nat_lt n g.head.id) (above n gs) h in
-    let rise = and_parts (above g.head.id gs) (is_ascending number_of (groups_at 0 gs)) k in
+    let rise = and_parts (above g.head.id gs) (is_ascending group_number (groups_at 0 gs)) k in
     let next = buckets_placed g.head.id false g.buckets (rows_of_groups gs) in
     let others = risen_placed g.head.id next.0 gs rise.0 rise.1 in
     (others.0, begun n b g (rows_of_groups gs) ∙ rw parts.0 (next.1 ∙ others.1))
 
-all_placed : (gs : List TextGroup) → is_ascending number_of (groups_at 0 gs) ≡ true → (q : Place) × (standing start (rows_of_groups gs) ≡ Some q)
+all_placed : (gs : List TextGroup) → is_ascending group_number (groups_at 0 gs) ≡ true → (q : Place) × (following_all start_place (rows_of_groups gs) ≡ Some q)
 unfolding following
-all_placed [] k = (start, refl)
+all_placed [] k = (start_place, refl)
 all_placed (g ∷ gs) k =
-    let rise = and_parts (above g.head.id gs) (is_ascending number_of (groups_at 0 gs)) k in
+    let rise = and_parts (above g.head.id gs) (is_ascending group_number (groups_at 0 gs)) k in
     let next = buckets_placed g.head.id false g.buckets (rows_of_groups gs) in
     let others = risen_placed g.head.id next.0 gs rise.0 rise.1 in
     (others.0, next.1 ∙ others.1)

@@ -9,7 +9,7 @@ use Rattle.std.proofs.Math.Path.{fun_ext}
 use Rattle.of_actions.specs.Rising.{is_ascending}
 use Rattle.of_groups.specs.declared.group.Group.{Group}
 use Rattle.of_groups.specs.Buckets.{are_fit}
-use Rattle.of_groups.specs.Groups.{number_of, is_there, find_group, names, any_named}
+use Rattle.of_groups.specs.Groups.{group_number, is_there, find_group, names, any_named}
 use Rattle.of_groups.specs.Chains.{names_next, is_chain}
 use Rattle.of_groups.specs.Faults.{is_absent}
 use Rattle.of_groups.specs.Sound.{is_fit_group, is_whole, AreSound}
@@ -18,11 +18,11 @@ use Rattle.of_text.specs.Groups.{TextGroup, buckets_of, group_at, groups_at}
 use Rattle.of_text.specs.Views.{view_group, view_groups}
 use Rattle.of_text.proofs.WriteLemmas.{next_group}
 
-above_same : (c d n : ℕ) (gs : List TextGroup) → list_all (λ (y : Group). nat_lt n (number_of y)) (groups_at c gs) ≡ list_all (λ (y : Group). nat_lt n (number_of y)) (groups_at d gs)
+above_same : (c d n : ℕ) (gs : List TextGroup) → list_all (λ (y : Group). nat_lt n (group_number y)) (groups_at c gs) ≡ list_all (λ (y : Group). nat_lt n (group_number y)) (groups_at d gs)
 above_same c d n [] = refl
 above_same c d n (g ∷ gs) = ap (λ (b : Bool). nat_lt n g.head.id && b) (above_same c d n gs)
 
-rising_same : (c d : ℕ) (gs : List TextGroup) → is_ascending number_of (groups_at c gs) ≡ is_ascending number_of (groups_at d gs)
+rising_same : (c d : ℕ) (gs : List TextGroup) → is_ascending group_number (groups_at c gs) ≡ is_ascending group_number (groups_at d gs)
 rising_same c d [] = refl
 rising_same c d (g ∷ gs) = rw (above_same c d g.head.id gs, rising_same c d gs) refl
 

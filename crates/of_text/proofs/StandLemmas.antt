@@ -28,11 +28,11 @@ use Rattle.of_groups.specs.Sound.{is_fit_group, is_whole}
 use Rattle.of_groups.proofs.ChainLaws.{chain_at_most}
 use Rattle.of_text.specs.Groups.{TextBucket, TextGroup, bucket_of, buckets_of, group_at, groups_at}
 use Rattle.of_text.specs.Flows.{Step, Apply, Clear, Write, Metadata, Goto, Flow, text_rows}
-use Rattle.of_text.specs.Refusals.{field_refusals, action_refusals, list_refusals, step_refusals, goto_refusals, goes_with, match_refusals, steps_refusals, flow_refusals, table_refusals, buckets_refusals, group_refusals, naming_refusals, there_from, all_there}
+use Rattle.of_text.specs.Refusals.{text_field_refusals, text_action_refusals, list_refusals, step_refusals, goto_refusals, goes_with, match_refusals, steps_refusals, flow_refusals, table_refusals, buckets_refusals, group_refusals, naming_refusals, there_from, all_there}
 use Rattle.of_text.specs.Texts.{AreRows}
 use Rattle.of_text.specs.First.{flows_for, refused_from, refused_group}
 use Rattle.of_text.specs.Kept.{KeptFlow, IsKeptFlow, in_text, step_of, instruction_of, instructions_of, IsEntry, StandsBehind, AllStandBehind, AreKeptGroups}
-use Rattle.of_text.specs.Configs.{Configuration, IsConfig, all_flows, tables_from, tables_of}
+use Rattle.of_text.specs.Configs.{Configuration, IsConfig, all_flows, tables_from, tables_of_flows}
 use Rattle.of_text.specs.KeptConfigs.{IsHeaded, AreKeptTables, IsKeptConfig}
 use Rattle.of_text.proofs.RefusalLemmas.{first_append}
 use Rattle.of_text.proofs.EntryLemmas.{goes_same}
@@ -64,20 +64,20 @@ mask_stands : (f : Field) (v : ℕ) (mask : Option ℕ) → v ≤ ones_of f → 
 mask_stands f v None l h = rw (not_above (ones_of f) v l) refl
 mask_stands f v (Some m) l h = rw (h.maskable, not_above (ones_of f) v l, eq-eqb (bit_and v m) v h.covers) refl
 
-field_stands : (e : MatchField) → IsKept e → first_of (field_refusals e) ≡ None
+field_stands : (e : MatchField) → IsKept e → first_of (text_field_refusals e) ≡ None
 field_stands e h = mask_stands e.field e.value e.mask h.value h.mask
 
-fields_stand : (m : List MatchField) → AllByRecursion IsKept m → AllByRecursion (λ e. first_of (field_refusals e) ≡ None) m
+fields_stand : (m : List MatchField) → AllByRecursion IsKept m → AllByRecursion (λ e. first_of (text_field_refusals e) ≡ None) m
 fields_stand [] h = tt
 fields_stand (e ∷ es) h = (field_stands e h.0, fields_stand es h.1)
 
 match_stands : (m : List MatchField) → IsMatch m → first_of (match_refusals m) ≡ None
 unfolding match_refusals
-match_stands m h = none_joined (flat_map field_refusals m) _ (none_all field_refusals m (fields_stand m h.each)) (rw h.met refl)
+match_stands m h = none_joined (flat_map text_field_refusals m) _ (none_all text_field_refusals m (fields_stand m h.each)) (rw h.met refl)
 
 -- ---- instructions
 
-action_stands : (a : Action) → is_supported false a ≡ true → first_of (action_refusals a) ≡ None
+action_stands : (a : Action) → is_supported false a ≡ true → first_of (text_action_refusals a) ≡ None
 unfolding is_supported
 action_stands (Output p m) h = rw (and_parts (is_port false p) (nat_lt m 0x10000) h).0 refl
 action_stands (PushVlan t) h = rw h refl
@@ -91,10 +91,10 @@ unfolding list_refusals
 list_stands xs h =
     let parts = and_parts (nat_le (length xs) 64) (list_all (is_supported false) xs) h in
     let few : length xs ≤ 64 = leb-true (length xs) 64 parts.0 in
-    let each : first_of (flat_map action_refusals (take 64 xs)) ≡ None =
-    ap (λ (ys : List Action). first_of (flat_map action_refusals ys)) (take_all 64 xs few)
-    ∙ none_all action_refusals xs (all_true (λ a. first_of (action_refusals a) ≡ None) (is_supported false) action_stands xs parts.1) in
-    none_joined (flat_map action_refusals (take 64 xs)) _ each (rw (not_above 64 (length xs) few) refl)
+    let each : first_of (flat_map text_action_refusals (take 64 xs)) ≡ None =
+    ap (λ (ys : List Action). first_of (flat_map text_action_refusals ys)) (take_all 64 xs few)
+    ∙ none_all text_action_refusals xs (all_true (λ a. first_of (text_action_refusals a) ≡ None) (is_supported false) action_stands xs parts.1) in
+    none_joined (flat_map text_action_refusals (take 64 xs)) _ each (rw (not_above 64 (length xs) few) refl)
 
 step_stands : (s : Step) → is_served_body (instruction_of s) ≡ true → first_of (step_refusals s) ≡ None
 unfolding step_refusals
@@ -284,7 +284,7 @@ kept_groups_stand gs k =
 -- ---- configurations
 
 pub kept_config : (c : Configuration) → IsKeptConfig c → IsConfig c
-unfolding tables_of
+unfolding tables_of_flows
 kept_config c k = record {
   flows = all_flows c.tables;
   rows = kept_lines c k;

@@ -6,7 +6,7 @@ use Rattle.of_text.specs.declared.flow.FlowText.{FlowText}
 use Rattle.of_text.specs.declared.group.GroupText.{GroupText}
 use Rattle.of_text.specs.Groups.{TextGroup}
 use Rattle.of_text.specs.Flows.{Flow, text_rows}
-use Rattle.of_text.specs.Texts.{EncodeItems, AreRows, text_of}
+use Rattle.of_text.specs.Texts.{EncodeItems, AreRows, groups_and_flows_text}
 use Rattle.of_text.specs.Views.{view_flows, view_groups}
 use Rattle.of_text.specs.First.{flows_for, first_refusal}
 
@@ -15,12 +15,12 @@ abbrev pub tables_from : ℕ → ℕ → List Flow → List (List Flow)
 tables_from zero table flows = []
 tables_from (suc n) table flows = flows_for table flows ∷ tables_from n (suc table) flows
 
-unfoldable pub tables_of : List Flow → List (List Flow)
-tables_of flows = tables_from 16 0 flows
+unfoldable pub tables_of_flows : List Flow → List (List Flow)
+tables_of_flows flows = tables_from 16 0 flows
 
 -- one more flow, after those of its table
-abbrev pub with_flow : Flow → List (List Flow) → List (List Flow)
-with_flow f tables = slice_set tables f.head.table (slice_index_or tables f.head.table [] ++ f ∷ [])
+abbrev pub with_flow_in_table : Flow → List (List Flow) → List (List Flow)
+with_flow_in_table f tables = slice_set tables f.head.table (slice_index_or tables f.head.table [] ++ f ∷ [])
 
 pub record Configuration : Type 0 where
   pub groups : List TextGroup
@@ -31,14 +31,14 @@ pub record IsConfig (c : Configuration) : Type 0 where
   pub flows : List Flow
   pub rows : AreRows (text_rows c.groups flows)
   pub stand : first_refusal c.groups flows ≡ None
-  pub filled : c.tables ≡ tables_of flows
+  pub filled : c.tables ≡ tables_of_flows flows
 
 -- THE LINES ENCODE THE CONFIGURATION: they encode its groups and flows, none of which is refused, and each flow is in its table, after those that come before it
 pub record EncodeConfig (lines : List (List ℕ)) (c : Configuration) : Type 0 where
   pub flows : List Flow
   pub encoded : EncodeItems lines c.groups flows
   pub stand : first_refusal c.groups flows ≡ None
-  pub filled : c.tables ≡ tables_of flows
+  pub filled : c.tables ≡ tables_of_flows flows
 
 -- the flows, table by table
 abbrev pub all_flows : List (List Flow) → List Flow
@@ -46,7 +46,7 @@ all_flows tables = flat_map (λ flows. flows) tables
 
 -- THE CANONICAL TEXT: the groups in ascending order of number, then the flows by table, and in a table the oldest first
 abbrev pub config_text : Configuration → List ℕ
-config_text c = text_of c.groups (all_flows c.tables)
+config_text c = groups_and_flows_text c.groups (all_flows c.tables)
 
 -- ---- as they lie in memory
 

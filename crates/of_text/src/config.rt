@@ -2,7 +2,7 @@
 ghost use Rattle.std.specs.Prelude.{◌≡◌, ◌<◌, ◌≤◌, ℕ, [], length, slice_index_or, IfOk, OnOk};
 ghost use Rattle.std.specs.List.{AllByRecursion};
 ghost use Rattle.of_text.specs.Kept.{AreKeptGroups, IsEntry, AllStandBehind};
-ghost use Rattle.of_text.specs.Configs.{IsConfig, tables_of, with_flow, view_tables};
+ghost use Rattle.of_text.specs.Configs.{IsConfig, tables_of_flows, with_flow_in_table, view_tables};
 ghost use Rattle.of_text.specs.Views.{view, view_flows, view_groups};
 
 use crate::flow::FlowText;
@@ -65,7 +65,7 @@ impl Config {
 
 /// Sixteen tables without flows.
 pub fn empty_tables(alloc: Global) -> Result<Vec<Vec<FlowText>>, AllocError>
-    ensures { IfOk result (λ tables. view_tables tables.items ≡ tables_of []) }
+    ensures { IfOk result (λ tables. view_tables tables.items ≡ tables_of_flows []) }
 {
     let mut tables = Vec::new(alloc);
     while tables.len() < TABLES as usize {
@@ -77,7 +77,7 @@ pub fn empty_tables(alloc: Global) -> Result<Vec<Vec<FlowText>>, AllocError>
 /// Puts the flow after those of its table.
 pub fn put_flow(tables: &mut Vec<Vec<FlowText>>, flow: FlowText) -> Result<(), AllocError>
     requires { flow.head.table < length tables.old.items }
-    ensures { OnOk result (view_tables tables.new.items ≡ with_flow (view flow) (view_tables tables.old.items)) }
+    ensures { OnOk result (view_tables tables.new.items ≡ with_flow_in_table (view flow) (view_tables tables.old.items)) }
 {
     let table = usize::from(flow.head.table);
     tables[table].push(flow)?;

@@ -2,7 +2,7 @@
 ghost use Rattle.std.specs.Prelude.{◌≡◌, ◌++◌, ℕ, List, IfOk, OnOk, MatchResult};
 ghost use Rattle.std.specs.List.{AllByRecursion};
 ghost use Rattle.of_text.specs.Groups.{group_rows, rows_of_groups};
-ghost use Rattle.of_text.specs.Flows.{rows_of, flow_rows};
+ghost use Rattle.of_text.specs.Flows.{rows_of_all_flows, flow_rows};
 ghost use Rattle.of_lines.specs.Lines.{lines_of};
 ghost use Rattle.of_lines.specs.Rows.{Fits};
 ghost use Rattle.of_text.specs.Texts.{lines_text};
@@ -30,8 +30,8 @@ fn write_flow(out: &mut Vec<u8>, rows: &mut Vec<Row>, flow: &FlowText) -> Result
 
 // Appends the lines of flows.
 fn write_flows(out: &mut Vec<u8>, flows: &[FlowText]) -> Result<(), AllocError>
-    requires { AllByRecursion Fits (rows_of (view_flows flows.now)) }
-    ensures { OnOk result (out.new.items ≡ out.old.items ++ lines_text (rows_of (view_flows flows.now))) }
+    requires { AllByRecursion Fits (rows_of_all_flows (view_flows flows.now)) }
+    ensures { OnOk result (out.new.items ≡ out.old.items ++ lines_text (rows_of_all_flows (view_flows flows.now))) }
 {
     let mut rows = Vec::new(*out.allocator());
     for flow in flows {
@@ -64,8 +64,8 @@ fn write_groups(out: &mut Vec<u8>, groups: &[GroupText]) -> Result<(), AllocErro
 
 // Appends the lines of tables.
 fn write_tables(out: &mut Vec<u8>, tables: &[Vec<FlowText>]) -> Result<(), AllocError>
-    requires { AllByRecursion Fits (rows_of (all_flows (view_tables tables.now))) }
-    ensures { OnOk result (out.new.items ≡ out.old.items ++ lines_text (rows_of (all_flows (view_tables tables.now)))) }
+    requires { AllByRecursion Fits (rows_of_all_flows (all_flows (view_tables tables.now))) }
+    ensures { OnOk result (out.new.items ≡ out.old.items ++ lines_text (rows_of_all_flows (all_flows (view_tables tables.now)))) }
 {
     for table in tables {
         write_flows(out, table)?;

@@ -1,7 +1,7 @@
 //! Groups and flows from lines.
 ghost use Rattle.std.specs.Prelude.{◌≡◌, [], ◌∷◌, OnOk, IfOk, reverse};
-ghost use Rattle.of_text.specs.Flows.{gather as gather_row, gathered, nothing};
-ghost use Rattle.of_text.specs.Views.{view_flows, view_groups, view_step, seen};
+ghost use Rattle.of_text.specs.Flows.{gather_line as gather_row, gathered_rows, nothing_gathered};
+ghost use Rattle.of_text.specs.Views.{view_flows, view_groups, view_step, seen_gathering};
 
 use crate::flow::{FlowText, StepText};
 use crate::group::{BucketText, GroupText};
@@ -33,7 +33,7 @@ fn take_turned<T: Drop>(alloc: Global, list: &mut Vec<T>) -> Vec<T>
 
 impl Gathering {
     fn new(alloc: Global) -> Gathering
-        ensures { seen result ≡ nothing }
+        ensures { seen_gathering result ≡ nothing_gathered }
     {
         Gathering {
             actions: Vec::new(alloc),
@@ -47,7 +47,7 @@ impl Gathering {
 
     // The group whose buckets were gathered.
     fn gather_group(&mut self, alloc: Global, head: GroupHead) -> Result<(), AllocError>
-        ensures { OnOk result (seen self.new ≡ gather_row (Row.Group head) (seen self.old)) }
+        ensures { OnOk result (seen_gathering self.new ≡ gather_row (Row.Group head) (seen_gathering self.old)) }
     {
         let buckets = take_turned(alloc, &mut self.buckets);
         self.actions.clear();
@@ -57,7 +57,7 @@ impl Gathering {
 
     // The bucket whose actions were gathered.
     fn gather_bucket(&mut self, alloc: Global, head: BucketHead) -> Result<(), AllocError>
-        ensures { OnOk result (seen self.new ≡ gather_row (Row.Bucket head) (seen self.old)) }
+        ensures { OnOk result (seen_gathering self.new ≡ gather_row (Row.Bucket head) (seen_gathering self.old)) }
     {
         let actions = take_turned(alloc, &mut self.actions);
         self.buckets.push(BucketText { head, actions })?;
@@ -66,7 +66,7 @@ impl Gathering {
 
     // The flow whose fields and instructions were gathered.
     fn gather_flow(&mut self, alloc: Global, head: FlowHead) -> Result<(), AllocError>
-        ensures { OnOk result (seen self.new ≡ gather_row (Row.Flow head) (seen self.old)) }
+        ensures { OnOk result (seen_gathering self.new ≡ gather_row (Row.Flow head) (seen_gathering self.old)) }
     {
         let fields = take_turned(alloc, &mut self.fields);
         let steps = take_turned(alloc, &mut self.steps);
@@ -81,15 +81,15 @@ impl Gathering {
 
     // The actions that were gathered, in their order.
     fn take_actions(&mut self, alloc: Global) -> Vec<Action>
-        ensures taken { result.items ≡ (seen self.old).actions }
-        ensures left { seen self.new ≡ record (seen self.old) { actions = [] } }
+        ensures taken { result.items ≡ (seen_gathering self.old).actions }
+        ensures left { seen_gathering self.new ≡ record (seen_gathering self.old) { actions = [] } }
     {
         take_turned(alloc, &mut self.actions)
     }
 
     // An instruction.
     fn push_step(&mut self, step: StepText) -> Result<(), AllocError>
-        ensures { OnOk result (seen self.new ≡ record (seen self.old) { steps = view_step step ∷ (seen self.old).steps }) }
+        ensures { OnOk result (seen_gathering self.new ≡ record (seen_gathering self.old) { steps = view_step step ∷ (seen_gathering self.old).steps }) }
     {
         self.steps.push(step)?;
         Ok(())
@@ -97,7 +97,7 @@ impl Gathering {
 
     // A field of a match.
     fn push_field(&mut self, e: MatchField) -> Result<(), AllocError>
-        ensures { OnOk result (seen self.new ≡ gather_row (Row.Match e) (seen self.old)) }
+        ensures { OnOk result (seen_gathering self.new ≡ gather_row (Row.Match e) (seen_gathering self.old)) }
     {
         self.fields.push(e)?;
         Ok(())
@@ -105,7 +105,7 @@ impl Gathering {
 
     // An action of a bucket or an instruction.
     fn push_action(&mut self, action: Action) -> Result<(), AllocError>
-        ensures { OnOk result (seen self.new ≡ gather_row (Row.Do action) (seen self.old)) }
+        ensures { OnOk result (seen_gathering self.new ≡ gather_row (Row.Do action) (seen_gathering self.old)) }
     {
         self.actions.push(action)?;
         Ok(())
@@ -113,7 +113,7 @@ impl Gathering {
 
     // Puts the line first.
     fn gather(&mut self, alloc: Global, row: Row) -> Result<(), AllocError>
-        ensures { OnOk result (seen self.new ≡ gather_row row (seen self.old)) }
+        ensures { OnOk result (seen_gathering self.new ≡ gather_row row (seen_gathering self.old)) }
     {
         match row {
             Row::Group(head) => self.gather_group(alloc, head),
@@ -136,7 +136,7 @@ impl Gathering {
     }
     // Puts lines first, the last of them before the others.
     fn gather_all(&mut self, alloc: Global, rows: Vec<Row>) -> Result<(), AllocError>
-        ensures { OnOk result (seen self.new ≡ gathered (seen self.old) rows.items) }
+        ensures { OnOk result (seen_gathering self.new ≡ gathered_rows (seen_gathering self.old) rows.items) }
     {
         let mut rows = rows;
         while let Some(row) = rows.pop() {
@@ -155,8 +155,8 @@ pub struct Items {
 
 /// The groups and flows that lines are, where the lines are in order.
 pub fn items_of(alloc: Global, rows: Vec<Row>) -> Result<Items, AllocError>
-    ensures groups { IfOk result (λ items. view_groups items.groups.items ≡ (gathered nothing rows.items).groups) }
-    ensures flows { IfOk result (λ items. view_flows items.flows.items ≡ (gathered nothing rows.items).flows) }
+    ensures groups { IfOk result (λ items. view_groups items.groups.items ≡ (gathered_rows nothing_gathered rows.items).groups) }
+    ensures flows { IfOk result (λ items. view_flows items.flows.items ≡ (gathered_rows nothing_gathered rows.items).flows) }
 {
     let mut gathering = Gathering::new(alloc);
     gathering.gather_all(alloc, rows)?;

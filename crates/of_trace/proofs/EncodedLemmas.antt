@@ -24,7 +24,7 @@ use Rattle.of_machine.specs.declared.data.Step.{Step}
 use Rattle.of_ports.specs.Ports.{may_receive, port_at}
 use Rattle.of_machine.specs.TheWorld.{TheWorld}
 use Rattle.of_machine.specs.Sound.{IsSound}
-use Rattle.of_machine.specs.Rows.{Work, Lookup, Do, RunSet, Act, Task, task, Row, row, acts, works, key_of, lookup_row, entry_row, output_row, group_row, dec_ttl_row, copies, entering}
+use Rattle.of_machine.specs.Rows.{Work, Lookup, Do, RunSet, Act, Task, task, Row, row, acts, works, key_of, lookup_row, entry_row, output_row, group_action_row, dec_ttl_row, copies, entering}
 use Rattle.of_machine.specs.Weights.{IsSet, AllFit}
 use Rattle.of_machine.specs.Runs.{Machine, step, first_step, after, starting, run_of}
 use Rattle.of_machine.proofs.Promises.{flow_served, list_served}
@@ -103,7 +103,7 @@ module _ (w : TheWorld) (sound : IsSound w) (p : Packet) (rest : List Work) wher
   copies_encoded group [] = tt
   copies_encoded group (k ∷ places) = ((tt, tt), copies_encoded group places)
 
-  group_encoded : (group : ℕ) (chosen : Option (List ℕ)) → IsTrue (is_supported false (Group group)) → AllEncodedWork rest → IsEncodedRow (group_row w p rest group chosen)
+  group_encoded : (group : ℕ) (chosen : Option (List ℕ)) → IsTrue (is_supported false (Group group)) → AllEncodedWork rest → IsEncodedRow (group_action_row w p rest group chosen)
   group_encoded group None h k = (h, (k, tt))
   group_encoded group (Some places) h k = (h, tasks_more (copies w group p places) (task p rest ∷ []) (copies_encoded group places) (k, tt))
 

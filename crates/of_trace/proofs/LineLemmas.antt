@@ -4,7 +4,7 @@ use Rattle.std.proofs.lemmas.List.{drop_more, length-take-le, take-take}
 use Rattle.std.proofs.lemmas.Bool.{lt-ltb, ne_eqb}
 use Rattle.std.proofs.Math.Seq.{take-suc}
 use Rattle.std.specs.Io.KnownBytes.{Consumes, IsAtEnd}
-use Rattle.of_replay.specs.Told.{Answer, Gave, Ended, Known, Told, Left, Answers, NoneLeft, bytes_of}
+use Rattle.of_replay.specs.Told.{Answer, Gave, Ended, Known, Told, Left, Answers, NoneLeft, answer_bytes}
 use Rattle.of_trace.specs.FirstLines.{first_lines, lines_behind, known_lines, first_known}
 
 pub none_left : (bytes : List ℕ) → first_lines 0 bytes ≡ []
@@ -77,7 +77,7 @@ part_given left left' n n' buf (Left a) (Told b) within fits part is = absurd is
 part_given left left' n n' buf (Left a) (Left b) within fits part is = consumed left left' n n' buf a b within fits part is
 
 -- it gave nothing
-pub none_given : (left : ℕ) (old new : Known) (one : Answer) → bytes_of one ≡ [] → Answers old new one → Answers (first_known left old) (first_known left new) one
+pub none_given : (left : ℕ) (old new : Known) (one : Answer) → answer_bytes one ≡ [] → Answers old new one → Answers (first_known left old) (first_known left new) one
 none_given left (Told a) (Told b) one none is = tt
 none_given left (Told a) (Left b) one none is = absurd is
 none_given left (Left a) (Told b) one none is = absurd is

@@ -19,7 +19,7 @@ use Rattle.of_machine.specs.declared.data.Step.{Step}
 use Rattle.of_machine.specs.declared.data.Step.TheVariants.{Miss, Entry, Apply, Clear, Write, Metadata, Goto, Set, Act, TtlExpired, End}
 use Rattle.of_text.specs.Lines.{ended, note}
 use Rattle.of_layers.specs.Fields.{name_of}
-use Rattle.of_text.specs.Rows.{encoding}
+use Rattle.of_text.specs.Rows.{row_encoding}
 use Rattle.of_lines.specs.declared.row.Row.TheVariants as rows
 use Rattle.of_datapath.specs.declared.effect.Effect.{Effect}
 use Rattle.of_datapath.specs.Datapath.{Forwarding, world_of}
@@ -35,8 +35,8 @@ use Rattle.of_trace.specs.declared.sight.Sight.{Sight}
 use Rattle.of_trace.specs.Sights.{key_seen, sight_after, stepped}
 use Rattle.of_trace.specs.Why.{reason_in}
 use Rattle.of_trace.specs.OnlyNotes.{NotedLine, OnlyNotesAdded}
-use Rattle.of_trace.specs.Notes.{changes, entry_notes, explained, explained_from, first_notes, found_notes, group_notes, head_in, is_asked, is_many, is_set, is_unsent, line_in, look_notes, looks_at, match_notes, miss_notes, notes, output_note, plain, port_note, port_words, reason_note, reasons_from, same_value, seen_notes, sending_notes, set_notes, styled, ttl_seen, ttl_words, reason_words, value_or_absent}
-use Rattle.of_trace.specs.Words.{entered, flow_there, heading, leaving_text, words_text}
+use Rattle.of_trace.specs.Notes.{step_changes, entry_notes, explained_trace, explained_from, first_notes, found_notes, group_notes, head_in, is_asked, is_many, is_set, is_unsent, step_line_in, look_notes, looks_at, match_notes, miss_notes, notes, output_note, plain_trace, port_note, port_words, reason_note, reasons_from, same_value, seen_notes, sending_notes, set_notes, styled, ttl_seen, ttl_words, reason_words, value_or_absent}
+use Rattle.of_trace.specs.Words.{entering_sights, flow_there, heading, leaving_text, words_text}
 
 pub record AreNotes (text : List ℕ) : Type 0 where
   pub notes : List (List ℕ)
@@ -66,11 +66,11 @@ either false xs ys a b = b
 -- ---- each kind of note
 
 matched : (fields : List MatchField) → AreNotes (match_notes fields)
-matched fields = each _ fields (λ e. one (encoding (rows.Match e)))
+matched fields = each _ fields (λ e. one (row_encoding (rows.Match e)))
 
 of_entry : (t : ℕ) (f : Option Flow) → AreNotes (entry_notes t f)
 of_entry t None = none
-of_entry t (Some f) = both _ _ (one (encoding (rows.Flow (head_in t f)))) (matched f.fields)
+of_entry t (Some f) = both _ _ (one (row_encoding (rows.Flow (head_in t f)))) (matched f.fields)
 
 of_found : (style : Style) (t : ℕ) (f : Option Flow) → AreNotes (found_notes style t f)
 of_found Lines t f = of_entry t f
@@ -96,7 +96,7 @@ of_look style f asked t map =
     let flows : List FlowEntry = (table_at t f.tables).flows in
     either (nat_lt t 16) _ _ (both _ _ (seen style flows map) (reasons style asked t map flows 0 flows)) none
 
-of_changes : (style : Style) (step : Step) (s : Sight) → AreNotes (changes style step s)
+of_changes : (style : Style) (step : Step) (s : Sight) → AreNotes (step_changes style step s)
 of_changes style step s =
     both _ _
     (each _ constants.ALL (λ f. either (same_value (key_seen s f) (key_seen (sight_after step s) f)) _ _ none (one (name_of f ++ value_or_absent style f (key_seen s f) ++ codes " ->" ++ value_or_absent style f (key_seen (sight_after step s) f)))))
@@ -158,34 +158,34 @@ more line text plain noted a h =
 
 -- the lines of steps, without notes
 abbrev lines_text : Style → Forwarding → List Step → List ℕ
-lines_text style f steps = flat_map (λ s. ended (line_in style f s)) steps
+lines_text style f steps = flat_map (λ s. ended (step_line_in style f s)) steps
 
 steps_noted : (style : Style) (f : Forwarding) (asked : Asked) (sights : List Sight) (steps : List Step) (rest : List ℕ) → OnlyNotesAdded (lines_text style f steps ++ rest) (explained_from style f asked sights steps ++ rest)
 steps_noted style f asked sights [] rest = record { lines = []; rest = rest; plain_is = refl; noted_is = refl }
 steps_noted style f asked sights (step ∷ steps) rest =
     let behind : List ℕ = explained_from style f asked (stepped (world_of f) step sights) steps in
-    let line : List ℕ = ended (line_in style f step) in
+    let line : List ℕ = ended (step_line_in style f step) in
     let first : List ℕ = first_notes style f asked sights step in
     let set : List ℕ = set_notes step steps in
-    let whole : OnlyNotesAdded (line ++ (lines_text style f steps ++ rest)) (line ++ (first ++ set) ++ (behind ++ rest)) = more (line_in style f step) (first ++ set) _ _ (both first set (of_first style f asked sights step) (of_set step steps)) (steps_noted style f asked (stepped (world_of f) step sights) steps rest) in
+    let whole : OnlyNotesAdded (line ++ (lines_text style f steps ++ rest)) (line ++ (first ++ set) ++ (behind ++ rest)) = more (step_line_in style f step) (first ++ set) _ _ (both first set (of_first style f asked sights step) (of_set step steps)) (steps_noted style f asked (stepped (world_of f) step sights) steps rest) in
     let plain : line ++ (lines_text style f steps ++ rest) ≡ lines_text style f (step ∷ steps) ++ rest = sym (append_assoc line (lines_text style f steps) rest) in
     let noted : line ++ (first ++ set) ++ (behind ++ rest) ≡ explained_from style f asked sights (step ∷ steps) ++ rest =
     ap (λ (l : List ℕ). l ++ (behind ++ rest)) (sym (append_assoc line first set)) ∙ sym (append_assoc (line ++ first ++ set) behind rest) in
     rw (sym plain, sym noted) whole
 
 -- in words the frame is a line before them
-pub explained_noted : (style : Style) (f : Forwarding) (asked : Asked) (port : ℕ) (frame : List ℕ) (steps : List Step) (effects : List Effect) → OnlyNotesAdded (plain style f port frame steps effects) (explained style f asked port frame steps effects)
-explained_noted Lines f asked port frame steps effects = steps_noted Lines f asked (entered port frame) steps (text_of effects)
+pub explained_noted : (style : Style) (f : Forwarding) (asked : Asked) (port : ℕ) (frame : List ℕ) (steps : List Step) (effects : List Effect) → OnlyNotesAdded (plain_trace style f port frame steps effects) (explained_trace style f asked port frame steps effects)
+explained_noted Lines f asked port frame steps effects = steps_noted Lines f asked (entering_sights port frame) steps (text_of effects)
 explained_noted Words f asked port frame steps effects =
     let first : List ℕ = ended (heading f port frame) in
-    let noted : List ℕ = explained_from Words f asked (entered port frame) steps in
+    let noted : List ℕ = explained_from Words f asked (entering_sights port frame) steps in
     let rest : List ℕ = leaving_text effects in
-    let whole : OnlyNotesAdded (first ++ (words_text f steps ++ rest)) (first ++ [] ++ (noted ++ rest)) = more (heading f port frame) [] _ _ none (steps_noted Words f asked (entered port frame) steps rest) in
-    let plain_is : first ++ (words_text f steps ++ rest) ≡ plain Words f port frame steps effects = sym (append_assoc first (words_text f steps) rest) in
-    let noted_is : first ++ [] ++ (noted ++ rest) ≡ explained Words f asked port frame steps effects = ap (λ (l : List ℕ). l ++ (noted ++ rest)) (append-nil first) ∙ sym (append_assoc first noted rest) in
+    let whole : OnlyNotesAdded (first ++ (words_text f steps ++ rest)) (first ++ [] ++ (noted ++ rest)) = more (heading f port frame) [] _ _ none (steps_noted Words f asked (entering_sights port frame) steps rest) in
+    let plain_is : first ++ (words_text f steps ++ rest) ≡ plain_trace Words f port frame steps effects = sym (append_assoc first (words_text f steps) rest) in
+    let noted_is : first ++ [] ++ (noted ++ rest) ≡ explained_trace Words f asked port frame steps effects = ap (λ (l : List ℕ). l ++ (noted ++ rest)) (append-nil first) ∙ sym (append_assoc first noted rest) in
     rw (sym plain_is, sym noted_is) whole
 
-pub said_noted : (style : Style) (form : Form) (f : Forwarding) (port : ℕ) (frame : List ℕ) (steps : List Step) (effects : List Effect) → OnlyNotesAdded (plain style f port frame steps effects) (styled style form f port frame steps effects)
-said_noted style Plain f port frame steps effects = record { lines = []; rest = plain style f port frame steps effects; plain_is = refl; noted_is = refl }
+pub said_noted : (style : Style) (form : Form) (f : Forwarding) (port : ℕ) (frame : List ℕ) (steps : List Step) (effects : List Effect) → OnlyNotesAdded (plain_trace style f port frame steps effects) (styled style form f port frame steps effects)
+said_noted style Plain f port frame steps effects = record { lines = []; rest = plain_trace style f port frame steps effects; plain_is = refl; noted_is = refl }
 said_noted style Explained f port frame steps effects = explained_noted style f Nothing port frame steps effects
 said_noted style (Why asked) f port frame steps effects = explained_noted style f asked port frame steps effects

@@ -15,7 +15,7 @@ use Rattle.of_table.specs.declared.flow.Flow.{Flow}
 use Rattle.of_machine.specs.declared.data.Packet.{Packet}
 use Rattle.of_machine.specs.declared.data.Step.{Step}
 use Rattle.of_machine.specs.TheWorld.{TheWorld}
-use Rattle.of_machine.specs.Rows.{Work, Lookup, Do, RunSet, Act, Task, task, Row, row, key_of, entering, lookup_row, entry_row, output_row, group_row, dec_ttl_row, copies}
+use Rattle.of_machine.specs.Rows.{Work, Lookup, Do, RunSet, Act, Task, task, Row, row, key_of, entering, lookup_row, entry_row, output_row, group_action_row, dec_ttl_row, copies}
 use Rattle.of_machine.specs.Runs.{Machine, step, first_step, after, starting}
 use Rattle.of_machine.specs.Sound.{IsSound}
 use Rattle.of_machine.specs.Weights.{AllFit}
@@ -53,7 +53,7 @@ module _ (w : TheWorld) (p : Packet) (rest : List Work) where
   copies_told group [] = refl
   copies_told group (k ∷ places) = ap (λ (l : List Sight). sight_of p ∷ l) (copies_told group places)
 
-  group_told : (group : ℕ) (chosen : Option (List ℕ)) → w.chosen group ≡ chosen → IsTold w p (group_row w p rest group chosen)
+  group_told : (group : ℕ) (chosen : Option (List ℕ)) → w.chosen group ≡ chosen → IsTold w p (group_action_row w p rest group chosen)
   group_told group None e = rw e refl
   group_told group (Some places) e = rw e (copies_told group places)
 

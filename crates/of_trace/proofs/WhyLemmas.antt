@@ -6,7 +6,7 @@ use Rattle.of_oxm.specs.declared.match_field.MatchField.{MatchField}
 use Rattle.of_oxm.specs.Relations.{agrees, matches_map}
 use Rattle.of_classifier.specs.declared.Row.{Row}
 use Rattle.of_classifier.specs.Rows.{made_row}
-use Rattle.of_classifier.specs.Winner.{winner_of, number_of, Wins}
+use Rattle.of_classifier.specs.Winner.{winner_of, winner_number, Wins}
 use Rattle.of_classifier.proofs.WinnerLaw.{wins_both, none_both}
 use Rattle.of_table.specs.Table.{FlowEntry, rows_from, winner_place}
 use Rattle.of_table.specs.Tables.{table_at}
@@ -71,7 +71,7 @@ best_by flows map r place w =
       oldest = λ j e at m same. let first = w.oldest j (made_row (0 + j) e.flow.priority e.flow.fields) (row_at 0 flows j e at) m (same ∙ sym rank) in omega (arith, first, number);
     }
 
-best_of : (flows : List FlowEntry) (map : Field → Option ℕ) (k : ℕ) (found : Option Row) → winner_of (rows_from 0 flows) map ≡ found → number_of found ≡ Some k → IsBest flows map k
+best_of : (flows : List FlowEntry) (map : Field → Option ℕ) (k : ℕ) (found : Option Row) → winner_of (rows_from 0 flows) map ≡ found → winner_number found ≡ Some k → IsBest flows map k
 best_of flows map k None e h = absurd cc
 best_of flows map k (Some r) e h =
     let same : r.number ≡ k = cc in
@@ -82,7 +82,7 @@ pub winner_is_best : (flows : List FlowEntry) (map : Field → Option ℕ) (k : 
 winner_is_best flows map k h = best_of flows map k (winner_of (rows_from 0 flows) map) refl h
 
 -- where one matches there is a winner
-none_by : (flows : List FlowEntry) (map : Field → Option ℕ) (found : Option Row) → winner_of (rows_from 0 flows) map ≡ found → number_of found ≡ None → (j : ℕ) (e : FlowEntry) → slice_get flows j ≡ Some e → matches_map e.flow.fields map ≡ true → ⊥
+none_by : (flows : List FlowEntry) (map : Field → Option ℕ) (found : Option Row) → winner_of (rows_from 0 flows) map ≡ found → winner_number found ≡ None → (j : ℕ) (e : FlowEntry) → slice_get flows j ≡ Some e → matches_map e.flow.fields map ≡ true → ⊥
 none_by flows map (Some r) is h j e at m = cc
 none_by flows map None is h j e at m =
     let none = (none_both (rows_from 0 flows) map).0 is in

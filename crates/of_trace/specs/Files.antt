@@ -10,7 +10,7 @@ use Rattle.of_switch.specs.Steps.{frame_in}
 use Rattle.of_datapath.specs.DryRun.{steps_in}
 use Rattle.of_switch.specs.Loading.{loaded}
 use Rattle.of_trace.specs.declared.form.Output.{Output}
-use Rattle.of_trace.specs.Notes.{said}
+use Rattle.of_trace.specs.Notes.{trace_output}
 
 -- a port is added, whose link is up
 abbrev pub port_up : ℕ → Event
@@ -26,7 +26,7 @@ traced_switch config = loaded config (run (ports_up 64) (start 1)).state
 
 -- what is written of the trace on a switch
 abbrev pub trace_on : Output → ℕ → List ℕ → State → List ℕ
-trace_on output port frame s = said output s.core.forwarding port frame (steps_in port frame s.core.forwarding) (frame_in port frame s).effects
+trace_on output port frame s = trace_output output s.core.forwarding port frame (steps_in port frame s.core.forwarding) (frame_in port frame s).effects
 
 abbrev pub trace_of : Output → ℕ → List ℕ → Configuration → List ℕ
 trace_of output port frame config = trace_on output port frame (traced_switch config)

@@ -16,8 +16,8 @@ use Rattle.of_values.specs.Values.{value_words}
 use Rattle.of_trace.specs.Words.{flow_there}
 
 -- the first member of a step
-unfoldable pub named : List ℕ → List ℕ
-named step = key (codes "step") ++ quoted step
+unfoldable pub step_member : List ℕ → List ℕ
+step_member step = key (codes "step") ++ quoted step
 
 -- the priority and the match of an entry
 unfoldable pub flow_members : Option Flow → List ℕ
@@ -29,26 +29,26 @@ unfoldable pub hexadecimal_member : List ℕ → ℕ → ℕ → List ℕ
 hexadecimal_member name least n = text_member name (numbers.hexadecimal least n)
 
 unfoldable pub action_members : Action → List ℕ
-action_members (Output port max_len) = named (codes "output") ++ text_member (codes "port") (numbers.port port) ++ number_member (codes "max_len") max_len
-action_members (PushVlan type) = named (codes "push_vlan") ++ hexadecimal_member (codes "type") 4 type
-action_members PopVlan = named (codes "pop_vlan")
-action_members (Group group) = named (codes "group") ++ number_member (codes "group") group
-action_members (SetNwTtl ttl) = named (codes "set_nw_ttl") ++ number_member (codes "ttl") ttl
-action_members DecNwTtl = named (codes "dec_nw_ttl")
-action_members (SetField field value) = named (codes "set") ++ text_member (codes "field") (name_of field) ++ text_member (codes "value") (value_words field value None)
+action_members (Output port max_len) = step_member (codes "output") ++ text_member (codes "port") (numbers.port_in_words port) ++ number_member (codes "max_len") max_len
+action_members (PushVlan type) = step_member (codes "push_vlan") ++ hexadecimal_member (codes "type") 4 type
+action_members PopVlan = step_member (codes "pop_vlan")
+action_members (Group group) = step_member (codes "group") ++ number_member (codes "group") group
+action_members (SetNwTtl ttl) = step_member (codes "set_nw_ttl") ++ number_member (codes "ttl") ttl
+action_members DecNwTtl = step_member (codes "dec_nw_ttl")
+action_members (SetField field value) = step_member (codes "set") ++ text_member (codes "field") (name_of field) ++ text_member (codes "value") (value_words field value None)
 
 unfoldable pub step_members : Forwarding → Step → List ℕ
-step_members f (Miss table) = named (codes "miss") ++ number_member (codes "table") table
-step_members f (Entry table place) = named (codes "entry") ++ number_member (codes "table") table ++ number_member (codes "entry") place ++ flow_members (flow_there f table place)
-step_members f Apply = named (codes "apply")
-step_members f Clear = named (codes "clear")
-step_members f Write = named (codes "write")
-step_members f (Metadata value mask) = named (codes "metadata") ++ hexadecimal_member (codes "value") 1 value ++ hexadecimal_member (codes "mask") 1 mask
-step_members f (Goto table) = named (codes "goto") ++ number_member (codes "table") table
-step_members f Set = named (codes "action set")
+step_members f (Miss table) = step_member (codes "miss") ++ number_member (codes "table") table
+step_members f (Entry table place) = step_member (codes "entry") ++ number_member (codes "table") table ++ number_member (codes "entry") place ++ flow_members (flow_there f table place)
+step_members f Apply = step_member (codes "apply")
+step_members f Clear = step_member (codes "clear")
+step_members f Write = step_member (codes "write")
+step_members f (Metadata value mask) = step_member (codes "metadata") ++ hexadecimal_member (codes "value") 1 value ++ hexadecimal_member (codes "mask") 1 mask
+step_members f (Goto table) = step_member (codes "goto") ++ number_member (codes "table") table
+step_members f Set = step_member (codes "action set")
 step_members f (Act action) = action_members action
-step_members f TtlExpired = named (codes "TTL expired")
-step_members f End = named (codes "end")
+step_members f TtlExpired = step_member (codes "TTL expired")
+step_members f End = step_member (codes "end")
 
 unfoldable pub step_object : Forwarding → Step → List ℕ
 step_object f step = 123 ∷ step_members f step ++ 125 ∷ []

@@ -19,7 +19,7 @@ use Rattle.of_machine.specs.declared.data.Step.TheVariants.{Miss, Entry, Metadat
 use Rattle.of_oxm.specs.declared.match_field.MatchField.{MatchField}
 use Rattle.of_text.specs.Lines.{ended, note}
 use Rattle.of_lines.specs.declared.row.FlowHead.{FlowHead}
-use Rattle.of_text.specs.Rows.{encoding, value_word}
+use Rattle.of_text.specs.Rows.{row_encoding, value_word}
 use Rattle.of_lines.specs.declared.row.Row.TheVariants as rows
 use Rattle.of_datapath.specs.declared.effect.Effect.{Effect}
 use Rattle.of_datapath.specs.Datapath.{Forwarding, world_of}
@@ -38,18 +38,18 @@ use Rattle.of_trace.specs.declared.reason.Reason.TheVariants.{Won, Differs, Lowe
 use Rattle.of_trace.specs.declared.sight.Sight.{Sight}
 use Rattle.of_trace.specs.Sights.{key_seen, sight_after, stepped}
 use Rattle.of_trace.specs.Text.{step_line, trace_text}
-use Rattle.of_trace.specs.Words.{entered, flow_there, heading, leaving_text, words_line, words_text}
+use Rattle.of_trace.specs.Words.{entering_sights, flow_there, heading, leaving_text, words_line, words_text}
 use Rattle.of_trace.specs.Json.{trace_json}
 use Rattle.of_trace.specs.Why.{reason_in}
 
 -- ---- values
 
 -- a space and a value in the digits of its field's bytes; no value has a bit above the field's width
-abbrev pub digits : Field → ℕ → List ℕ
-digits f v = 32 ∷ value_word f (bit_and v (ones_of f))
+abbrev pub spaced_digits : Field → ℕ → List ℕ
+spaced_digits f v = 32 ∷ value_word f (bit_and v (ones_of f))
 
 abbrev pub value_text : Style → Field → ℕ → List ℕ
-value_text Lines f v = digits f v
+value_text Lines f v = spaced_digits f v
 value_text Words f v = 32 ∷ value_words f v None
 
 abbrev pub value_or_absent : Style → Field → Option ℕ → List ℕ
@@ -59,14 +59,14 @@ value_or_absent style f (Some v) = value_text style f v
 -- ---- the winning entry's `flow` line and its `match` lines, as flow text writes them
 
 abbrev pub match_notes : List MatchField → List ℕ
-match_notes fields = flat_map (λ e. note (encoding (rows.Match e))) fields
+match_notes fields = flat_map (λ e. note (row_encoding (rows.Match e))) fields
 
 abbrev pub head_in : ℕ → Flow → FlowHead
 head_in table f = record { table = table; priority = f.priority; cookie = f.cookie; idle = f.idle_timeout; hard = f.hard_timeout; flags = flags_number f.flags }
 
 abbrev pub entry_notes : ℕ → Option Flow → List ℕ
 entry_notes table None = []
-entry_notes table (Some f) = note (encoding (rows.Flow (head_in table f))) ++ match_notes f.fields
+entry_notes table (Some f) = note (row_encoding (rows.Flow (head_in table f))) ++ match_notes f.fields
 
 -- in words they are in the line itself
 abbrev pub found_notes : Style → ℕ → Option Flow → List ℕ
@@ -95,11 +95,11 @@ seen_notes style flows map = flat_map (seen_note style flows map) constants.ALL
 
 abbrev pub mask_digits : Field → Option ℕ → List ℕ
 mask_digits f None = []
-mask_digits f (Some mask) = digits f mask
+mask_digits f (Some mask) = spaced_digits f mask
 
 -- what a field of a match wants
 abbrev pub wanted_text : Style → MatchField → List ℕ
-wanted_text Lines e = digits e.field e.value ++ mask_digits e.field e.mask
+wanted_text Lines e = spaced_digits e.field e.value ++ mask_digits e.field e.mask
 wanted_text Words e = 32 ∷ value_words e.field e.value e.mask
 
 abbrev pub reason_words : Style → Reason → List ℕ
@@ -185,8 +185,8 @@ group_notes group (Some (k ∷ places)) = bucket_notes (k ∷ places)
 
 -- ---- the notes of a step, which this packet takes
 
-abbrev pub changes : Style → Step → Sight → List ℕ
-changes style step s = change_notes style (key_seen s) (key_seen (sight_after step s)) ++ ttl_note (ttl_seen s) (ttl_seen (sight_after step s))
+abbrev pub step_changes : Style → Step → Sight → List ℕ
+step_changes style step s = change_notes style (key_seen s) (key_seen (sight_after step s)) ++ ttl_note (ttl_seen s) (ttl_seen (sight_after step s))
 
 abbrev pub sending_notes : Forwarding → Sight → Action → List ℕ
 sending_notes f s (actions.Output port max_len) = output_note f.ports s.ingress port
@@ -196,21 +196,21 @@ sending_notes f s other = []
 abbrev pub notes : Style → Forwarding → Asked → Sight → Step → List ℕ
 notes style f asked s (Miss t) = miss_notes style t ++ look_notes style f asked t (key_seen s)
 notes style f asked s (Entry t place) = found_notes style t (flow_there f t place) ++ look_notes style f asked t (key_seen s)
-notes style f asked s (Metadata value mask) = changes style (Metadata value mask) s
-notes style f asked s (Act action) = sending_notes f s action ++ changes style (Act action) s
+notes style f asked s (Metadata value mask) = step_changes style (Metadata value mask) s
+notes style f asked s (Act action) = sending_notes f s action ++ step_changes style (Act action) s
 notes style f asked s TtlExpired = note (codes "its work ends here")
 notes style f asked s other = []
 
 -- ---- an action set without output: none of its actions sends, and the packet ends (5.10)
 
-abbrev pub sends : Action → Bool
-sends (actions.Output port max_len) = true
-sends (actions.Group group) = true
-sends other = false
+abbrev pub sends_packet : Action → Bool
+sends_packet (actions.Output port max_len) = true
+sends_packet (actions.Group group) = true
+sends_packet other = false
 
 -- of a step, where this is so of those after it
 abbrev pub is_unsent_from : Step → Bool → Bool
-is_unsent_from (Act action) behind = not (sends action) && behind
+is_unsent_from (Act action) behind = not (sends_packet action) && behind
 is_unsent_from End behind = true
 is_unsent_from other behind = false
 
@@ -232,38 +232,38 @@ abbrev pub first_notes : Style → Forwarding → Asked → List Sight → Step 
 first_notes style f asked [] step = []
 first_notes style f asked (s ∷ others) step = notes style f asked s step
 
-abbrev pub line_in : Style → Forwarding → Step → List ℕ
-line_in Lines f step = step_line step
-line_in Words f step = words_line f step
+abbrev pub step_line_in : Style → Forwarding → Step → List ℕ
+step_line_in Lines f step = step_line step
+step_line_in Words f step = words_line f step
 
 abbrev pub explained_from : Style → Forwarding → Asked → List Sight → List Step → List ℕ
 explained_from style f asked sights [] = []
-explained_from style f asked sights (step ∷ steps) = ended (line_in style f step) ++ first_notes style f asked sights step ++ set_notes step steps ++ explained_from style f asked (stepped (world_of f) step sights) steps
+explained_from style f asked sights (step ∷ steps) = ended (step_line_in style f step) ++ first_notes style f asked sights step ++ set_notes step steps ++ explained_from style f asked (stepped (world_of f) step sights) steps
 
 -- in words the frame comes first
 abbrev pub heading_in : Style → Forwarding → ℕ → List ℕ → List ℕ
 heading_in Lines f port frame = []
 heading_in Words f port frame = ended (heading f port frame)
 
-abbrev pub effects_in : Style → List Effect → List ℕ
-effects_in Lines effects = text_of effects
-effects_in Words effects = leaving_text effects
+abbrev pub text_of_effects : Style → List Effect → List ℕ
+text_of_effects Lines effects = text_of effects
+text_of_effects Words effects = leaving_text effects
 
-abbrev pub explained : Style → Forwarding → Asked → ℕ → List ℕ → List Step → List Effect → List ℕ
-explained style f asked port frame steps effects = heading_in style f port frame ++ explained_from style f asked (entered port frame) steps ++ effects_in style effects
+abbrev pub explained_trace : Style → Forwarding → Asked → ℕ → List ℕ → List Step → List Effect → List ℕ
+explained_trace style f asked port frame steps effects = heading_in style f port frame ++ explained_from style f asked (entering_sights port frame) steps ++ text_of_effects style effects
 
-abbrev pub plain : Style → Forwarding → ℕ → List ℕ → List Step → List Effect → List ℕ
-plain Lines f port frame steps effects = trace_text steps effects
-plain Words f port frame steps effects = ended (heading f port frame) ++ words_text f steps ++ leaving_text effects
+abbrev pub plain_trace : Style → Forwarding → ℕ → List ℕ → List Step → List Effect → List ℕ
+plain_trace Lines f port frame steps effects = trace_text steps effects
+plain_trace Words f port frame steps effects = ended (heading f port frame) ++ words_text f steps ++ leaving_text effects
 
 -- THE TEXT OF A TRACE in one of its styles and forms
 abbrev pub styled : Style → Form → Forwarding → ℕ → List ℕ → List Step → List Effect → List ℕ
-styled style Plain f port frame steps effects = plain style f port frame steps effects
-styled style Explained f port frame steps effects = explained style f Nothing port frame steps effects
-styled style (Why asked) f port frame steps effects = explained style f asked port frame steps effects
+styled style Plain f port frame steps effects = plain_trace style f port frame steps effects
+styled style Explained f port frame steps effects = explained_trace style f Nothing port frame steps effects
+styled style (Why asked) f port frame steps effects = explained_trace style f asked port frame steps effects
 
 -- and what is written of it: one of these texts, or JSON
-abbrev pub said : Output → Forwarding → ℕ → List ℕ → List Step → List Effect → List ℕ
-said (outputs.Lines form) f port frame steps effects = styled Lines form f port frame steps effects
-said (outputs.Words form) f port frame steps effects = styled Words form f port frame steps effects
-said outputs.Json f port frame steps effects = trace_json f port frame steps effects
+abbrev pub trace_output : Output → Forwarding → ℕ → List ℕ → List Step → List Effect → List ℕ
+trace_output (outputs.Lines form) f port frame steps effects = styled Lines form f port frame steps effects
+trace_output (outputs.Words form) f port frame steps effects = styled Words form f port frame steps effects
+trace_output outputs.Json f port frame steps effects = trace_json f port frame steps effects

@@ -27,13 +27,13 @@ key_seen s = field_map (layers_of s.frame) s.ingress s.metadata
 
 -- ---- the packet itself after a step
 
-abbrev pub frame_after : Action → List ℕ → List ℕ
-frame_after DecNwTtl frame = frame_ttl_decremented frame
-frame_after other frame = rewritten other frame
+abbrev pub frame_after_action : Action → List ℕ → List ℕ
+frame_after_action DecNwTtl frame = frame_ttl_decremented frame
+frame_after_action other frame = rewritten other frame
 
 abbrev pub sight_after : Step → Sight → Sight
 sight_after (Metadata value mask) s = record s { metadata = with_metadata value mask s.metadata }
-sight_after (Act action) s = record s { frame = frame_after action s.frame }
+sight_after (Act action) s = record s { frame = frame_after_action action s.frame }
 sight_after other s = s
 
 -- ---- the copies that take steps before it: a group makes one for each bucket that runs, and TABLE one with metadata 0

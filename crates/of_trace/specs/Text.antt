@@ -5,7 +5,7 @@ use Rattle.of_machine.specs.declared.data.Step.{Step}
 use Rattle.of_machine.specs.declared.data.Step.TheVariants.{Miss, Entry, Apply, Clear, Write, Metadata, Goto, Set, Act, TtlExpired, End}
 use Rattle.of_actions.specs.declared.action.Action.TheVariants.{DecNwTtl}
 use Rattle.of_text.specs.Lines.{joined, ended}
-use Rattle.of_text.specs.Rows.{encoding}
+use Rattle.of_text.specs.Rows.{row_encoding}
 use Rattle.of_lines.specs.declared.row.Row.TheVariants as rows
 use Rattle.of_datapath.specs.declared.effect.Effect.{Effect}
 use Rattle.of_replay.specs.Output.{text_of}
@@ -14,14 +14,14 @@ use Rattle.of_replay.specs.Output.{text_of}
 abbrev pub step_line : Step → List ℕ
 step_line (Miss table) = joined (codes "lookup" ∷ decimal table ∷ codes "miss" ∷ [])
 step_line (Entry table place) = joined (codes "lookup" ∷ decimal table ∷ codes "entry" ∷ decimal place ∷ [])
-step_line Apply = encoding rows.Apply
-step_line Clear = encoding rows.Clear
-step_line Write = encoding rows.Write
-step_line (Metadata value mask) = encoding (rows.Metadata value mask)
-step_line (Goto table) = encoding (rows.Goto table)
+step_line Apply = row_encoding rows.Apply
+step_line Clear = row_encoding rows.Clear
+step_line Write = row_encoding rows.Write
+step_line (Metadata value mask) = row_encoding (rows.Metadata value mask)
+step_line (Goto table) = row_encoding (rows.Goto table)
 step_line Set = codes "set"
-step_line (Act action) = encoding (rows.Do action)
-step_line TtlExpired = encoding (rows.Do DecNwTtl) ++ codes " expired"
+step_line (Act action) = row_encoding (rows.Do action)
+step_line TtlExpired = row_encoding (rows.Do DecNwTtl) ++ codes " expired"
 step_line End = codes "end"
 
 abbrev pub steps_text : List Step → List ℕ

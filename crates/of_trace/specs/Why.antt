@@ -62,13 +62,13 @@ abbrev pub beaten_by : FlowEntry → ℕ → Option FlowEntry → Reason
 beaten_by e winner None = Younger winner
 beaten_by e winner (Some better) = if nat_lt e.flow.priority better.flow.priority then LowerPriority winner else Younger winner
 
-abbrev pub standing : List FlowEntry → ℕ → FlowEntry → Option ℕ → Reason
-standing flows place e None = Won
-standing flows place e (Some winner) = if winner == place then Won else beaten_by e winner (slice_get flows winner)
+abbrev pub reason_of_entry : List FlowEntry → ℕ → FlowEntry → Option ℕ → Reason
+reason_of_entry flows place e None = Won
+reason_of_entry flows place e (Some winner) = if winner == place then Won else beaten_by e winner (slice_get flows winner)
 
 abbrev pub reason_by : List FlowEntry → (Field → Option ℕ) → ℕ → FlowEntry → Option MatchField → Reason
 reason_by flows map place e (Some x) = Differs x (map x.field)
-reason_by flows map place e None = standing flows place e (winner_place map flows)
+reason_by flows map place e None = reason_of_entry flows place e (winner_place map flows)
 
 abbrev pub reason_in : List FlowEntry → (Field → Option ℕ) → ℕ → Option Reason
 reason_in flows map place = option_map (λ e. reason_by flows map place e (first_difference e.flow.fields map)) (slice_get flows place)

@@ -19,7 +19,7 @@ use Rattle.of_table.specs.declared.flow.Flow.{Flow}
 use Rattle.of_machine.specs.declared.data.Step.{Step}
 use Rattle.of_machine.specs.declared.data.Step.TheVariants.{Miss, Entry, Apply, Clear, Write, Metadata, Goto, Set, Act, TtlExpired, End}
 use Rattle.of_text.specs.Lines.{ended}
-use Rattle.of_text.specs.Rows.{encoding}
+use Rattle.of_text.specs.Rows.{row_encoding}
 use Rattle.of_lines.specs.declared.row.Row.TheVariants as rows
 use Rattle.of_datapath.specs.declared.effect.Effect.{Effect}
 use Rattle.of_datapath.specs.declared.effect.Effect.TheVariants.{Answer, Sent, Closed}
@@ -31,8 +31,8 @@ use Rattle.of_trace.specs.declared.sight.Sight.{Sight}
 use Rattle.of_trace.specs.Sights.{key_seen}
 
 -- words and a number
-unfoldable pub numbered : List ℕ → ℕ → List ℕ
-numbered words n = words ++ 32 ∷ decimal n
+unfoldable pub numbered_words : List ℕ → ℕ → List ℕ
+numbered_words words n = words ++ 32 ∷ decimal n
 
 -- ---- THE FRAME: its ingress port, and of each header the fields that say from where and to where
 
@@ -54,7 +54,7 @@ single map word f = single_words word f (map f)
 
 unfoldable pub ttl_part : Option ℕ → List ℕ
 ttl_part None = []
-ttl_part (Some n) = numbered (codes ", ttl") n
+ttl_part (Some n) = numbered_words (codes ", ttl") n
 
 unfoldable pub ethernet_words : (Field → Option ℕ) → List ℕ
 ethernet_words map =
@@ -86,16 +86,16 @@ unfoldable pub sight_words : Sight → List ℕ
 sight_words s = header_words (key_seen s) ++ ttl_part (ttl_of (layers_of s.frame))
 
 -- a frame that is received; one that is too short or too long is not
-abbrev pub unless_fault : ℕ → List ℕ → Option FrameFault → List Sight
-unless_fault port frame (Some fault) = []
-unless_fault port frame None = record { frame = frame; ingress = port; metadata = 0 } ∷ []
+abbrev pub sights_unless_fault : ℕ → List ℕ → Option FrameFault → List Sight
+sights_unless_fault port frame (Some fault) = []
+sights_unless_fault port frame None = record { frame = frame; ingress = port; metadata = 0 } ∷ []
 
-abbrev pub entered : ℕ → List ℕ → List Sight
-entered port frame = unless_fault port frame (frame_fault frame)
+abbrev pub entering_sights : ℕ → List ℕ → List Sight
+entering_sights port frame = sights_unless_fault port frame (frame_fault frame)
 
 -- its headers, or that nothing happens, since a frame has 14 to 9,216 bytes
 unfoldable pub packet_words : List ℕ → List Sight → List ℕ
-packet_words frame [] = numbered (codes ",") (length frame) ++ codes " bytes: a frame has 14 to 9216 bytes, so it is dropped"
+packet_words frame [] = numbered_words (codes ",") (length frame) ++ codes " bytes: a frame has 14 to 9216 bytes, so it is dropped"
 packet_words frame (s ∷ others) = sight_words s
 
 unfoldable pub absent_port : Option Port → List ℕ
@@ -103,7 +103,7 @@ absent_port None = codes ": there is no such port, so the frame is dropped"
 absent_port (Some q) = []
 
 unfoldable pub heading : Forwarding → ℕ → List ℕ → List ℕ
-heading f port frame = codes "in_port " ++ numbers.port port ++ packet_words frame (entered port frame) ++ absent_port (port_at f.ports port)
+heading f port frame = codes "in_port " ++ numbers.port_in_words port ++ packet_words frame (entering_sights port frame) ++ absent_port (port_at f.ports port)
 
 -- ---- THE STEPS
 
@@ -118,13 +118,13 @@ found_words (Some flow) = codes ", " ++ entry_words flow.priority flow.fields
 
 -- how many bytes of the packet the controller gets
 unfoldable pub length_words : ℕ → ℕ → List ℕ
-length_words port max_len = if port == OFPP_CONTROLLER then (if max_len == 0xffff then [] else numbered (codes ", the first") max_len ++ codes " bytes") else []
+length_words port max_len = if port == OFPP_CONTROLLER then (if max_len == 0xffff then [] else numbered_words (codes ", the first") max_len ++ codes " bytes") else []
 
 unfoldable pub action_line : Action → List ℕ
-action_line (Output port max_len) = codes "output " ++ numbers.port port ++ length_words port max_len
-action_line (Group group) = numbered (codes "group") group
+action_line (Output port max_len) = codes "output " ++ numbers.port_in_words port ++ length_words port max_len
+action_line (Group group) = numbered_words (codes "group") group
 action_line (SetField field value) = codes "set " ++ name_of field ++ 32 ∷ value_words field value None
-action_line other = encoding (rows.Do other)
+action_line other = row_encoding (rows.Do other)
 
 abbrev pub metadata_words : ℕ → ℕ → List ℕ
 metadata_words value mask = codes "write metadata " ++ value_words fields.Metadata value (Some mask)
@@ -135,15 +135,15 @@ plain_line Apply = codes "apply actions"
 plain_line Clear = codes "clear the action set"
 plain_line Write = codes "write into the action set"
 plain_line (Metadata value mask) = metadata_words value mask
-plain_line (Goto table) = numbered (codes "go to table") table
+plain_line (Goto table) = numbered_words (codes "go to table") table
 plain_line Set = codes "run the action set"
 plain_line TtlExpired = codes "dec_nw_ttl: the TTL has expired, so the packet goes to the controller"
 plain_line End = codes "end"
 plain_line other = []
 
 unfoldable pub words_line : Forwarding → Step → List ℕ
-words_line f (Miss table) = numbered (codes "table") table ++ codes ": no entry matches"
-words_line f (Entry table place) = numbered (codes "table") table ++ numbered (codes ": entry") place ++ found_words (flow_there f table place)
+words_line f (Miss table) = numbered_words (codes "table") table ++ codes ": no entry matches"
+words_line f (Entry table place) = numbered_words (codes "table") table ++ numbered_words (codes ": entry") place ++ found_words (flow_there f table place)
 words_line f (Act action) = action_line action
 words_line f other = plain_line other
 
@@ -154,7 +154,7 @@ words_text f steps = flat_map (λ s. ended (words_line f s)) steps
 
 unfoldable pub effect_words : Effect → List ℕ
 effect_words (Answer bytes) = codes "to the controller: " ++ encode_lower bytes
-effect_words (Sent port frame) = numbered (codes "out by port") port ++ codes ": " ++ encode_lower frame
+effect_words (Sent port frame) = numbered_words (codes "out by port") port ++ codes ": " ++ encode_lower frame
 effect_words Closed = codes "the connection is closed"
 
 abbrev pub leaving_line : Effect → List ℕ

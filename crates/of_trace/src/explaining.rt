@@ -7,7 +7,7 @@ ghost use Rattle.of_oxm.specs.Relations.{agrees as agrees_with, matches_map};
 ghost use Rattle.of_table.specs.Entries.{entry_of};
 ghost use Rattle.of_table.specs.Table.{winner_place};
 ghost use Rattle.of_table.specs.Tables.{table_at};
-ghost use Rattle.of_trace.specs.Why.{Explains, reason_in, standing};
+ghost use Rattle.of_trace.specs.Why.{Explains, reason_in, reason_of_entry};
 
 use crate::reason::Reason;
 use of_classifier::Lookup;
@@ -48,7 +48,7 @@ fn why_matching<L: Lookup>(
         Explains (table_at table switch.now.core.forwarding.tables).flows map place result }
     ensures is { (map : Field → Option ℕ) → matches_map entry.now.flow.fields map ≡ true →
         winner ≡ winner_place map (table_at table switch.now.core.forwarding.tables).flows →
-        result ≡ Some (standing (table_at table switch.now.core.forwarding.tables).flows place (entry_of entry.now)
+        result ≡ Some (reason_of_entry (table_at table switch.now.core.forwarding.tables).flows place (entry_of entry.now)
         (winner_place map (table_at table switch.now.core.forwarding.tables).flows)) }
 {
     let winner = winner?;

@@ -4,7 +4,7 @@ ghost use Rattle.std.specs.List.{flat_map};
 ghost use Rattle.of_headers.specs.FieldMap.{value};
 ghost use Rattle.of_table.specs.Entries.{flows_of};
 ghost use Rattle.of_table.specs.Tables.{table_at};
-ghost use Rattle.of_trace.specs.Notes.{change_note, change_notes, digits, has_field, looks_at as is_looked_at, mask_digits, same_value, seen_note, seen_notes, ttl_note, ttl_words, value_or_absent, value_text, wanted_text};
+ghost use Rattle.of_trace.specs.Notes.{change_note, change_notes, spaced_digits, has_field, looks_at as is_looked_at, mask_digits, same_value, seen_note, seen_notes, ttl_note, ttl_words, value_or_absent, value_text, wanted_text};
 
 use crate::form::Style;
 use of_classifier::Lookup;
@@ -39,7 +39,7 @@ fn looks_at(entries: Entries<'_>, field: Field) -> bool
 
 // Appends a space and the digits of a value of a field.
 fn push_digits(out: &mut Vec<u8>, field: Field, number: u128) -> Result<(), AllocError>
-    ensures { OnOk result (out.new.items ≡ out.old.items ++ digits field number) }
+    ensures { OnOk result (out.new.items ≡ out.old.items ++ spaced_digits field number) }
 {
     push_value(out, field, number & field.row().ones)
 }

@@ -2,9 +2,9 @@
 ghost use Rattle.std.specs.Prelude.{◌≡◌, ◌++◌, ◌∷◌, IfOk, OnOk, None, Some, codes};
 ghost use Rattle.std.specs.List.{flat_map};
 ghost use Rattle.of_json.specs.Parts.{listed, number_member, text_member};
-ghost use Rattle.of_values.specs.Numbers.{port as port_words};
+ghost use Rattle.of_values.specs.Numbers.{port_in_words as port_words};
 ghost use Rattle.of_values.specs.Values.{value_words};
-ghost use Rattle.of_trace.specs.Json.{action_members, effect_members, effect_named, effect_object, flow_members, head_members, hexadecimal_member, named, step_members, step_object, trace_json};
+ghost use Rattle.of_trace.specs.Json.{action_members, effect_members, effect_named, effect_object, flow_members, head_members, hexadecimal_member, step_member, step_members, step_object, trace_json};
 ghost use Rattle.of_trace.specs.Words.{flow_there};
 
 use crate::traces::Trace;
@@ -23,9 +23,9 @@ use of_wire::limits::TABLES;
 use std::alloc::{AllocError, Global};
 
 // Appends the first member of a step.
-#[tactic(auto, unfolding(crate::specs::Json::named))]
+#[tactic(auto, unfolding(crate::specs::Json::step_member))]
 fn push_named(out: &mut Vec<u8>, step: &[u8]) -> Result<(), AllocError>
-    ensures { OnOk result (out.new.items ≡ out.old.items ++ named step.now) }
+    ensures { OnOk result (out.new.items ≡ out.old.items ++ step_member step.now) }
 {
     push_key(out, b"step")?;
     push_quoted(out, step)
@@ -38,7 +38,7 @@ fn push_numbered(
     name: &[u8],
     number: u128,
 ) -> Result<(), AllocError>
-    ensures { OnOk result (out.new.items ≡ out.old.items ++ (named step.now ++ number_member name.now number)) }
+    ensures { OnOk result (out.new.items ≡ out.old.items ++ (step_member step.now ++ number_member name.now number)) }
 {
     push_named(out, step)?;
     push_number_member(out, name, number)

@@ -15,7 +15,7 @@ ghost use Rattle.of_trace.specs.Files.{trace_of, trace_on};
 ghost use Rattle.of_trace.specs.declared.form.Output.{Output};
 ghost use Rattle.of_trace.specs.declared.form.Style.{Style};
 ghost use Rattle.of_trace.specs.declared.form.Form.{Form};
-ghost use Rattle.of_trace.specs.Notes.{plain, styled};
+ghost use Rattle.of_trace.specs.Notes.{plain_trace, styled};
 ghost use Rattle.of_trace.specs.OnlyNotes.{OnlyNotesAdded};
 ghost use Rattle.of_trace.specs.Sights.{all_stepped, sight_of, sights_of};
 
@@ -31,7 +31,7 @@ pub fn steps_tell_packets()
 /// added, and nothing is left out.
 pub fn notes_only_add()
     ensures { (style : Style) (form : Form) (f : Forwarding) (port : ℕ) (frame : List ℕ) (steps : List Step) (effects : List Effect) →
-        OnlyNotesAdded (plain style f port frame steps effects) (styled style form f port frame steps effects) }
+        OnlyNotesAdded (plain_trace style f port frame steps effects) (styled style form f port frame steps effects) }
 {}
 
 /// From the bytes of a file to the bytes of the output, where no read and no write fails and memory suffices: where a reader has `file` left,

@@ -2,14 +2,14 @@
 ghost use Rattle.std.specs.Prelude.{◌≡◌, ◌<◌, ◌++◌, ◌∷◌, IfOk, OnOk, Some, IsTrue, codes, decimal};
 ghost use Rattle.std.specs.List.{AllByRecursion};
 ghost use Rattle.of_oxm.specs.NormalForm.{IsKept};
-ghost use Rattle.of_text.specs.Rows.{Fits, encoding};
+ghost use Rattle.of_text.specs.Rows.{Fits, row_encoding};
 ghost use Rattle.of_headers.specs.FieldMap.{value};
 ghost use Rattle.of_datapath.specs.Datapath.{world_of};
 ghost use Rattle.of_table.specs.Tables.{table_at};
 ghost use Rattle.of_trace.specs.Encoded.{are_encoded, is_encoded};
 ghost use Rattle.of_trace.specs.Sights.{key_seen, sight_after, stepped};
 ghost use Rattle.of_text.specs.Lines.{note};
-ghost use Rattle.of_trace.specs.Notes.{changes, effects_in, entry_notes, explained, explained_from, first_notes, found_notes, head_in, heading_in, is_unsent as is_unsent_by, line_in, look_notes, match_notes, miss_notes, notes as notes_of, sending_notes, sends as is_sending, set_notes, table_notes};
+ghost use Rattle.of_trace.specs.Notes.{step_changes, text_of_effects, entry_notes, explained_trace, explained_from, first_notes, found_notes, head_in, heading_in, is_unsent as is_unsent_by, step_line_in, look_notes, match_notes, miss_notes, notes as notes_of, sending_notes, sends_packet as is_sending, set_notes, table_notes};
 ghost use Rattle.of_trace.specs.Words.{flow_there};
 
 use crate::fields::{push_changes, push_seen, push_ttl_change};
@@ -37,7 +37,7 @@ use std::alloc::{AllocError, Global};
 // Appends a line of flow text as a note.
 fn push_row_note(out: &mut Vec<u8>, row: Row) -> Result<(), AllocError>
     requires { Fits row }
-    ensures { OnOk result (out.new.items ≡ out.old.items ++ note (encoding row)) }
+    ensures { OnOk result (out.new.items ≡ out.old.items ++ note (row_encoding row)) }
 {
     begin_note(out)?;
     push_row(out, row)?;
@@ -154,7 +154,7 @@ fn push_changed(
     after: &Sight,
 ) -> Result<(), AllocError>
     requires { after.now ≡ sight_after step sight.now }
-    ensures { OnOk result (out.new.items ≡ out.old.items ++ changes style step sight.now) }
+    ensures { OnOk result (out.new.items ≡ out.old.items ++ step_changes style step sight.now) }
 {
     push_changes(out, style, &sight.key(), &after.key())?;
     push_ttl_change(out, sight.ttl(), after.ttl())
@@ -283,7 +283,7 @@ fn push_line<L: Lookup>(
     step: Step,
 ) -> Result<(), AllocError>
     requires { IsTrue (is_encoded step) }
-    ensures { OnOk result (out.new.items ≡ out.old.items ++ line_in style switch.now.core.forwarding step) }
+    ensures { OnOk result (out.new.items ≡ out.old.items ++ step_line_in style switch.now.core.forwarding step) }
 {
     match style {
         Style::Lines => push_step(out, step),
@@ -340,7 +340,7 @@ fn push_end(
     style: Style,
     effects: &[Effect],
 ) -> Result<(), AllocError>
-    ensures { OnOk result (out.new.items ≡ out.old.items ++ effects_in style effects.now) }
+    ensures { OnOk result (out.new.items ≡ out.old.items ++ text_of_effects style effects.now) }
 {
     match style {
         Style::Lines => push_effects(alloc, out, effects),
@@ -365,7 +365,8 @@ pub fn explain<L: Lookup>(
     frame: &[u8],
     trace: &Trace,
 ) -> Result<Vec<u8>, AllocError>
-    ensures { IfOk result (λ text. text.items ≡ explained style switch.now.core.forwarding asked port frame.now trace.now.steps.items trace.now.effects.items) }
+    ensures { IfOk result (λ text. text.items ≡
+        explained_trace style switch.now.core.forwarding asked port frame.now trace.now.steps.items trace.now.effects.items) }
 {
     let mut out = Vec::new(alloc);
     push_beginning(alloc, &mut out, style, switch, port, frame)?;

@@ -1,6 +1,6 @@
 //! The packets of a trace, in the order in which they take steps.
 ghost use Rattle.std.specs.Prelude.{◌≡◌, ◌++◌, ◌∷◌, IfOk, OnOk, option_to_list, replicate};
-ghost use Rattle.of_trace.specs.Words.{entered};
+ghost use Rattle.of_trace.specs.Words.{entering_sights};
 ghost use Rattle.of_trace.specs.Sights.{action_copies, after_step, output_copies, sight_after};
 ghost use Rattle.of_datapath.specs.Datapath.{world_of};
 
@@ -20,7 +20,7 @@ pub type Packets = VecDeque<Sight>;
 
 /// The packet of a frame that is received at a port; None if the frame is too short or too long.
 pub fn arrived(alloc: Global, port: u32, frame: &[u8]) -> Result<Option<Sight>, AllocError>
-    ensures { IfOk result (λ packet. option_to_list packet ≡ entered port frame.now) }
+    ensures { IfOk result (λ packet. option_to_list packet ≡ entering_sights port frame.now) }
 {
     if check_length(frame).is_err() {
         return Ok(None);
@@ -36,7 +36,7 @@ pub fn arrived(alloc: Global, port: u32, frame: &[u8]) -> Result<Option<Sight>, 
 
 /// The packets with which a trace begins: that one, or none.
 pub fn enter(alloc: Global, port: u32, frame: &[u8]) -> Result<Packets, AllocError>
-    ensures { IfOk result (λ packets. packets.items ≡ entered port frame.now) }
+    ensures { IfOk result (λ packets. packets.items ≡ entering_sights port frame.now) }
 {
     let mut packets = VecDeque::new(alloc);
     if let Some(packet) = arrived(alloc, port, frame)? {

@@ -2,7 +2,7 @@
 ghost use Rattle.std.specs.Prelude.{◌≡◌, ◌++◌, ◌∷◌, [], IfOk, OnOk, IsTrue, codes, decimal};
 ghost use Rattle.of_text.specs.Lines.{joined};
 ghost use Rattle.of_trace.specs.Encoded.{is_encoded, are_encoded};
-ghost use Rattle.of_trace.specs.Notes.{plain};
+ghost use Rattle.of_trace.specs.Notes.{plain_trace};
 ghost use Rattle.of_trace.specs.Text.{step_line, steps_text, trace_text};
 ghost use Rattle.of_trace.specs.declared.form.Style.TheVariants.{Words};
 
@@ -86,7 +86,7 @@ pub fn print_words<L: Lookup>(
     frame: &[u8],
     trace: &Trace,
 ) -> Result<Vec<u8>, AllocError>
-    ensures { IfOk result (λ text. text.items ≡ plain Words switch.now.core.forwarding port frame.now trace.now.steps.items trace.now.effects.items) }
+    ensures { IfOk result (λ text. text.items ≡ plain_trace Words switch.now.core.forwarding port frame.now trace.now.steps.items trace.now.effects.items) }
 {
     let mut out = Vec::new(alloc);
     push_heading(alloc, &mut out, switch, port, frame)?;

@@ -3,7 +3,7 @@ ghost use Rattle.std.specs.Prelude.{◌≡◌, IfOk, OnOk, IsTrue, false};
 ghost use Rattle.of_actions.specs.Supported.{is_supported};
 ghost use Rattle.of_headers.specs.FieldMap.{value};
 ghost use Rattle.of_trace.specs.Notes.{ttl_seen};
-ghost use Rattle.of_trace.specs.Sights.{frame_after, key_seen, sight_after};
+ghost use Rattle.of_trace.specs.Sights.{frame_after_action, key_seen, sight_after};
 ghost use Rattle.of_trace.specs.Encoded.{is_encoded};
 
 use of_actions::Action;
@@ -70,7 +70,7 @@ impl Sight {
 // The frame that an action leaves.
 fn act_on(frame: &mut Frame, action: Action) -> Result<(), AllocError>
     requires { IsTrue (is_supported false action) }
-    ensures { OnOk result (frame.new ≡ frame_after action frame.old) }
+    ensures { OnOk result (frame.new ≡ frame_after_action action frame.old) }
 {
     match action {
         Action::DecNwTtl => {

@@ -6,7 +6,7 @@ ghost use Rattle.of_headers.specs.FieldMap.{value};
 ghost use Rattle.of_machine.specs.declared.data.Step.TheVariants.{Act};
 ghost use Rattle.of_text.specs.Lines.{ended};
 ghost use Rattle.of_trace.specs.Encoded.{are_encoded, is_encoded};
-ghost use Rattle.of_trace.specs.Words.{absent_port, action_line, arp_words, effect_words, ethernet_words, flow_there, found_words, header_words, heading, ip_words, leaving_line, leaving_text, length_words, metadata_words, numbered, packet_words, pair, plain_line, sight_words, single, transport_words, ttl_part, words_line, words_text};
+ghost use Rattle.of_trace.specs.Words.{absent_port, action_line, arp_words, effect_words, ethernet_words, flow_there, found_words, header_words, heading, ip_words, leaving_line, leaving_text, length_words, metadata_words, numbered_words, packet_words, pair, plain_line, sight_words, single, transport_words, ttl_part, words_line, words_text};
 
 use crate::packets::arrived;
 use crate::sight::Sight;
@@ -267,9 +267,9 @@ fn push_action(out: &mut Vec<u8>, action: Action) -> Result<(), AllocError>
 }
 
 // Appends words and a number.
-#[tactic(auto, unfolding(crate::specs::Words::numbered))]
+#[tactic(auto, unfolding(crate::specs::Words::numbered_words))]
 fn push_numbered(out: &mut Vec<u8>, words: &[u8], number: u64) -> Result<(), AllocError>
-    ensures { OnOk result (out.new.items ≡ out.old.items ++ numbered words.now number) }
+    ensures { OnOk result (out.new.items ≡ out.old.items ++ numbered_words words.now number) }
 {
     out.extend_from_slice(words)?;
     push_number(out, number)

@@ -2,7 +2,7 @@
 ghost use Rattle.std.specs.Prelude.{◌≡◌, ◌↔◌, ◌<◌, IfErr, IfOk};
 ghost use Rattle.of_replay.specs.FileRuns.{Writes, is_text};
 ghost use Rattle.of_trace.specs.Files.{trace_on};
-ghost use Rattle.of_trace.specs.Notes.{plain, styled as styled_text};
+ghost use Rattle.of_trace.specs.Notes.{plain_trace, styled as styled_text};
 
 use crate::form::{Asked, Form, Output, Style};
 use crate::json::print_json;
@@ -24,7 +24,7 @@ fn print_in<L: Lookup>(
     style: Style,
     trace: &Trace,
 ) -> Result<Vec<u8>, AllocError>
-    ensures { IfOk result (λ text. text.items ≡ plain style switch.now.core.forwarding port frame.now trace.now.steps.items trace.now.effects.items) }
+    ensures { IfOk result (λ text. text.items ≡ plain_trace style switch.now.core.forwarding port frame.now trace.now.steps.items trace.now.effects.items) }
 {
     match style {
         Style::Lines => print(alloc, trace),

@@ -47,5 +47,5 @@ unfoldable pub around : Option Run → ℕ → List ℕ
 around None n = groups 0 8 n
 around (Some r) n = groups (r.size + r.behind) (8 - (r.size + r.behind)) n ++ codes "::" ++ groups 0 r.behind n
 
-unfoldable pub ipv6 : ℕ → List ℕ
-ipv6 n = around (longest_run 7 n) n
+unfoldable pub ipv6_address : ℕ → List ℕ
+ipv6_address n = around (longest_run 7 n) n

@@ -1,7 +1,7 @@
 -- MASKS OF ADDRESSES IN WORDS: the length of a prefix, or an address.
 use Rattle.std.specs.Prelude.{ℕ, zero, suc, ◌-◌, ◌/◌, ◌^◌, ◌==◌, List, decimal, Option, Some, None, if◌then◌else◌}
-use Rattle.of_values.specs.Numbers.{ipv4}
-use Rattle.of_values.specs.Ipv6.{ipv6}
+use Rattle.of_values.specs.Numbers.{ipv4_address}
+use Rattle.of_values.specs.Ipv6.{ipv6_address}
 
 -- the mask of the first n bits of as many as `ones` has
 abbrev pub first_bits : ℕ → ℕ → ℕ
@@ -18,7 +18,7 @@ length_or words None = words
 length_or words (Some n) = decimal n
 
 unfoldable pub ipv4_mask : ℕ → List ℕ
-ipv4_mask mask = length_or (ipv4 mask) (prefix_below 0xffffffff mask 32)
+ipv4_mask mask = length_or (ipv4_address mask) (prefix_below 0xffffffff mask 32)
 
 unfoldable pub ipv6_mask : ℕ → List ℕ
-ipv6_mask mask = length_or (ipv6 mask) (prefix_below 0xffffffffffffffffffffffffffffffff mask 128)
+ipv6_mask mask = length_or (ipv6_address mask) (prefix_below 0xffffffffffffffffffffffffffffffff mask 128)

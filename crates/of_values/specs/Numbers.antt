@@ -7,12 +7,12 @@ use Rattle.of_values.specs.declared.ports.TheConstants.{PORT_NAMES}
 -- ---- hexadecimal digits
 
 -- 0 to 9, then a to f
-abbrev pub digit : ℕ → ℕ
-digit d = if nat_lt d 10 then 48 + d else 87 + d
+abbrev pub digit_byte : ℕ → ℕ
+digit_byte d = if nat_lt d 10 then 48 + d else 87 + d
 
 -- the digit at a place, from 0 for the last one; nothing where it and all before it are 0, but at the `least` last places
 abbrev pub digit_at : ℕ → ℕ → ℕ → List ℕ
-digit_at least place n = if nat_lt place least || not (n / 2 ^ (4 * place) == 0) then digit (n / 2 ^ (4 * place) % 16) ∷ [] else []
+digit_at least place n = if nat_lt place least || not (n / 2 ^ (4 * place) == 0) then digit_byte (n / 2 ^ (4 * place) % 16) ∷ [] else []
 
 -- those of the last `most` places
 unfoldable pub digits : ℕ → ℕ → ℕ → List ℕ
@@ -43,8 +43,8 @@ ethernet n = byte_digits 40 n ++ colon_byte 32 n ++ colon_byte 24 n ++ colon_byt
 abbrev pub dot_byte : ℕ → ℕ → List ℕ
 dot_byte bit n = 46 ∷ decimal (byte_at bit n)
 
-unfoldable pub ipv4 : ℕ → List ℕ
-ipv4 n = decimal (byte_at 24 n) ++ dot_byte 16 n ++ dot_byte 8 n ++ dot_byte 0 n
+unfoldable pub ipv4_address : ℕ → List ℕ
+ipv4_address n = decimal (byte_at 24 n) ++ dot_byte 16 n ++ dot_byte 8 n ++ dot_byte 0 n
 
 -- ---- ports (7.2.1): the reserved ones by their names
 
@@ -52,5 +52,5 @@ abbrev pub port_word : ℕ → Option PortName → List ℕ
 port_word n None = decimal n
 port_word n (Some row) = keyword row.1
 
-unfoldable pub port : ℕ → List ℕ
-port n = port_word n (find (λ row. n == row.0) PORT_NAMES)
+unfoldable pub port_in_words : ℕ → List ℕ
+port_in_words n = port_word n (find (λ row. n == row.0) PORT_NAMES)

@@ -5,7 +5,7 @@ use Rattle.of_layers.specs.declared.field.Field.TheVariants.{InPort, Metadata, E
 use Rattle.of_values.specs.declared.form.Form.{Form}
 use Rattle.of_values.specs.declared.form.Form.TheVariants.{Number, Hexadecimal, Port, Vlan, Ethernet, Ipv4, Ipv6}
 use Rattle.of_values.specs.Numbers as words
-use Rattle.of_values.specs.Ipv6.{ipv6}
+use Rattle.of_values.specs.Ipv6.{ipv6_address}
 use Rattle.of_values.specs.Masks.{ipv4_mask, ipv6_mask}
 
 -- THE FORM OF EACH FIELD
@@ -47,11 +47,11 @@ vlan_words n = if n == 0 then codes "none" else if nat_le 4096 n then decimal (n
 unfoldable pub in_form : Form → ℕ → List ℕ
 in_form Number n = decimal n
 in_form (Hexadecimal least) n = words.hexadecimal least n
-in_form Port n = words.port n
+in_form Port n = words.port_in_words n
 in_form Vlan n = vlan_words n
 in_form Ethernet n = words.ethernet n
-in_form Ipv4 n = words.ipv4 n
-in_form Ipv6 n = ipv6 n
+in_form Ipv4 n = words.ipv4_address n
+in_form Ipv6 n = ipv6_address n
 
 -- A MASK: that of a prefix of addresses is its length
 unfoldable pub mask_in_form : Form → ℕ → List ℕ
@@ -63,11 +63,11 @@ mask_in_form form mask = in_form form mask
 unfoldable pub masked_vlan : ℕ → ℕ → List ℕ
 masked_vlan value mask = if (value == 4096) && (mask == 4096) then codes "present" else words.hexadecimal 4 value ++ 47 ∷ words.hexadecimal 4 mask
 
-unfoldable pub masked : Form → ℕ → ℕ → List ℕ
-masked Vlan value mask = masked_vlan value mask
-masked form value mask = in_form form value ++ 47 ∷ mask_in_form form mask
+unfoldable pub masked_value_words : Form → ℕ → ℕ → List ℕ
+masked_value_words Vlan value mask = masked_vlan value mask
+masked_value_words form value mask = in_form form value ++ 47 ∷ mask_in_form form mask
 
 -- A VALUE OF A FIELD, and a mask behind a slash
 unfoldable pub value_words : Field → ℕ → Option ℕ → List ℕ
 value_words f value None = in_form (form_of f) value
-value_words f value (Some mask) = masked (form_of f) value mask
+value_words f value (Some mask) = masked_value_words (form_of f) value mask

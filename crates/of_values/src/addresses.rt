@@ -1,6 +1,6 @@
 //! Ethernet and IPv4 addresses in words.
 ghost use Rattle.std.specs.Prelude.{◌≡◌, ◌<◌, ◌++◌, OnOk};
-ghost use Rattle.of_values.specs.Numbers.{byte_at as a_byte_at, byte_digits, colon_byte, dot_byte, ethernet, ipv4};
+ghost use Rattle.of_values.specs.Numbers.{byte_at as a_byte_at, byte_digits, colon_byte, dot_byte, ethernet, ipv4_address};
 
 use crate::digits::{push_decimal, push_digits};
 use std::alloc::AllocError;
@@ -50,9 +50,9 @@ fn push_dot_byte(out: &mut Vec<u8>, number: u128, bit: u32) -> Result<(), AllocE
 }
 
 /// Appends an IPv4 address.
-#[tactic(auto, unfolding(crate::specs::Numbers::ipv4))]
+#[tactic(auto, unfolding(crate::specs::Numbers::ipv4_address))]
 pub fn push_ipv4(out: &mut Vec<u8>, number: u128) -> Result<(), AllocError>
-    ensures { OnOk result (out.new.items ≡ out.old.items ++ ipv4 number) }
+    ensures { OnOk result (out.new.items ≡ out.old.items ++ ipv4_address number) }
 {
     push_decimal(out, byte_at(number, 24))?;
     push_dot_byte(out, number, 16)?;

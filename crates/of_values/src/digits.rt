@@ -1,6 +1,6 @@
 //! Numbers in digits.
 ghost use Rattle.std.specs.Prelude.{◌≡◌, ◌≤◌, ◌<◌, ◌++◌, OnOk, decimal};
-ghost use Rattle.of_values.specs.Numbers.{digit as digit_of, digit_at, digits, hexadecimal};
+ghost use Rattle.of_values.specs.Numbers.{digit_byte as digit_of, digit_at, digits, hexadecimal};
 
 use itoa::Buffer;
 use std::alloc::AllocError;

@@ -1,6 +1,6 @@
 //! IPv6 addresses in words.
 ghost use Rattle.std.specs.Prelude.{◌≡◌, ◌≤◌, ◌<◌, ◌+◌, ◌++◌, IfSome, OnOk};
-ghost use Rattle.of_values.specs.Ipv6.{are_zeros as zeros_are, around, further_groups, group as group_of, group_digits, groups, ipv6, longest_run as longest_run_of, run_below};
+ghost use Rattle.of_values.specs.Ipv6.{are_zeros as zeros_are, around, further_groups, group as group_of, group_digits, groups, ipv6_address, longest_run as longest_run_of, run_below};
 
 use crate::digits::push_digits;
 use std::alloc::AllocError;
@@ -128,9 +128,9 @@ fn push_around(out: &mut Vec<u8>, run: Option<Run>, number: u128) -> Result<(), 
 }
 
 /// Appends an IPv6 address.
-#[tactic(auto, unfolding(crate::specs::Ipv6::ipv6))]
+#[tactic(auto, unfolding(crate::specs::Ipv6::ipv6_address))]
 pub fn push_ipv6(out: &mut Vec<u8>, number: u128) -> Result<(), AllocError>
-    ensures { OnOk result (out.new.items ≡ out.old.items ++ ipv6 number) }
+    ensures { OnOk result (out.new.items ≡ out.old.items ++ ipv6_address number) }
 {
     push_around(out, longest_run(number, 7), number)
 }

@@ -1,7 +1,7 @@
 //! Ports in words.
 ghost use Rattle.std.specs.Prelude.{◌≡◌, ◌++◌, ◌==◌, OnOk, find};
 ghost use Rattle.of_values.specs.declared.ports.TheConstants.{PORT_NAMES};
-ghost use Rattle.of_values.specs.Numbers.{port};
+ghost use Rattle.of_values.specs.Numbers.{port_in_words};
 
 use crate::digits::push_decimal;
 use of_wire::keyword;
@@ -38,9 +38,9 @@ fn named_port(number: u128) -> Option<PortName>
 }
 
 /// Appends the number of a port, or the name of a reserved one (OpenFlow 1.3.5, 7.2.1).
-#[tactic(auto, unfolding(crate::specs::Numbers::port))]
+#[tactic(auto, unfolding(crate::specs::Numbers::port_in_words))]
 pub fn push_port(out: &mut Vec<u8>, number: u128) -> Result<(), AllocError>
-    ensures { OnOk result (out.new.items ≡ out.old.items ++ port number) }
+    ensures { OnOk result (out.new.items ≡ out.old.items ++ port_in_words number) }
 {
     match named_port(number) {
         None => push_decimal(out, number),

@@ -1,6 +1,6 @@
 //! Values of fields in words.
 ghost use Rattle.std.specs.Prelude.{◌≡◌, ◌++◌, OnOk};
-ghost use Rattle.of_values.specs.Values.{in_form, mask_in_form, masked, masked_vlan, value_words, vlan_words};
+ghost use Rattle.of_values.specs.Values.{in_form, mask_in_form, masked_value_words, masked_vlan, value_words, vlan_words};
 
 use crate::addresses::{push_ethernet, push_ipv4};
 use crate::digits::{push_decimal, push_hexadecimal};
@@ -68,9 +68,9 @@ fn push_masked_vlan(out: &mut Vec<u8>, value: u128, mask: u128) -> Result<(), Al
 }
 
 // Appends a value and a mask.
-#[tactic(auto, unfolding(crate::specs::Values::masked))]
+#[tactic(auto, unfolding(crate::specs::Values::masked_value_words))]
 fn push_masked(out: &mut Vec<u8>, form: Form, value: u128, mask: u128) -> Result<(), AllocError>
-    ensures { OnOk result (out.new.items ≡ out.old.items ++ masked form value mask) }
+    ensures { OnOk result (out.new.items ≡ out.old.items ++ masked_value_words form value mask) }
 {
     if let Form::Vlan = form {
         return push_masked_vlan(out, value, mask);

@@ -3,7 +3,7 @@ use Rattle.std.proofs.Common.{arith, refl, ◌≡◌, ◌<◌, ℕ, List, [], �
 use Rattle.std.specs.Prelude.{◌==◌, ◌||◌, if◌then◌else◌}
 use Rattle.std.proofs.lemmas.Grind.{common_steps}
 use Rattle.byteorder.specs.Endian.{big_number}
-use Rattle.of_vxlan.specs.Header.{Begins, Encapsulated, carried, has_vni, header}
+use Rattle.of_vxlan.specs.Header.{BeginsWithHeader, Encapsulated, carried, has_vni, vxlan_header}
 
 kept : {A : Type 0} (test : Bool) (x y : A) → (if test then None else Some x) ≡ Some y → (test ≡ false) × (x ≡ y)
 kept true x y e = grind (arith)
@@ -14,7 +14,7 @@ valid true flags e = grind (arith, common_steps)
 valid false flags e = grind (arith, common_steps)
 
 begun : (a b c g h i j k : ℕ) (frame : List ℕ) → has_vni a ≡ 1
-    → Begins (a ∷ b ∷ c ∷ g ∷ h ∷ i ∷ j ∷ k ∷ frame) (big_number 3 (h ∷ i ∷ j ∷ k ∷ frame)) frame
+    → BeginsWithHeader (a ∷ b ∷ c ∷ g ∷ h ∷ i ∷ j ∷ k ∷ frame) (big_number 3 (h ∷ i ∷ j ∷ k ∷ frame)) frame
 begun a b c g h i j k frame v = record {
   flags = a;
   reserved = b ∷ c ∷ g ∷ [];
@@ -26,7 +26,7 @@ begun a b c g h i j k frame v = record {
   bytes_are = refl;
 }
 
-pub begins : (bytes : List ℕ) (d : Encapsulated) → carried bytes ≡ Some d → Begins bytes d.vni d.frame
+pub begins : (bytes : List ℕ) (d : Encapsulated) → carried bytes ≡ Some d → BeginsWithHeader bytes d.vni d.frame
 begins [] d e = grind (arith)
 begins (a ∷ []) d e = grind (arith)
 begins (a ∷ b ∷ []) d e = grind (arith)
@@ -38,7 +38,7 @@ begins (a ∷ b ∷ c ∷ g ∷ h ∷ i ∷ j ∷ []) d e = grind (arith)
 begins (a ∷ b ∷ c ∷ g ∷ h ∷ i ∷ j ∷ k ∷ frame) d e =
     let bytes = a ∷ b ∷ c ∷ g ∷ h ∷ i ∷ j ∷ k ∷ frame in
     let p = kept (nat_lt (length bytes) 8 || has_vni a == 0) (record { vni = big_number 3 (drop 4 bytes); frame = frame }) d e in
-    subst (λ x. Begins bytes x.vni x.frame) p.1 (begun a b c g h i j k frame (valid (nat_lt (length bytes) 8) a p.0))
+    subst (λ x. BeginsWithHeader bytes x.vni x.frame) p.1 (begun a b c g h i j k frame (valid (nat_lt (length bytes) 8) a p.0))
 
 -- the elements of a list of three
 pub record Three (xs : List ℕ) : Type 0 where
@@ -55,11 +55,11 @@ three (a ∷ b ∷ c ∷ []) e = record { first = a; second = b; third = c; are 
 three (a ∷ b ∷ c ∷ d ∷ xs) e = grind (arith)
 
 read_of : (flags b c g h i j last : ℕ) (frame : List ℕ) → has_vni flags ≡ 1
-    → carried (header flags (b ∷ c ∷ g ∷ []) (h ∷ i ∷ j ∷ []) last ++ frame) ≡ Some (record { vni = big_number 3 (h ∷ i ∷ j ∷ []); frame = frame })
+    → carried (vxlan_header flags (b ∷ c ∷ g ∷ []) (h ∷ i ∷ j ∷ []) last ++ frame) ≡ Some (record { vni = big_number 3 (h ∷ i ∷ j ∷ []); frame = frame })
 read_of flags b c g h i j last frame v = rw v (grind (arith, common_steps))
 
 -- bytes that begin with a header carry what is behind it
-pub read : (bytes : List ℕ) (vni : ℕ) (frame : List ℕ) → Begins bytes vni frame → carried bytes ≡ Some (record { vni = vni; frame = frame })
+pub read : (bytes : List ℕ) (vni : ℕ) (frame : List ℕ) → BeginsWithHeader bytes vni frame → carried bytes ≡ Some (record { vni = vni; frame = frame })
 read bytes vni frame b =
     let r = three b.reserved b.three.0 in
     let n = three b.number b.three.1 in

@@ -1,7 +1,7 @@
 //! The header of VXLAN.
 ghost use Rattle.std.specs.Prelude.{◌≡◌, ◌<◌, ◌^◌};
 ghost use Rattle.std.specs.Option.{option_map};
-ghost use Rattle.of_vxlan.specs.Header.{carried, header_of};
+ghost use Rattle.of_vxlan.specs.Header.{carried, sent_header};
 
 use byteorder::{BigEndian, ByteOrder};
 
@@ -25,7 +25,7 @@ pub fn read_datagram(bytes: &[u8]) -> Option<(u32, &[u8])>
 /// The header of datagrams for a network: its number takes 24 bits.
 pub fn write_header(vni: u32) -> [u8; 8]
     requires { vni < 2 ^ 24 }
-    ensures { result ≡ header_of vni }
+    ensures { result ≡ sent_header vni }
 {
     let mut network = [0; 3];
     BigEndian::write_u24(&mut network, vni);

@@ -3,7 +3,7 @@ use Rattle.std.proofs.Common.{◌≡◌, ℕ, ◌<◌, true, false, List, [], �
 use Rattle.std.proofs.lemmas.List.{append_assoc, append-nil}
 use Rattle.of_wire.specs.declared.code.Code.{Code}
 use Rattle.of_wire.specs.Refusals.{first_of}
-use Rattle.of_wire.specs.Items.{Items, IsEnd, AreItems}
+use Rattle.of_wire.specs.Items.{Items, IsItemsEnd, AreItems}
 
 -- whatever stands for the rest completes the whole
 pub record Going {V : Type 0} (kind : Items V) (bytes : List ℕ) (seen : List V) (rest : List ℕ) : Type 0 where
@@ -29,12 +29,12 @@ pub is_done : {V : Type 0} (kind : Items V) (bytes rest : List ℕ) (seen : List
 is_done {V} kind bytes [] seen going e = subst (λ (x : List V). AreItems kind [] bytes x None) (append-nil seen) (going.completes [] None refl)
 is_done kind bytes (b ∷ bs) seen going e = absurd (omega arith)
 
-end_not_more : {V : Type 0} (kind : Items V) (seen : List V) (bytes : List ℕ) (o : Option Code) → 0 < length bytes → first_of (kind.refusals seen bytes) ≡ None → IsEnd kind seen bytes o → ⊥
+end_not_more : {V : Type 0} (kind : Items V) (seen : List V) (bytes : List ℕ) (o : Option Code) → 0 < length bytes → first_of (kind.refusals seen bytes) ≡ None → IsItemsEnd kind seen bytes o → ⊥
 end_not_more kind seen [] o some none ended = omega arith
 end_not_more kind seen (b ∷ bs) None some none ended = let h : false ≡ true = ended.1 in cc
 end_not_more kind seen (b ∷ bs) (Some c) some none ended = cc
 
-end_same : {V : Type 0} (kind : Items V) (seen : List V) (x : List ℕ) (o p : Option Code) → IsEnd kind seen x o → IsEnd kind seen x p → o ≡ p
+end_same : {V : Type 0} (kind : Items V) (seen : List V) (x : List ℕ) (o p : Option Code) → IsItemsEnd kind seen x o → IsItemsEnd kind seen x p → o ≡ p
 end_same kind seen [] o p a b = a ∙ sym b
 end_same kind seen (x ∷ xs) o p a b = sym a.0 ∙ b.0
 

@@ -3,5 +3,5 @@ use Rattle.std.specs.Prelude.{ℕ, List, Option}
 use Rattle.of_wire.specs.declared.code_name.TheConstants.{ERROR_NAMES}
 use Rattle.of_wire.specs.Parts.{nth_part, part_in}
 
-unfoldable pub name_of : ℕ → ℕ → Option (List ℕ)
-name_of kind code = part_in 32 code (nth_part 10 kind ERROR_NAMES)
+unfoldable pub error_name : ℕ → ℕ → Option (List ℕ)
+error_name kind code = part_in 32 code (nth_part 10 kind ERROR_NAMES)

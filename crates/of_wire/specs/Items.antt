@@ -10,13 +10,13 @@ pub record Items (V : Type 0) : Type 0 where
   pub size_at : List ℕ → ℕ
 
 -- after the values `seen`, bytes end, or go on with a fault
-abbrev pub IsEnd : {V : Type 0} → Items V → List V → List ℕ → Option Code → Type 0
-IsEnd kind seen [] fault = fault ≡ None
-IsEnd kind seen (b ∷ bs) fault = (first_of (kind.refusals seen (b ∷ bs)) ≡ fault) × IsSome fault
+abbrev pub IsItemsEnd : {V : Type 0} → Items V → List V → List ℕ → Option Code → Type 0
+IsItemsEnd kind seen [] fault = fault ≡ None
+IsItemsEnd kind seen (b ∷ bs) fault = (first_of (kind.refusals seen (b ∷ bs)) ≡ fault) × IsSome fault
 
 -- after the values `seen`, bytes are these values, and then they end or have a fault: bytes begin with the first, which is not refused, and what follows it is the others
 abbrev pub AreItems : {V : Type 0} → Items V → List V → List ℕ → List V → Option Code → Type 0
-AreItems kind seen bytes [] fault = IsEnd kind seen bytes fault
+AreItems kind seen bytes [] fault = IsItemsEnd kind seen bytes fault
 AreItems kind seen bytes (v ∷ vs) fault =
     (0 < length bytes) × (first_of (kind.refusals seen bytes) ≡ None) × (kind.value_at bytes ≡ Some v) × AreItems kind (seen ++ v ∷ []) (drop (kind.size_at bytes) bytes) vs fault
 
@@ -26,10 +26,10 @@ item_then kind others seen bytes (Some code) value = Err code
 item_then kind others seen bytes None (Some v) = others (seen ++ v ∷ []) (drop (kind.size_at bytes) bytes)
 item_then kind others seen bytes None None = Ok seen
 
-unfoldable pub items_of : {V : Type 0} → Items V → ℕ → List V → List ℕ → Result (List V) Code
-items_of kind zero seen bytes = Ok seen
-items_of kind (suc n) seen [] = Ok seen
-items_of kind (suc n) seen (b ∷ bs) = item_then kind (items_of kind n) seen (b ∷ bs) (first_of (kind.refusals seen (b ∷ bs))) (kind.value_at (b ∷ bs))
+unfoldable pub items_from : {V : Type 0} → Items V → ℕ → List V → List ℕ → Result (List V) Code
+items_from kind zero seen bytes = Ok seen
+items_from kind (suc n) seen [] = Ok seen
+items_from kind (suc n) seen (b ∷ bs) = item_then kind (items_from kind n) seen (b ∷ bs) (first_of (kind.refusals seen (b ∷ bs))) (kind.value_at (b ∷ bs))
 
 -- the values, or the code of the first refusal
 abbrev pub outcome : {V : Type 0} → List V → Option Code → Result (List V) Code

@@ -1,7 +1,7 @@
 //! The names of errors (OpenFlow 1.3.5, 7.4.4).
 ghost use Rattle.std.specs.Prelude.{◌≡◌};
 ghost use Rattle.std.specs.Option.{option_map};
-ghost use Rattle.of_wire.specs.CodeNames.{name_of};
+ghost use Rattle.of_wire.specs.CodeNames.{error_name};
 
 use crate::code::Code;
 use crate::parts::part_at;
@@ -43,9 +43,9 @@ pub const ERROR_NAMES: [u8; 2096] = *b"\
 
 impl Code {
     /// The name that the standard gives the error (OpenFlow 1.3.5, 7.4.4), as `OFPBMC_BAD_PREREQ`; None where it gives none.
-    #[tactic(auto, unfolding(crate::specs::CodeNames::name_of))]
+    #[tactic(auto, unfolding(crate::specs::CodeNames::error_name))]
     pub fn name(self) -> Option<&'static [u8]>
-        ensures { option_map (λ name. name.now) result ≡ name_of self.kind self.code }
+        ensures { option_map (λ name. name.now) result ≡ error_name self.kind self.code }
     {
         let names = part_at(&ERROR_NAMES, b'\n', usize::from(self.kind))?;
         part_at(names, b' ', usize::from(self.code))

@@ -1,7 +1,7 @@
 //! Parts of texts.
 ghost use Rattle.std.specs.Prelude.{◌≡◌, ◌<◌, length, IfSome};
 ghost use Rattle.std.specs.Option.{option_map};
-ghost use Rattle.of_wire.specs.Parts.{before, divided, keyword, nth_part};
+ghost use Rattle.of_wire.specs.Parts.{before_place, divided, keyword, nth_part};
 
 // The place of the first separator.
 fn place_of(separator: u8, text: &[u8]) -> Option<usize>
@@ -14,7 +14,7 @@ fn place_of(separator: u8, text: &[u8]) -> Option<usize>
 // The bytes before that place, or all.
 fn front_at(text: &[u8], place: Option<usize>) -> &[u8]
     requires { IfSome place (λ place. place < length text.now) }
-    ensures { result.now ≡ before text.now place }
+    ensures { result.now ≡ before_place text.now place }
 {
     match place {
         None => text,
@@ -24,7 +24,7 @@ fn front_at(text: &[u8], place: Option<usize>) -> &[u8]
 
 // The part before the first separator, or all.
 fn first_part(text: &[u8], separator: u8) -> &[u8]
-    ensures { result.now ≡ before text.now (divided separator text.now) }
+    ensures { result.now ≡ before_place text.now (divided separator text.now) }
 {
     front_at(text, place_of(separator, text))
 }

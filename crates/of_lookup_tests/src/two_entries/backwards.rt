@@ -5,7 +5,7 @@ ghost use Rattle.of_classifier.specs.Looking.{looked_by};
 ghost use Rattle.of_wire.specs.Numbered.{is_distinct, without, moved_to_end};
 ghost use Rattle.of_classifier.specs.declared.Row.{Row};
 ghost use Rattle.of_classifier.specs.Rows.{row_number};
-ghost use Rattle.of_classifier.specs.Winner.{winner_of, number_of};
+ghost use Rattle.of_classifier.specs.Winner.{winner_of, winner_number};
 
 use of_classifier::{Lookup, Row, is_same, mask_of_all};
 use of_headers::FieldKey;
@@ -105,7 +105,7 @@ impl Lookup for Backwards {
 
 // The number of the winner. The walk comes to older and older rows.
 fn best_of(rows: &[Row], key: &FieldKey) -> Option<usize>
-    ensures { result ≡ number_of (winner_of (reverse rows.now) (value key.now)) }
+    ensures { result ≡ winner_number (winner_of (reverse rows.now) (value key.now)) }
 {
     let mut best: Option<(usize, u16)> = None;
     for row in rows {

@@ -3,7 +3,7 @@ use Rattle.std.specs.Prelude.{Option, None}
 use Rattle.std.specs.List.{list_any}
 use Rattle.of_actions.specs.declared.action.Action.{Action}
 use Rattle.of_actions.specs.Rising.{is_ascending}
-use Rattle.of_action_set.specs.Sets.{rank, is_group, is_output, in_order, held}
+use Rattle.of_action_set.specs.Sets.{rank, is_group, is_output, in_order, held_action}
 use Rattle.of_action_set.proofs.Ranked.{rising-filter}
 use Rattle.of_action_set.proofs.Kinded.{few, find_not_output}
 use Rattle.of_action_set.proofs.laws.order_is_by_rank.Goals as goal
@@ -23,9 +23,9 @@ all_in : (b : Bool) (o : Option Action) → cond {A = Option Action} b None o �
 all_in true o = refl
 all_in false o = refl
 
-members_by : (set : List Action) (kind : ℕ) (b : Bool) → list_any is_group set ≡ b → held kind (in_order set) ≡ cond (eqb kind 41 && list_any is_group set) None (held kind set)
-members_by set kind true is = rw (is, find_not_output kind set) (all_in (eqb kind 41) (held kind set))
-members_by set kind false is = rw is (none_in (eqb kind 41) (held kind set))
+members_by : (set : List Action) (kind : ℕ) (b : Bool) → list_any is_group set ≡ b → held_action kind (in_order set) ≡ cond (eqb kind 41 && list_any is_group set) None (held_action kind set)
+members_by set kind true is = rw (is, find_not_output kind set) (all_in (eqb kind 41) (held_action kind set))
+members_by set kind false is = rw is (none_in (eqb kind 41) (held_action kind set))
 
 pub returns-clause-members : goal.returns-clause-members
 returns-clause-members c = λ set kind. members_by set kind (list_any is_group set) refl

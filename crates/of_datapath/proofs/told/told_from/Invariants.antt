@@ -1,7 +1,7 @@
 use Rattle.std.proofs.Common.{◌≤◌, flat_map}
 use Rattle.of_buffers.specs.Buffers.{last_id}
 use Rattle.of_machine.specs.Growth.{AllShort}
-use Rattle.of_datapath.specs.Told.{each_told, frames_for, given}
+use Rattle.of_datapath.specs.Told.{each_told, frames_for, given_items}
 use Rattle.of_datapath.proofs.Telling.{Telling}
 use Rattle.of_datapath.proofs.told.told_from.Given as goal
 
@@ -11,4 +11,4 @@ invariant-loop-item l =
     × (goal.iterator-loop-item).is_finite l.item-iterator
     × (l.told.next_id ≤ last_id)
     × AllShort 65485 l.item-iterator
-    × Telling l.heard l.ports l.told.next_id l.told.effects.items (each_told l.heard l.next_id (given l.heard l.ports l.fn.items.items)) l.told.held.items (flat_map (frames_for l.heard) (given l.heard l.ports l.fn.items.items)) l.item-iterator
+    × Telling l.heard l.ports l.told.next_id l.told.effects.items (each_told l.heard l.next_id (given_items l.heard l.ports l.fn.items.items)) l.told.held.items (flat_map (frames_for l.heard) (given_items l.heard l.ports l.fn.items.items)) l.item-iterator

@@ -1,7 +1,7 @@
 use Rattle.std.proofs.Common.{List, ◌∙◌, ap, sym}
 use Rattle.std.proofs.lemmas.Result.{IfOk-weaker, err_from_is_err_and}
 use Rattle.of_oxm.specs.declared.match_field.MatchField.{MatchField}
-use Rattle.of_frame_words.specs.Frames.{checked, received}
+use Rattle.of_frame_words.specs.Frames.{checked, received_frame}
 use Rattle.of_frame_words.specs.Views.{view_received}
 use Rattle.of_frame_words.proofs.WordLemmas.{stops_same}
 use Rattle.of_frame_words.proofs.SaidLemmas.{err_weaker, frame_is, frame_stops}
@@ -16,12 +16,12 @@ pub returns-clause-read : goal.returns-clause-read
 returns-clause-read c =
     IfOk-weaker c.checked.result _ _
     (λ r e. frame_is c.args.port c.args.text.now c.new-settings.result.items c.add_words.new.settings.items (view_received c.in_ok-received.received) c.new-settings.ensures.items c.in_ok-add_words.ensures.added
-    (c.in_ok-received.ensures.received ∙ ap (received c.args.port) c.deref.ensures.value) ∙ ap (λ (xs : List MatchField). checked xs (view_received c.in_ok-received.received)) (sym c.deref-2.ensures.value) ∙ e)
+    (c.in_ok-received.ensures.received ∙ ap (received_frame c.args.port) c.deref.ensures.value) ∙ ap (λ (xs : List MatchField). checked xs (view_received c.in_ok-received.received)) (sym c.deref-2.ensures.value) ∙ e)
     c.checked.ensures.read
 
 pub returns-clause-stopped : goal.returns-clause-stopped
 returns-clause-stopped c =
     err_weaker c.checked.result _ _
     (λ stop h. stops_same _ _ stop (frame_is c.args.port c.args.text.now c.new-settings.result.items c.add_words.new.settings.items (view_received c.in_ok-received.received) c.new-settings.ensures.items c.in_ok-add_words.ensures.added
-    (c.in_ok-received.ensures.received ∙ ap (received c.args.port) c.deref.ensures.value) ∙ ap (λ (xs : List MatchField). checked xs (view_received c.in_ok-received.received)) (sym c.deref-2.ensures.value)) h)
+    (c.in_ok-received.ensures.received ∙ ap (received_frame c.args.port) c.deref.ensures.value) ∙ ap (λ (xs : List MatchField). checked xs (view_received c.in_ok-received.received)) (sym c.deref-2.ensures.value)) h)
     c.checked.ensures.stopped

@@ -1,7 +1,7 @@
 use Rattle.std.proofs.Common.{◌∙◌, ap, sym, subst}
 use Rattle.of_ovs_words.specs.declared.stop.Stop.{Stop}
 use Rattle.of_ovs_words.specs.Stops.{Stops}
-use Rattle.of_frame_words.specs.Said.{has_mask, said}
+use Rattle.of_frame_words.specs.Said.{has_mask, word_said}
 use Rattle.of_frame_words.proofs.WordLemmas.{masked_stop, refused_stop, word_added}
 use Rattle.of_frame_words.proofs.words.add_word.Goals as goal
 
@@ -13,4 +13,4 @@ returns-in-Ok-clause-added c = word_added c.args.settings.now.items c.add_said.n
 
 pub returns-in-Err-Refused-clause-stopped : goal.returns-in-Err-Refused-clause-stopped
 returns-in-Err-Refused-clause-stopped c =
-    refused_stop c.args.settings.now.items c.args.word.now c.in-Err-Refused.why c.refuse-in-Err-Refused.result (ap has_mask (sym c.value_of.ensures) ∙ sym c.has_mask.ensures ∙ c.if-has_mask.false) (subst (λ (stop : Stop). Stops (said c.args.settings.now.items c.args.word.now) stop) c.in-Err-Refused.field-0-is c.in-Err-Refused.ensures.stopped) c.refuse-in-Err-Refused.ensures
+    refused_stop c.args.settings.now.items c.args.word.now c.in-Err-Refused.why c.refuse-in-Err-Refused.result (ap has_mask (sym c.value_of.ensures) ∙ sym c.has_mask.ensures ∙ c.if-has_mask.false) (subst (λ (stop : Stop). Stops (word_said c.args.settings.now.items c.args.word.now) stop) c.in-Err-Refused.field-0-is c.in-Err-Refused.ensures.stopped) c.refuse-in-Err-Refused.ensures

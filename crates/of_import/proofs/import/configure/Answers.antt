@@ -1,6 +1,6 @@
 use Rattle.std.proofs.Common.{◌≡◌, ◌∙◌, ap, ℕ, List, ◌++◌}
 use Rattle.std.specs.Prelude.{map}
-use Rattle.of_text.specs.Configs.{tables_of}
+use Rattle.of_text.specs.Configs.{tables_of_flows}
 use Rattle.of_text.specs.Views.{view_flows, view_groups}
 use Rattle.of_import.specs.ParsedLinesViews.{view_flow_line, view_group_line}
 use Rattle.of_import.specs.Kept.{flows_in, groups_in}
@@ -17,7 +17,7 @@ returns-in-Ok-clause-found c =
     let fs : view_flows c.in_ok-flows.flows.items ≡ flows_in (map view_flow_line c.args.flows.now) = c.in_ok-flows.ensures.flows ∙ parsed_flows c.args.flows.now in
     record {
       groups = c.in-Ok.ensures.found.0 ∙ gs;
-      tables = c.in-Ok.ensures.found.1 ∙ ap tables_of fs;
+      tables = c.in-Ok.ensures.found.1 ∙ ap tables_of_flows fs;
       stand = refusal_same (view_groups c.in_ok-groups.groups.items) (groups_in (map view_group_line c.args.groups.now)) (view_flows c.in_ok-flows.flows.items) (flows_in (map view_flow_line c.args.flows.now)) _ gs fs c.in-Ok.ensures.stand;
     }
 

@@ -1,7 +1,7 @@
 use Rattle.std.proofs.Common.{◌≡◌, length}
 use Rattle.of_ovs_words.specs.Words.{words_from}
 use Rattle.of_import.specs.LineContents.{with_words}
-use Rattle.of_import.specs.PartialFlows.{with_word}
+use Rattle.of_import.specs.PartialFlows.{with_flow_word}
 use Rattle.of_import.specs.PartialFlowViews.{view_partial_flow}
 use Rattle.of_import.proofs.line.add_flow_words.Given as goal
 
@@ -9,4 +9,4 @@ abbrev pub decreases-loop-rest : goal.decreases-loop-rest
 decreases-loop-rest l = length l.rest
 
 abbrev pub invariant-loop-rest : goal.invariant-loop-rest
-invariant-loop-rest l = with_words with_word (view_partial_flow l.fn.partial) (words_from 0 l.text) ≡ with_words with_word (view_partial_flow l.partial) (words_from 0 l.rest)
+invariant-loop-rest l = with_words with_flow_word (view_partial_flow l.fn.partial) (words_from 0 l.text) ≡ with_words with_flow_word (view_partial_flow l.partial) (words_from 0 l.rest)

@@ -1,9 +1,9 @@
 use Rattle.std.proofs.Common.{◌∙◌, sym}
 use Rattle.of_import.specs.ParsedLines.{FlowAt}
 use Rattle.of_import.specs.ParsedLinesViews.{view_flow_line}
-use Rattle.of_import.specs.TableNumbers.{names}
+use Rattle.of_import.specs.TableNumbers.{concerns_table}
 use Rattle.of_import.proofs.ParsedLinesLemmas.{any_mapped}
 use Rattle.of_import.proofs.table_numbers.occurs.Goals as goal
 
 pub returns : goal.returns
-returns c = c.some_names.ensures ∙ sym (any_mapped view_flow_line (λ (f : FlowAt). names c.args.table f.flow) c.args.flows.now)
+returns c = c.some_names.ensures ∙ sym (any_mapped view_flow_line (λ (f : FlowAt). concerns_table c.args.table f.flow) c.args.flows.now)

@@ -1,7 +1,7 @@
 use Rattle.std.proofs.Common.{◌≡◌, ◌++◌, ◌∙◌, ap, refl, sym, rules, List, append_assoc, [], subst}
 use Rattle.std.proofs.lemmas.List.{append-nil}
 use Rattle.of_switch.specs.declared.event.Event.{Event}
-use Rattle.of_serve.specs.Turns.{acts, due, left}
+use Rattle.of_serve.specs.Turns.{events_of_row, due, left}
 use Rattle.of_serve.proofs.TurnLemmas.{due_none, left_none, due_waits, left_waits, due_acts, left_acts}
 use Rattle.of_live.specs.Working.{Does}
 use Rattle.of_live.proofs.Doing.{does_none, does_more}
@@ -24,9 +24,9 @@ loop-row-preserved g c =
     let is_due = sym c.waits.ensures ∙ c.if-waits.false in
     record {
       rest = rw c.pass.ensures (i.rest ∙ left_acts now row rows c.in-Some.ensures is_due);
-      done = i.done ++ acts row;
-      due_are = rw c.pass.ensures (i.due_are ∙ (ap (λ (es : List Event). i.done ++ es) (due_acts now row rows c.in-Some.ensures is_due) ∙ sym (append_assoc i.done (acts row) _)));
-      does = does_more c.args.keeps i.done (acts row) c.args.switch.now c.loop-row.switch c.act.new.switch c.args.work.now c.loop-row.work c.act.new.work i.does c.in_ok-act.ensures;
+      done = i.done ++ events_of_row row;
+      due_are = rw c.pass.ensures (i.due_are ∙ (ap (λ (es : List Event). i.done ++ es) (due_acts now row rows c.in-Some.ensures is_due) ∙ sym (append_assoc i.done (events_of_row row) _)));
+      does = does_more c.args.keeps i.done (events_of_row row) c.args.switch.now c.loop-row.switch c.act.new.switch c.args.work.now c.loop-row.work c.act.new.work i.does c.in_ok-act.ensures;
     }
 
 pub returns-then-waits-clause-rows : goal.returns-then-waits-clause-rows

@@ -1,7 +1,7 @@
 use Rattle.std.proofs.Common.{◌≡◌, ◌≤◌, ◌<◌, ◌∙◌, get_or, length, sym, ap, arith}
 use Rattle.of_layers.specs.declared.field.Field.{Field}
 use Rattle.of_layers.specs.declared.field.Field.TheVariants.{InPort}
-use Rattle.of_regions.specs.Building.{IsBegun, bits_at}
+use Rattle.of_regions.specs.Building.{IsBegunField, bits_at}
 use Rattle.of_regions.specs.Joining.{Joined}
 use Rattle.of_regions.proofs.PlaceLemmas.{place, place_of_read, place_small}
 use Rattle.of_regions.proofs.RuleLemmas.{free_unasked, is_asked, rule_fits}
@@ -31,7 +31,7 @@ pub loop-field-preserved : goal.loop-field-preserved
 loop-field-preserved c =
     let x : Field = get_or c.every_field-field-items.result.now c.loop-field.field-index InPort in
     let at = place_of_read c.every_field-field-items.result.now c.loop-field.field-index InPort c.every_field-field-items.ensures c.loop-field-test.true in
-    let joined : IsBegun c.args.shape c.args.tagging c.args.m.now c.in-Some.next x = rw (c.rule_in-rule.ensures, c.get.ensures, c.get-in-loop-field.ensures, c.mask_of.ensures x, c.key_of-asked.ensures x) at c.in-Some.ensures.joined in
+    let joined : IsBegunField c.args.shape c.args.tagging c.args.m.now c.in-Some.next x = rw (c.rule_in-rule.ensures, c.get.ensures, c.get-in-loop-field.ensures, c.mask_of.ensures x, c.key_of-asked.ensures x) at c.in-Some.ensures.joined in
     record {
       begun = begun_more c.args.shape c.args.tagging c.args.m.now c.loop-field.fields c.in-Some.next x c.loop-field.field-index at joined c.in-Some.ensures.others c.loop-field.invariant.begun;
       unknown = unknown_after c.args.shape c.args.tagging c.args.m.now c.loop-field.fields c.in-Some.next x c.loop-field.field-index at joined c.in-Some.ensures.others c.loop-field.invariant.unknown;

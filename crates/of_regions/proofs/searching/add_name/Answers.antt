@@ -2,7 +2,7 @@ use Rattle.std.proofs.Common.{◌≡◌, ℕ, true, false, eqb, Option, Some, No
 use Rattle.std.proofs.lemmas.Grind.{common_steps}
 use Rattle.std.specs.List.{insert, position}
 use Rattle.std.proofs.lemmas.Bool.{eq-eqb, ne_eqb}
-use Rattle.of_regions.specs.Naming.{named}
+use Rattle.of_regions.specs.Naming.{with_place}
 use Rattle.of_regions.proofs.NamingLemmas.{IsPlace, from, named_within, named_behind}
 use Rattle.of_regions.proofs.searching.add_name.Goals as goal
 
@@ -16,10 +16,10 @@ returns-in_ok-push-in-None c =
     let items : c.push.new.self.items ≡ xs ++ j ∷ [] = search rules in
     items ∙ named_behind j xs (found j xs c.deref.result.now c.first_from.result None c.first_from.ensures c.deref.ensures.value c.in-None.is)
 
-inserted : (j : ℕ) (xs : List ℕ) (n : ℕ) → IsPlace j xs n → eqb (get_or xs n 0) j ≡ false → insert xs n j ≡ named j xs
+inserted : (j : ℕ) (xs : List ℕ) (n : ℕ) → IsPlace j xs n → eqb (get_or xs n 0) j ≡ false → insert xs n j ≡ with_place j xs
 inserted j xs n p other = sym (p.is ∙ rw other refl)
 
-there : (j : ℕ) (xs : List ℕ) (n : ℕ) → IsPlace j xs n → eqb (get_or xs n 0) j ≡ true → xs ≡ named j xs
+there : (j : ℕ) (xs : List ℕ) (n : ℕ) → IsPlace j xs n → eqb (get_or xs n 0) j ≡ true → xs ≡ with_place j xs
 there j xs n p same = sym (p.is ∙ rw same refl)
 
 pub returns-in_ok-insert-in-Some : goal.returns-in_ok-insert-in-Some

@@ -6,7 +6,7 @@ use Rattle.of_regions.specs.declared.looking.Rest.{Rest}
 use Rattle.of_regions.specs.declared.region.Region.{Region}
 use Rattle.of_regions.specs.declared.rival.Rival.{Rival}
 use Rattle.of_regions.specs.declared.witness.Packet.{Packet}
-use Rattle.of_regions.specs.Searching.{AreSteps, IsFound, IsStart, IsState, IsStep, regions_in}
+use Rattle.of_regions.specs.Searching.{AreSteps, IsFoundBySearch, IsStart, IsState, IsStep, regions_in}
 use Rattle.of_regions.proofs.SearchLemmas.{begun, found_at_end, last_passed, one_more, regions_begun}
 use Rattle.of_regions.proofs.searching.search_among.Goals as goal
 

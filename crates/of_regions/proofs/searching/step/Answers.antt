@@ -2,12 +2,12 @@ use Rattle.std.proofs.Common.{◌≡◌, ◌∙◌, ◌<◌, ℕ, List, [], ◌�
 use Rattle.std.specs.Prelude.{slice_get, IfNone, IfSome}
 use Rattle.std.proofs.lemmas.Option.{slice_get_cases, slice_get_past, slice_get-get_or}
 use Rattle.of_regions.specs.declared.witness.Packet.{Packet}
-use Rattle.of_regions.specs.Regions.{In}
+use Rattle.of_regions.specs.Regions.{InRegion}
 use Rattle.of_regions.specs.Witness.{HasNoIngress, IsReceived, fields_in}
 use Rattle.of_oxm.specs.declared.match_field.MatchField.{MatchField}
 use Rattle.of_regions.specs.declared.looking.Rest.{Rest}
 use Rattle.of_regions.specs.declared.rival.Rival.{Rival}
-use Rattle.of_regions.specs.Naming.{named}
+use Rattle.of_regions.specs.Naming.{with_place}
 use Rattle.of_regions.specs.Searching.{IsState, IsStep, regions_in}
 use Rattle.of_regions.proofs.SearchLemmas.{last_within, split_state, split_step, taken_state, taken_step, unreceived_is, unreceived_state, unreceived_step, unrivalled}
 use Rattle.of_regions.proofs.searching.step.Goals as goal
@@ -29,7 +29,7 @@ returns-in_ok-add_name-in-Taken-clause-state c start s =
     let t = c.in-Taken.ensures in
     let d : Rival = record { name = 0; fields = record { ref_ptr = (0, 0); now = [] } } in
     let same = name_of rivals c.in-Taken.at t.rival d t.there (within rivals c.in-Taken.at t.rival t.there) in
-    let more : c.add_name.new.names.items ≡ named t.rival.name names = c.in_ok-add_name-in-Taken.ensures ∙ ap (λ (q : Rival). named q.name names) same in
+    let more : c.add_name.new.names.items ≡ with_place t.rival.name names = c.in_ok-add_name-in-Taken.ensures ∙ ap (λ (q : Rival). with_place q.name names) same in
     rw more (taken_state start rivals rests c.args.rest names c.args.search.now.unreceived s c.in-Taken.at t)
 
 pub returns-in_ok-add_name-in-Taken-clause-step : goal.returns-in_ok-add_name-in-Taken-clause-step
@@ -53,8 +53,8 @@ returns-in_ok-push_parts-in-Splits-clause-step c start s =
 pub returns-in-Some-clause-found : goal.returns-in-Some-clause-found
 returns-in-Some-clause-found c start s =
     let rivals = c.args.rivals.now in
-    let found : IsReceived c.in-Some.packet × In c.args.rest.region (fields_in c.in-Some.packet) =
-    subst (λ (o : Option Packet). IfSome o (λ p. IsReceived p × In c.args.rest.region (fields_in p))) c.in-Some.is c.in_ok-packet-in-Free.ensures.some in
+    let found : IsReceived c.in-Some.packet × InRegion c.args.rest.region (fields_in c.in-Some.packet) =
+    subst (λ (o : Option Packet). IfSome o (λ p. IsReceived p × InRegion c.args.rest.region (fields_in p))) c.in-Some.is c.in_ok-packet-in-Free.ensures.some in
     record {
       received = found.0;
       within = last_within start rivals c.args.search.now.rests.items c.args.rest c.args.search.now.names.items c.args.search.now.unreceived s (fields_in c.in-Some.packet) found.1;

@@ -6,7 +6,7 @@ use Rattle.of_shapes.specs.declared.shape.Shape.{Shape}
 use Rattle.of_shapes.specs.declared.shape.Shape.TheVariants.{Bare}
 use Rattle.of_shapes.specs.Rules.{HasShape}
 use Rattle.of_regions.specs.declared.region.Region.{Region}
-use Rattle.of_regions.specs.Regions.{In}
+use Rattle.of_regions.specs.Regions.{InRegion}
 use Rattle.of_regions.specs.Searching.{InSome}
 use Rattle.of_regions.specs.Starting.{IsBegun}
 use Rattle.of_regions.proofs.StartLemmas.{same_or, still_in, still_matched}

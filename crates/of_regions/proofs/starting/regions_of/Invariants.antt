@@ -6,7 +6,7 @@ use Rattle.of_shapes.specs.declared.shape.Shape.{Shape}
 use Rattle.of_shapes.specs.declared.shape.Tagging.{Tagging}
 use Rattle.of_shapes.specs.Rules.{HasShape, IsTagging}
 use Rattle.of_regions.specs.declared.region.Region.{Region}
-use Rattle.of_regions.specs.Regions.{In}
+use Rattle.of_regions.specs.Regions.{InRegion}
 use Rattle.of_regions.specs.Searching.{InSome}
 use Rattle.of_regions.proofs.starting.regions_of.Given as goal
 
@@ -15,6 +15,6 @@ invariant-loop-shape l = record {
   all : (s : Shape) → Contains l.shape-items s;
   ten : length l.shape-items ≡ 10;
   few : length l.regions.items ≤ 2 * l.shape-index;
-  matched : (r : Region) → Contains l.regions.items r → (fields : Field → Option ℕ) → In r fields → matches_map l.own fields ≡ true;
+  matched : (r : Region) → Contains l.regions.items r → (fields : Field → Option ℕ) → InRegion r fields → matches_map l.own fields ≡ true;
   done : (i : ℕ) → i < l.shape-index → (s : Shape) → get_or l.shape-items i s ≡ s → (t : Tagging) (fields : Field → Option ℕ) → HasShape s fields → IsTagging t fields → matches_map l.own fields ≡ true → InSome l.regions.items fields;
 }

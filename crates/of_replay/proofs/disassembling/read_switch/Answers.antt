@@ -2,7 +2,7 @@ use Rattle.std.proofs.Common.{refl, ◌∙◌}
 use Rattle.of_replay.proofs.FileLemmas.{read_nothing, faults_nothing, faults_done}
 use Rattle.of_replay.proofs.EventFileLemmas.{played_all, played_not, faults_unplayed}
 use Rattle.of_replay.specs.FileRuns.{event_file}
-use Rattle.of_replay.specs.RowTexts.{plain}
+use Rattle.of_replay.specs.RowTexts.{plain_row_text}
 use Rattle.of_replay.proofs.disassembling.read_switch.Goals as goal
 
 pub returns-in_default-clause-played : goal.returns-in_default-clause-played
@@ -12,7 +12,7 @@ pub returns-in_default-clause-faults : goal.returns-in_default-clause-faults
 returns-in_default-clause-faults g c = faults_nothing (g.S.Source.reads c.args.reader.now) (g.S.Source.ends c.args.reader.now) (g.S.Source.failures c.args.reader.now) 0 refl
 
 pub returns-clause-played : goal.returns-clause-played
-returns-clause-played g c = rw c.ended_by.ensures (played_not _ plain c.in-Err.halt (g.S.Source.answers c.args.reader.now) (g.S.Source.answers c.play.new.reader) (g.S.Source.ends c.args.reader.now) (g.S.Source.ends c.play.new.reader) _ _ c.in-Err.ensures.plays c.in-Err.ensures.writes)
+returns-clause-played g c = rw c.ended_by.ensures (played_not _ plain_row_text c.in-Err.halt (g.S.Source.answers c.args.reader.now) (g.S.Source.answers c.play.new.reader) (g.S.Source.ends c.args.reader.now) (g.S.Source.ends c.play.new.reader) _ _ c.in-Err.ensures.plays c.in-Err.ensures.writes)
 
 pub returns-clause-faults : goal.returns-clause-faults
 returns-clause-faults g c = rw c.ended_by.ensures (faults_unplayed c.in-Err.halt (g.S.Source.reads c.play.new.reader) (g.S.Source.ends c.args.reader.now) (g.S.Source.ends c.play.new.reader) (g.S.Source.failures c.args.reader.now) (g.S.Source.failures c.play.new.reader) c.in-Err.ensures.reads c.in-Err.ensures.writes)

@@ -1,5 +1,5 @@
 use Rattle.std.proofs.Common.{◌≡◌, ℕ, ◌+◌, ◌≤◌, true, List, ◌++◌, length, refl, ap, ◌∙◌, arith}
-use Rattle.of_messages.specs.Written.{header}
+use Rattle.of_messages.specs.Written.{message_header}
 use Rattle.of_messages.specs.declared.message.Message.TheVariants.{Hello, Error, EchoRequest, EchoReply, FeaturesRequest, GetConfigRequest, BarrierRequest, GetAsyncRequest}
 use Rattle.of_requests.specs.Sound.{is_sound}
 use Rattle.of_requests.proofs.WrittenLarge.{within}
@@ -49,4 +49,4 @@ returns-in-EchoRequest c =
     let parts : Parts (EchoRequest echoed) c.args.xid (length echoed) = record { total = omega arith; short = short; xid_fits = omega arith; fits = tt; behind = refl; valid = tt } in
     let text = c.write_with-in-EchoRequest.ensures in
     rw c.in-EchoRequest.is (if_ok _ _ c.write_with-in-EchoRequest.result text (λ bytes is.
-    whole_written (EchoRequest echoed) c.args.xid (length echoed) bytes (is ∙ ap (λ (b : List ℕ). header 2 (8 + length b) c.args.xid ++ b) c.as_slice.ensures) parts))
+    whole_written (EchoRequest echoed) c.args.xid (length echoed) bytes (is ∙ ap (λ (b : List ℕ). message_header 2 (8 + length b) c.args.xid ++ b) c.as_slice.ensures) parts))

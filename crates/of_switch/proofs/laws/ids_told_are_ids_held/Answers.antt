@@ -1,5 +1,5 @@
 use Rattle.of_datapath.proofs.HeldIds.{told, found, whole, ids, distinct, next_is}
-use Rattle.of_datapath.specs.Told.{given}
+use Rattle.of_datapath.specs.Told.{given_items}
 use Rattle.of_switch.proofs.laws.ids_told_are_ids_held.Goals as goal
 
 pub returns-clause-told : goal.returns-clause-told
@@ -18,4 +18,4 @@ pub returns-clause-distinct : goal.returns-clause-distinct
 returns-clause-distinct c = λ heard b first more p n e few. distinct heard b first more p n e few
 
 pub returns-clause-next : goal.returns-clause-next
-returns-clause-next c = λ heard ports b items. next_is heard b (given heard ports items)
+returns-clause-next c = λ heard ports b items. next_is heard b (given_items heard ports items)

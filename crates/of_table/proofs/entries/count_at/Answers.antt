@@ -5,9 +5,9 @@ use Rattle.of_table.proofs.CountLemmas.{counted-set}
 use Rattle.of_table.proofs.DeadlineLemmas.{set_stay}
 use Rattle.of_table.proofs.Replaced.{at_behind}
 use Rattle.of_table.specs.declared.selection.Cause.TheVariants.{Moment}
-use Rattle.of_table.specs.Table.{counted}
+use Rattle.of_table.specs.Table.{counted_entry}
 use Rattle.of_table.specs.Deadlines.{all_stay}
-use Rattle.of_table.specs.Entries.{entry_of, flows_of, rows_of, numbers_of, row_of, entry_number}
+use Rattle.of_table.specs.Entries.{entry_of, flows_of, rows_of, entry_numbers, classifier_row, entry_number}
 use Rattle.of_table.specs.declared.entry.Entry.{Entry}
 use Rattle.of_table.proofs.entries.count_at.Goals as goal
 
@@ -19,17 +19,17 @@ returns-clause-flows c =
     let within : c.args.place < length (drop r xs) = omega (arith, long, c.requires) in
     let there = at_behind xs r c.args.place c.index_mut-entry.result.now c.index_mut-entry.ensures.value in
     rw (c.incremented-entry.ensures, c.incremented-entry-2.ensures)
-    (ap flows_of (drop-set-add r xs c.args.place _) ∙ counted-set c.args.now c.args.bytes (drop r xs) c.args.place _ c.index_mut-entry.result.now within (ap (λ (e : Entry). counted c.args.now c.args.bytes (entry_of e)) there))
+    (ap flows_of (drop-set-add r xs c.args.place _) ∙ counted-set c.args.now c.args.bytes (drop r xs) c.args.place _ c.index_mut-entry.result.now within (ap (λ (e : Entry). counted_entry c.args.now c.args.bytes (entry_of e)) there))
 
 pub returns-clause-numbers : goal.returns-clause-numbers
 returns-clause-numbers c =
     let there = at_behind c.args.entries.now.items c.args.replaced c.args.place c.index_mut-entry.result.now c.index_mut-entry.ensures.value in
-    ap numbers_of (drop-set-add c.args.replaced c.args.entries.now.items c.args.place _) ∙ map-set_same entry_number (drop c.args.replaced c.args.entries.now.items) c.args.place _ c.index_mut-entry.result.now (ap entry_number there)
+    ap entry_numbers (drop-set-add c.args.replaced c.args.entries.now.items c.args.place _) ∙ map-set_same entry_number (drop c.args.replaced c.args.entries.now.items) c.args.place _ c.index_mut-entry.result.now (ap entry_number there)
 
 pub returns-clause-rows : goal.returns-clause-rows
 returns-clause-rows c =
     let there = at_behind c.args.entries.now.items c.args.replaced c.args.place c.index_mut-entry.result.now c.index_mut-entry.ensures.value in
-    ap rows_of (drop-set-add c.args.replaced c.args.entries.now.items c.args.place _) ∙ map-set_same row_of (drop c.args.replaced c.args.entries.now.items) c.args.place _ c.index_mut-entry.result.now (ap row_of there)
+    ap rows_of (drop-set-add c.args.replaced c.args.entries.now.items c.args.place _) ∙ map-set_same classifier_row (drop c.args.replaced c.args.entries.now.items) c.args.place _ c.index_mut-entry.result.now (ap classifier_row there)
 
 pub returns-clause-due : goal.returns-clause-due
 returns-clause-due c = λ at lt was. ap (all_stay (Moment at)) (drop-set-add c.args.replaced c.args.entries.now.items c.args.place _) ∙ set_stay at (drop c.args.replaced c.args.entries.now.items) c.args.place _ was (c.entry_deadline.ensures at lt)

@@ -1,5 +1,5 @@
 use Rattle.std.proofs.Common.{◌≡◌, ◌-◌, ℕ, true, length, take}
-use Rattle.of_table.specs.Sound.{AreSound, are_fit}
+use Rattle.of_table.specs.Sound.{AreSoundEntries, are_instructions_fit}
 use Rattle.of_actions.specs.FlowCheck.{all_go_with}
 use Rattle.of_wire.proofs.Changing.{changed_to}
 use Rattle.of_table.specs.Entries.{flows_of, rows_of, on_entry}
@@ -13,5 +13,5 @@ invariant-loop-place l = record {
   entries : l.entries ≡ changed_to (on_entry (modified_by l.which l.initial.copies.instructions l.reset)) l.place l.initial.entries;
   copies : l.copies ≡ record l.initial.copies { count = l.initial.copies.count - wanted l.which (take l.place l.initial.entries) };
   length : length l.entries ≡ length l.initial.entries;
-  sound : (k : ℕ) → are_fit k l.initial.copies.instructions ≡ true → all_go_with l.which.fields l.initial.copies.instructions ≡ true → AreSound k (flows_of l.initial.entries) → AreSound k (flows_of l.entries);
+  sound : (k : ℕ) → are_instructions_fit k l.initial.copies.instructions ≡ true → all_go_with l.which.fields l.initial.copies.instructions ≡ true → AreSoundEntries k (flows_of l.initial.entries) → AreSoundEntries k (flows_of l.entries);
 }

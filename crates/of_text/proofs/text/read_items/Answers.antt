@@ -4,11 +4,11 @@ use Rattle.of_text.specs.declared.text.TextError.TheVariants.{Memory, Syntax}
 use Rattle.of_lines.specs.Lines.{lines_of}
 use Rattle.of_text.specs.Groups.{TextGroup}
 use Rattle.of_text.specs.Flows.{Flow}
-use Rattle.of_text.specs.Texts.{EncodeItems, Fails}
+use Rattle.of_text.specs.Texts.{EncodeItems, TextFails}
 use Rattle.of_text.proofs.TextLemmas.{gathered_encodes, no_fault, one_list}
 use Rattle.of_text.proofs.text.read_items.Goals as goal
 
-only_memory : (lines : List (List ℕ)) (groups : List TextGroup) (flows : List Flow) (e : TextError) → EncodeItems lines groups flows → Fails lines e → e ≡ Memory
+only_memory : (lines : List (List ℕ)) (groups : List TextGroup) (flows : List Flow) (e : TextError) → EncodeItems lines groups flows → TextFails lines e → e ≡ Memory
 only_memory lines groups flows Memory s f = refl
 only_memory lines groups flows (Syntax n) s f = absurd (no_fault lines groups flows n s f)
 

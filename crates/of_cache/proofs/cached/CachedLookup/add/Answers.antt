@@ -1,7 +1,7 @@
 use Rattle.std.proofs.Common.{ℕ, List, sym, subst, ◌∙◌, ap}
 use Rattle.std.specs.Prelude.{◌==◌}
 use Rattle.of_oxm.specs.declared.masks.FieldMask.{FieldMask}
-use Rattle.of_cache.specs.Held.{Held}
+use Rattle.of_cache.specs.Held.{HeldRows}
 use Rattle.of_cache.specs.Kept.{not_beaten}
 use Rattle.of_cache.specs.Listed.{AreListed}
 use Rattle.of_cache.proofs.Changing.{added, none_listed, none_right, on_ok, same_staying}
@@ -30,7 +30,7 @@ invariant_of-self-2 g c =
 pub returns-clause-rows : goal.returns-clause-rows
 returns-clause-rows g c =
     c.drop_beaten.ensures.entries ∙ same_staying c.mask_of-mask.result c.key_of-key.result c.args.fields c.args.priority c.self.inside.rows.entries c.mask_of-mask.ensures c.key_of-key.ensures
-    ∙ ap (λ (h : Held). not_beaten c.args.fields c.args.priority h.rows) c.self.view_is
+    ∙ ap (λ (h : HeldRows). not_beaten c.args.fields c.args.priority h.rows) c.self.view_is
 
 pub invariant_of-self : goal.invariant_of-self
 invariant_of-self g c =
@@ -41,4 +41,4 @@ pub returns-then-is_empty-clause-rows : goal.returns-then-is_empty-clause-rows
 returns-then-is_empty-clause-rows g c =
     let old = c.self.inside in
     let none = none_listed old.masks.items old.rows.entries (ap (λ (n : ℕ). n == 0) (sym old.masks.ok.0) ∙ (sym c.is_empty.ensures ∙ c.if-is_empty.true)) c.self.invariant.1.listed in
-    on_ok c.add.result (none ∙ (ap (not_beaten c.args.fields c.args.priority) (sym none) ∙ ap (λ (h : Held). not_beaten c.args.fields c.args.priority h.rows) c.self.view_is))
+    on_ok c.add.result (none ∙ (ap (not_beaten c.args.fields c.args.priority) (sym none) ∙ ap (λ (h : HeldRows). not_beaten c.args.fields c.args.priority h.rows) c.self.view_is))

@@ -4,7 +4,7 @@ use Rattle.of_headers.specs.FieldMap.{value}
 use Rattle.of_oxm.specs.declared.masks.FieldMask.{FieldMask}
 use Rattle.of_cache.specs.declared.region.Region.{Region}
 use Rattle.of_cache.specs.Regions.{region_of}
-use Rattle.of_cache.specs.Kept.{AreSound}
+use Rattle.of_cache.specs.Kept.{AreSoundRegions}
 use Rattle.of_cache.specs.Finding.{NoneHolds}
 use Rattle.of_cache.specs.Listed.{AreListed, AreMasks}
 use Rattle.of_cache.proofs.Changing.{hit_right, hit_answers, stored_right, stored_found}
@@ -35,7 +35,7 @@ store-requires-clause-new g c =
 pub invariant_of-self-in-None : goal.invariant_of-self-in-None
 invariant_of-self-in-None g c =
     let content = g.L.Lookup.content c.self.inside.inner in
-    let sound : AreSound content c.find.new.rows.entries = subst (λ (x : LruCache Region (Option (ℕ × ℕ))). AreSound content x.entries) (sym c.in-None.ensures.same) c.self.invariant.0 in (
+    let sound : AreSoundRegions content c.find.new.rows.entries = subst (λ (x : LruCache Region (Option (ℕ × ℕ))). AreSoundRegions content x.entries) (sym c.in-None.ensures.same) c.self.invariant.0 in (
       stored_right content c.find.new.rows c.store.new.rows c.region-number.result.1 (value c.args.key.now) c.masked.result c.answer_of-answer.result sound c.region-number.ensures.alike c.masked.ensures
           (c.answer_of-answer.ensures (value c.args.key.now) c.region-number.ensures.answer) c.store.ensures.rows,
       c.store.ensures.masks,

@@ -1,7 +1,7 @@
 use Rattle.std.proofs.Common.{◌≡◌, ◌++◌, ◌-◌, ◌≤◌}
 use Rattle.std.specs.Prelude.{map}
 use Rattle.of_import.specs.ParsedLinesViews.{view_flow_line}
-use Rattle.of_import.specs.TableNumbers.{count_from, moves_from, numbers_from}
+use Rattle.of_import.specs.TableNumbers.{count_from, moves_from, table_numbers_from}
 use Rattle.of_import.proofs.table_numbers.TableNumbers.of.Given as goal
 
 abbrev pub decreases-loop-table : goal.decreases-loop-table
@@ -10,7 +10,7 @@ decreases-loop-table l = 256 - l.table
 abbrev pub invariant-loop-table : goal.invariant-loop-table
 invariant-loop-table l = record {
   small : l.table ≤ 256;
-  numbers : l.made.numbers.items ++ numbers_from (map view_flow_line l.flows) (256 - l.table) l.table l.made.count ≡ numbers_from (map view_flow_line l.flows) 256 0 0;
+  numbers : l.made.numbers.items ++ table_numbers_from (map view_flow_line l.flows) (256 - l.table) l.table l.made.count ≡ table_numbers_from (map view_flow_line l.flows) 256 0 0;
   moves : l.made.moves.items ++ moves_from (map view_flow_line l.flows) (256 - l.table) l.table l.made.count ≡ moves_from (map view_flow_line l.flows) 256 0 0;
   count : count_from (map view_flow_line l.flows) (256 - l.table) l.table l.made.count ≡ count_from (map view_flow_line l.flows) 256 0 0;
 }

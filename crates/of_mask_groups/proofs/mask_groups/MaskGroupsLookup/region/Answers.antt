@@ -3,7 +3,7 @@ use Rattle.of_layers.specs.declared.field.Field.{Field}
 use Rattle.of_headers.specs.FieldMap.{value}
 use Rattle.of_oxm.specs.Masks.{mask_at}
 use Rattle.of_classifier.specs.declared.Row.{Row}
-use Rattle.of_classifier.specs.Winner.{winner_of, number_of}
+use Rattle.of_classifier.specs.Winner.{winner_of, winner_number}
 use Rattle.of_mask_groups.specs.declared.group.Group.{Group}
 use Rattle.of_mask_groups.specs.Grouping.{AreGrouped}
 use Rattle.of_mask_groups.specs.Probed.{groups_look}
@@ -20,7 +20,7 @@ returns-clause-answer c =
     let a : AreGrouped s gs = subst (λ (xs : List Group). AreGrouped s xs) (sym c.deref.ensures.value) c.self.invariant.1 in
     c.number_of.ensures
     ∙ answer_winner s gs (take found.result.1 gs) (value c.args.key.now) found.result.0 found.result.1 (c.self.inside.last + 1) a c.self.invariant.0 found.ensures.probed found.ensures.done
-    ∙ ap (λ (rs : List Row). number_of (winner_of rs (value c.args.key.now))) c.self.view_is
+    ∙ ap (λ (rs : List Row). winner_number (winner_of rs (value c.args.key.now))) c.self.view_is
 
 pub returns-clause-alike : goal.returns-clause-alike
 returns-clause-alike c =

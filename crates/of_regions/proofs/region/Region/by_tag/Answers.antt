@@ -5,13 +5,13 @@ use Rattle.of_layers.specs.declared.field.Field.TheVariants.{VlanVid}
 use Rattle.of_shapes.specs.declared.shape.Tagging.{Tagging}
 use Rattle.of_shapes.specs.declared.shape.Tagging.TheVariants.{Untagged, Tagged}
 use Rattle.of_shapes.specs.Rules.{IsTagging}
-use Rattle.of_regions.specs.Regions.{In, SomeTagging}
+use Rattle.of_regions.specs.Regions.{InRegion, IsSomeTagging}
 use Rattle.of_regions.proofs.TaggingLemmas.{not_both_tags, parts_either}
 use Rattle.of_regions.proofs.region.Region.by_tag.Goals as goal
 
 pub returns : goal.returns
 returns c = parts_either c.args.self c.tagged.result c.untagged.result _ _ (record {
-  within = λ map h. elim h as (λ x. In c.args.self map) [ inl a ↦ c.tagged.ensures.within map a | inr b ↦ c.untagged.ensures.within map b ];
-  all = λ map t h. elim t.0 as (λ x. IsTagging x map → In c.tagged.result map ⊎ In c.untagged.result map) [ Untagged ↦ λ g. inr (c.untagged.ensures.all map g h) | Tagged ↦ λ g. inl (c.tagged.ensures.all map g h) ] t.1;
+  within = λ map h. elim h as (λ x. InRegion c.args.self map) [ inl a ↦ c.tagged.ensures.within map a | inr b ↦ c.untagged.ensures.within map b ];
+  all = λ map t h. elim t.0 as (λ x. IsTagging x map → InRegion c.tagged.result map ⊎ InRegion c.untagged.result map) [ Untagged ↦ λ g. inr (c.untagged.ensures.all map g h) | Tagged ↦ λ g. inl (c.tagged.ensures.all map g h) ] t.1;
   apart = λ map a b. not_both_tags (map VlanVid) (c.tagged.ensures.vid map a) (c.untagged.ensures.vid map b);
 }) c.in_order.ensures

@@ -5,7 +5,7 @@ use Rattle.of_layers.specs.declared.field.Field.TheVariants.{InPort}
 use Rattle.of_oxm.specs.declared.match_field.MatchField.{MatchField}
 use Rattle.of_oxm.specs.Relations.{agrees, matches_map}
 use Rattle.of_regions.specs.Narrowing.{is_tag_field}
-use Rattle.of_regions.specs.Regions.{In, InOne}
+use Rattle.of_regions.specs.Regions.{InRegion, InOneRegion}
 use Rattle.of_regions.proofs.NarrowingLemmas.{all_at, all_before, any_at, both_true, each_true, known_unless_tag}
 use Rattle.of_regions.proofs.region.Region.with_conditions.Goals as goal
 

@@ -4,7 +4,7 @@ use Rattle.std.proofs.lemmas.List.{map-append}
 use Rattle.of_wire.specs.Numbered.{is_used}
 use Rattle.of_classifier.specs.Rows.{made_row, row_number}
 use Rattle.of_table.specs.Table.{FlowEntry, is_same, kept_flow}
-use Rattle.of_table.specs.Entries.{flows_of, row_of, rows_of, added_entries}
+use Rattle.of_table.specs.Entries.{flows_of, classifier_row, rows_of, added_entries}
 use Rattle.of_table.proofs.Replaced.{one_behind, one_longer}
 use Rattle.of_table.proofs.AddLemmas.{appended, new_number, with_entries}
 use Rattle.of_table.specs.declared.selection.Cause.TheVariants.{Moment}
@@ -36,9 +36,9 @@ invariant_of-self-2 g c =
     let last : drop c.self.inside.replaced c.push_reserved.new.entries.items ≡ es ++ e ∷ [] = one_behind c.self.inside.entries.items _ _ c.self.inside.replaced e c.self.invariant.2 c.reserve.ensures.items c.push_reserved.ensures.items in
     let items : drop c.self.inside.replaced c.push_reserved.new.entries.items ≡ added_entries e.number c.args.now c.args.flow es = appended c.args.now c.args.flow es es _ e new c.new_entry.ensures.entry refl last in
     let flow : e.flow ≡ kept_flow c.args.flow = ap (λ (x : FlowEntry). x.flow) c.new_entry.ensures.entry in
-    let row : row_of e ≡ made_row c.in_ok-number.number c.args.flow.priority c.in_ok-fields.fields = (λ j. made_row (c.new_entry.ensures.number j) (flow j).priority (flow j).fields) ∙ ap (made_row c.in_ok-number.number c.args.flow.priority) (sym c.in_ok-fields.ensures) in
+    let row : classifier_row e ≡ made_row c.in_ok-number.number c.args.flow.priority c.in_ok-fields.fields = (λ j. made_row (c.new_entry.ensures.number j) (flow j).priority (flow j).fields) ∙ ap (made_row c.in_ok-number.number c.args.flow.priority) (sym c.in_ok-fields.ensures) in
     let long : length c.push_reserved.new.entries.items ≡ length c.self.inside.entries.items + 1 = one_longer c.self.inside.entries.items _ _ e c.reserve.ensures.items c.push_reserved.ensures.items in (
-      c.in_ok-number.ensures.ok ∙ (λ j. c.self.invariant.0 j ++ sym row j ∷ []) ∙ sym (map-append row_of es (e ∷ [])) ∙ ap rows_of (sym last),
+      c.in_ok-number.ensures.ok ∙ (λ j. c.self.invariant.0 j ++ sym row j ∷ []) ∙ sym (map-append classifier_row es (e ∷ [])) ∙ ap rows_of (sym last),
       λ at lt. ap (all_stay (Moment at)) items
           ∙ added_none_over c.self.inside.due c.flow_deadline.result e.number c.args.now c.args.flow es c.self.invariant.1 c.flow_deadline.ensures at (rw c.min-due.ensures at lt),
       omega (arith, long, c.self.invariant.2),

@@ -1,7 +1,7 @@
 use Rattle.std.proofs.Common.{◌≡◌, ◌∙◌, List, drop, map, ap, arith}
 use Rattle.of_table.specs.Table.{FlowEntry}
 use Rattle.of_table.specs.Entries.{flows_of}
-use Rattle.of_table.specs.Sound.{key_of, are_unlike}
+use Rattle.of_table.specs.Sound.{entry_key, are_unlike}
 use Rattle.of_table.proofs.CopiedLemmas.{copies_stay}
 use Rattle.of_table.proofs.flow_table.FlowTable.copy.Goals as goal
 
@@ -13,5 +13,5 @@ invariant_of-result g c =
       c.in_ok-entries.ensures.rows,
       copies_stay c.self.inside.due es copies same c.self.invariant.1,
       omega arith,
-      ap (λ (fs : List FlowEntry). are_unlike (map key_of fs)) same ∙ c.self.invariant.3,
+      ap (λ (fs : List FlowEntry). are_unlike (map entry_key fs)) same ∙ c.self.invariant.3,
     )

@@ -1,14 +1,14 @@
 use Rattle.std.proofs.Common.{sym, ap, length, List, arith}
 use Rattle.of_table.specs.declared.entry.Entry.{Entry}
 use Rattle.of_classifier.specs.Rows.{is_same_row}
-use Rattle.of_table.specs.Entries.{row_of}
+use Rattle.of_table.specs.Entries.{classifier_row}
 use Rattle.of_table.proofs.PlaceLemmas.{position_some}
 use Rattle.of_table.proofs.SpanLemmas.{meant_inside, meant_nowhere}
 use Rattle.of_table.proofs.flow_table.FlowTable.span_of.Goals as goal
 
 pub overflow_add-result : goal.overflow_add-result
 overflow_add-result g c =
-    let s = position_some (λ e. is_same_row c.args.which.now.fields c.in-Some.priority (row_of e)) c.args.self.now.entries c.in-Some-same_place.place (sym c.in-Some-same_place.ensures) in
+    let s = position_some (λ e. is_same_row c.args.which.now.fields c.in-Some.priority (classifier_row e)) c.args.self.now.entries c.in-Some-same_place.place (sym c.in-Some-same_place.ensures) in
     let long = ap (λ (es : List Entry). length es) c.entries-count.ensures in
     omega (arith, s.1, long, c.entries-count.type_inv)
 

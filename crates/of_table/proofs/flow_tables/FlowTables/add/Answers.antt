@@ -2,9 +2,9 @@ use Rattle.std.proofs.Common.{◌≡◌, ◌<◌, true, false, set, length, arit
 use Rattle.std.specs.Prelude.{nat_le, map, slice_index_or}
 use Rattle.std.proofs.lemmas.Bool.Decides.{nat_tests}
 use Rattle.std.proofs.Math.ListN.{get_or-map}
-use Rattle.of_table.specs.Table.{Table, empty_table, add_fault}
+use Rattle.of_table.specs.Table.{Table, empty_table, add_flow_fault}
 use Rattle.of_table.specs.Entries.{no_entries, table_of}
-use Rattle.of_table.specs.Sound.{are_fit}
+use Rattle.of_table.specs.Sound.{are_instructions_fit}
 use Rattle.of_table.specs.Tables.{NumberedTables}
 use Rattle.of_table.proofs.Soundness.{tables_sound, ok_added}
 use Rattle.of_table.proofs.TablesLemmas.{adds_set, tables_added, table_is}
@@ -16,7 +16,7 @@ returns-clause-fault g c =
     let within : c.args.table < length ns = omega (arith, c.if-table-ge-TABLES.false, c.self.invariant.0) in
     let small : nat_le 16 c.args.table ≡ false = grind (arith, nat_tests, c.if-table-ge-TABLES.false) in
     let there : table_of c.index_mut.result.now ≡ slice_index_or (map table_of ns) c.args.table empty_table = ap table_of (table_is ns c.args.table c.index_mut.result.now _ within c.index_mut.ensures.value) ∙ sym (get_or-map table_of ns c.args.table no_entries) in
-    rw (← c.self.view_is, small) (c.add.ensures.fault ∙ ap (λ (t : Table). add_fault c.args.flow t.flows) there)
+    rw (← c.self.view_is, small) (c.add.ensures.fault ∙ ap (λ (t : Table). add_flow_fault c.args.flow t.flows) there)
 
 pub returns-clause-ok : goal.returns-clause-ok
 returns-clause-ok g c =
@@ -35,6 +35,6 @@ returns-clause-tables g c =
 pub invariant_of-self : goal.invariant_of-self
 invariant_of-self g c =
     let within : c.args.table < length c.self.inside.tables.items = omega (arith, c.if-table-ge-TABLES.false, c.self.invariant.0) in
-    let fits : are_fit c.args.table c.args.flow.instructions ≡ true = rw (c.as_slice.ensures.kept, c.requires.fit c.if-table-ge-TABLES.false) refl in
+    let fits : are_instructions_fit c.args.table c.args.flow.instructions ≡ true = rw (c.as_slice.ensures.kept, c.requires.fit c.if-table-ge-TABLES.false) refl in
     tables_sound c.args.table c.self.inside.tables.items c.index_mut.result.now c.add.new.self _ c.self.invariant within c.index_mut.ensures.value
     (λ s. ok_added c.add.result c.args.table c.self.inside.latest c.args.flow c.index_mut.result.now c.add.new.self c.add.ensures.fault c.add.ensures.ok c.add.ensures.err fits (c.requires.checked c.if-table-ge-TABLES.false) s)

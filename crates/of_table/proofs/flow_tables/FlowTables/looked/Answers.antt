@@ -1,7 +1,7 @@
 use Rattle.of_table.proofs.Soundness.{tables_sound, same_sound}
 use Rattle.std.proofs.Common.{◌<◌, length, arith, ap}
 use Rattle.of_table.specs.Table.{looked}
-use Rattle.of_table.specs.Entries.{numbers_of}
+use Rattle.of_table.specs.Entries.{entry_numbers}
 use Rattle.of_table.proofs.TablesLemmas.{tables_set, numbers_set}
 use Rattle.of_table.proofs.flow_tables.FlowTables.looked.Goals as goal
 
@@ -15,7 +15,7 @@ pub returns-clause-numbers : goal.returns-clause-numbers
 returns-clause-numbers g c =
     let ns = c.self.inside.tables.items in
     let within : c.args.table < length ns = omega (arith, c.requires, c.self.invariant.0) in
-    rw (← c.self.view_is) (numbers_set ns c.args.table c.self.inside.latest c.index_mut.result.now c.looked.new.self _ within c.index_mut.ensures.value (ap numbers_of c.looked.ensures.entries))
+    rw (← c.self.view_is) (numbers_set ns c.args.table c.self.inside.latest c.index_mut.result.now c.looked.new.self _ within c.index_mut.ensures.value (ap entry_numbers c.looked.ensures.entries))
 
 pub invariant_of-self : goal.invariant_of-self
 invariant_of-self g c =

@@ -2,7 +2,7 @@ use Rattle.std.proofs.Common.{◌≡◌, ◌∙◌, ℕ, true, List, length, ref
 use Rattle.of_actions.specs.declared.instruction.Instruction.{Instruction}
 use Rattle.of_table.specs.Copies.{Supply}
 use Rattle.of_table.specs.Entries.{Numbered}
-use Rattle.of_table.specs.Sound.{are_fit}
+use Rattle.of_table.specs.Sound.{are_instructions_fit}
 use Rattle.of_table.specs.Tables.{NumberedTables, is_in, each_from, modified_numbered, tables_of, all_modified}
 use Rattle.of_table.proofs.TablesLemmas.{tables_modified}
 use Rattle.of_table.proofs.Replaced.{written}
@@ -33,7 +33,7 @@ returns-clause-ok g c =
 pub invariant_of-self : goal.invariant_of-self
 invariant_of-self g c =
     let same : c.copies_for_all.new.copies.instructions ≡ c.args.instructions.now = ap (λ (s : Supply). s.instructions) c.in_ok-copies_for_all.ensures in
-    let fits : (k : ℕ) → is_in c.args.which.now.table k ≡ true → are_fit k c.args.instructions.now ≡ true = (λ k for. rw (c.as_slice.ensures.kept, c.requires.fit k for) refl) in
+    let fits : (k : ℕ) → is_in c.args.which.now.table k ≡ true → are_instructions_fit k c.args.instructions.now ≡ true = (λ k for. rw (c.as_slice.ensures.kept, c.requires.fit k for) refl) in
     rw (written c.modify_tables.new.tables c.self.inside.tables.items c.self.inside.tables.len (omega arith) (omega arith)) (
       c.modify_tables.ensures.length ∙ ap length c.deref_mut.ensures.value ∙ c.self.invariant.0,
       c.modify_tables.ensures.sound (λ k for. rw same (fits k for)) (rw same c.requires.checked) (rw c.deref_mut.ensures.value c.self.invariant.1),
