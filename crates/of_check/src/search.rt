@@ -26,7 +26,7 @@ fn covered_by<L: Lookup>(
     requires table { table < 16 }
     requires there { slice_get (table_at table switch.now.core.forwarding.tables).flows place ≡ Some (entry_of own.now) }
     requires covers { Covers (table_at table switch.now.core.forwarding.tables).flows at place }
-    ensures { (steps : ℕ) → IfOk result (VerdictHolds (table_at table switch.now.core.forwarding.tables).flows place steps) }
+    ensures { IfOk result (λ verdict. (steps : ℕ) → VerdictHolds (table_at table switch.now.core.forwarding.tables).flows place steps verdict) }
 {
     covered_is_matched();
     let mut by = Vec::new(alloc);
