@@ -1,5 +1,5 @@
 -- Branches of a part.
-use Rattle.std.proofs.Common.{◌≡◌, ◌⊎◌, ◌<◌, ◌≤◌, ◌+◌, ℕ, Bool, true, false, List, [], ◌∷◌, ◌++◌, length, Option, Some, None, refl, sym, ap, subst, ◌∙◌, arith, inl, inr, below_more}
+use Rattle.std.proofs.Common.{◌≡◌, ◌⊎◌, ◌<◌, ◌≤◌, ◌+◌, ℕ, zero, suc, true, false, List, [], ◌∷◌, ◌++◌, length, Option, Some, None, refl, sym, ap, subst, ◌∙◌, arith, inl, inr, below_more}
 use Rattle.std.specs.Prelude.{slice_get}
 use Rattle.std.specs.List.{Contains}
 use Rattle.std.specs.Global.{Vec}
@@ -8,15 +8,15 @@ use Rattle.std.proofs.lemmas.List.Elements.{Contains-append_left, Contains-push,
 use Rattle.std.proofs.lemmas.Option.{slice_get_past}
 use Rattle.of_layers.specs.declared.field.Field.{Field}
 use Rattle.of_oxm.specs.declared.match_field.MatchField.{MatchField}
-use Rattle.of_oxm.specs.Relations.{matches_map}
 use Rattle.of_regions.specs.declared.region.Region.{Region}
 use Rattle.of_regions.specs.Regions.{IsSomeTagging}
-use Rattle.of_regions.specs.Searching.{InSome}
+use Rattle.of_regions.proofs.SearchLemmas.{contains_at}
 use Rattle.of_symbolic.specs.declared.branching.Branch.{Branch}
 use Rattle.of_symbolic.specs.declared.branching.Rank.{Rank}
 use Rattle.of_symbolic.specs.declared.part.Part.{Part}
 use Rattle.of_symbolic.specs.declared.pulled_entry.PulledEntry.{PulledEntry}
-use Rattle.of_symbolic.specs.Branching.{AddsBranch, AddsHit, IsAhead, IsHitAt, IsHitOrMiss, IsPartBehind, IsPartBehindAll, NoEntryAhead, NoneAhead, is_agreed, ranked_place}
+use Rattle.of_symbolic.specs.Branches.{HaveDistinctEntries}
+use Rattle.of_symbolic.specs.Branching.{AddsBranch, AddsHit, HasOneMore, IsAhead, IsBranchBehind, IsHitAt, IsHitBranch, IsHitOrMiss, IsPartBehind, IsPartBehindAll, NoEntryAhead, is_agreed, ranked_place}
 use Rattle.of_symbolic.specs.Parts.{AreListsOfConditions, InPart, IsMatchedPart, IsUnmatchedPart}
 use Rattle.of_symbolic.proofs.PartLemmas.{none_of}
 
@@ -43,11 +43,13 @@ pub behind_more : (entries : List PulledEntry) (n : ℕ) (of : Option Rank) (p :
 behind_more entries n of p old new next there so_far one = record {
   within = λ fields h.
       let w = one.within fields h in
-      let s = so_far.within fields w.0 in
-      (s.0, λ k q lt at. elim (cases_lt k n) as (λ x. IsAhead q.priority k of → is_agreed q.fields fields ≡ false) [
-        | inl below ↦ s.1 k q below at
-        | inr above ↦ last fields w.1 k q (omega (arith, lt, above)) at
-      ]);
+      let s = so_far.within fields w.0 in (
+        s.0,
+        λ k q lt at. elim (cases_lt k n) as (λ x. IsAhead q.priority k of → is_agreed q.fields fields ≡ false) [
+          | inl below ↦ s.1 k q below at
+          | inr above ↦ last fields w.1 k q (omega (arith, lt, above)) at
+        ],
+      );
   all = λ fields h none. one.all fields (so_far.all fields h (λ k q lt. none k q (omega (arith, lt)))) (none n p (omega arith) there);
   conditions = λ c. one.conditions (so_far.conditions c);
 }
@@ -60,38 +62,70 @@ behind_more entries n of p old new next there so_far one = record {
 
 -- ---- one more branch
 
+pub one_more_kept : (P : Branch → Type 0) (old new : List Branch) (x : Branch) → HasOneMore P old new → Contains old x → Contains new x
+one_more_kept P old new x (inl same) c = subst (λ (bs : List Branch). Contains bs x) (sym same) c
+one_more_kept P old new x (inr more) c = subst (λ (bs : List Branch). Contains bs x) (sym more.1) (Contains-append_left old (more.0 ∷ []) x c)
+
+one_more_cases : (P : Branch → Type 0) (old new : List Branch) (x : Branch) → HasOneMore P old new → Contains new x → Contains old x ⊎ P x
+one_more_cases P old new x (inl same) c = inl (subst (λ (bs : List Branch). Contains bs x) same c)
+one_more_cases P old new x (inr more) c = elim (Contains-push_cases old more.0 x (subst (λ (bs : List Branch). Contains bs x) more.1 c)) as (λ w. Contains old x ⊎ P x) [
+  | inl before ↦ inl before
+  | inr same ↦ inr (subst P same more.2)
+]
+
+one_more_weaker : (P Q : Branch → Type 0) (old new : List Branch) → ((b : Branch) → P b → Q b) → HasOneMore P old new → HasOneMore Q old new
+one_more_weaker P Q old new f (inl same) = inl same
+one_more_weaker P Q old new f (inr more) = inr (more.0, more.1, f more.0 more.2)
+
+-- at a place of a list with one more element
+pushed_at : (xs : List Branch) (x : Branch) (i : ℕ) (y : Branch) → slice_get (xs ++ x ∷ []) i ≡ Some y → (slice_get xs i ≡ Some y) ⊎ ((i ≡ length xs) × (x ≡ y))
+pushed_at [] x zero y e = inr (refl, (let same : x ≡ y = cc in same))
+pushed_at [] x (suc i) y e = absurd cc
+pushed_at (z ∷ xs) x zero y e = inl e
+pushed_at (z ∷ xs) x (suc i) y e = elim (pushed_at xs x i y e) as (λ w. (slice_get (z ∷ xs) (suc i) ≡ Some y) ⊎ ((suc i ≡ length (z ∷ xs)) × (x ≡ y))) [
+  | inl before ↦ inl before
+  | inr last ↦ inr (omega (arith, last.0), last.1)
+]
+
+-- one more of another entry
+one_more_distinct : (P : Branch → Type 0) (old new : List Branch) (w : Option ℕ) → HasOneMore P old new → ((b : Branch) → P b → b.entry ≡ w) → ((b : Branch) → Contains old b → b.entry ≡ w → ⊥) → HaveDistinctEntries old → HaveDistinctEntries new
+one_more_distinct P old new w (inl same) entry other once = subst HaveDistinctEntries (sym same) once
+one_more_distinct P old new w (inr more) entry other once = subst HaveDistinctEntries (sym more.1) distinct
+  where
+    own : more.0.entry ≡ w
+    own = entry more.0 more.2
+
+    distinct : HaveDistinctEntries (old ++ more.0 ∷ [])
+    distinct i j a b at_i at_j level = elim (pushed_at old more.0 i a at_i) as (λ w. i ≡ j) [
+      | inl first ↦ elim (pushed_at old more.0 j b at_j) as (λ w. i ≡ j) [
+        | inl second ↦ once i j a b first second level
+        | inr last ↦ absurd (other a (contains_at old i a first) (level ∙ ap (λ (x : Branch). x.entry) (sym last.1) ∙ own))
+      ]
+      | inr last ↦ elim (pushed_at old more.0 j b at_j) as (λ w. i ≡ j) [
+        | inl second ↦ absurd (other b (contains_at old j b second) (sym level ∙ ap (λ (x : Branch). x.entry) (sym last.1) ∙ own))
+        | inr both ↦ last.0 ∙ sym both.0
+      ]
+    ]
+
 module _ (part : Part) (entries : List PulledEntry) (m : List MatchField) (of : Option Rank) (matched chosen : Part) (is : IsMatchedPart m part matched) (behind : IsPartBehindAll entries (length entries) of matched chosen) (old : List Branch) where
   pub branch_pushed : (b : Branch) (new : List Branch) → new ≡ old ++ b ∷ [] → b.part ≡ chosen → b.entry ≡ ranked_place of → AddsBranch part entries m of old new
   branch_pushed b new grown own entry = record {
-    conditions = λ x c. elim (cases x c) as (λ w. Contains old x ⊎ AreListsOfConditions x.part.lacks.items) [
-      | inl before ↦ inl before
-      | inr same ↦ inr (subst (λ (y : Branch). AreListsOfConditions y.part.lacks.items) same (subst (λ (q : Part). AreListsOfConditions q.lacks.items) (sym own) (behind.conditions is.conditions)))
-    ];
-    kept = λ x c. subst (λ (bs : List Branch). Contains bs x) (sym grown) (Contains-append_left old (b ∷ []) x c);
-    named = λ x c. elim (cases x c) as (λ w. Contains old x ⊎ (x.entry ≡ ranked_place of)) [ inl before ↦ inl before | inr same ↦ inr (subst (λ (y : Branch). y.entry ≡ ranked_place of) same entry) ];
-    within = λ x c. elim (cases x c) as (λ w. Contains old x ⊎ Chosen x.part) [
-      | inl before ↦ inl before
-      | inr same ↦ inr (subst (λ (y : Branch). Chosen y.part) same (subst Chosen (sym own) within))
-    ];
+    grown = inr (
+      b,
+      grown,
+      record {
+        entry = entry;
+        within = λ fields h. (let w = behind.within fields (subst (λ (q : Part). InPart q fields) own h) in let y = is.within fields w.0 in (y.0, y.1, w.1));
+        conditions = subst (λ (q : Part). AreListsOfConditions q.lacks.items) (sym own) (behind.conditions is.conditions);
+      },
+    );
     all = λ fields t h yes none. (b, subst (λ (bs : List Branch). Contains bs b) (sym grown) (Contains-push old b), subst (λ (q : Part). InPart q fields) (sym own) (behind.all fields (is.all fields t h yes) none));
   }
-    where
-      Chosen : Part → Type 0
-      Chosen q = (fields : Field → Option ℕ) → InPart q fields → InPart part fields × (matches_map m fields ≡ true) × NoEntryAhead entries of fields
-
-      cases : (x : Branch) → Contains new x → Contains old x ⊎ (b ≡ x)
-      cases x c = Contains-push_cases old b x (subst (λ (bs : List Branch). Contains bs x) grown c)
-
-      within : (fields : Field → Option ℕ) → InPart chosen fields → InPart part fields × (matches_map m fields ≡ true) × NoEntryAhead entries of fields
-      within fields h = let w = behind.within fields h in let y = is.within fields w.0 in (y.0, y.1, w.1)
 
   -- without regions there is no packet
   pub branch_empty : chosen.regions.items ≡ [] → AddsBranch part entries m of old old
   branch_empty none = record {
-    conditions = λ x c. inl c;
-    kept = λ x c. c;
-    named = λ x c. inl c;
-    within = λ x c. inl c;
+    grown = inl refl;
     all = λ fields t h yes first. (let i = behind.all fields (is.all fields t h yes) first in absurd (none_of i.0.0 (subst (λ (rs : List Region). Contains rs i.0.0) none i.0.1)));
   }
 
@@ -100,31 +134,24 @@ module _ (part : Part) (entries : List PulledEntry) (m : List MatchField) (of : 
 pub hit_added : (part : Part) (entries : List PulledEntry) (k : ℕ) (p : PulledEntry) (m : Vec MatchField) (old new : List Branch) → slice_get entries k ≡ Some p → p.fields ≡ Some m
     → AddsBranch part entries m.items (Some (record { priority = p.priority; place = k })) old new → AddsHit part entries (Some k) old new
 hit_added part entries k p m old new there is adds = record {
-  conditions = adds.conditions;
-  kept = adds.kept;
-  within = λ b c. elim (adds.within b c) as (λ w. Contains old b ⊎ Hits b.entry b.part) [
-    | inl before ↦ inl before
-    | inr own ↦ elim (adds.named b c) as (λ w. Contains old b ⊎ Hits b.entry b.part) [
-        | inl before ↦ inl before
-        | inr entry ↦ inr (subst (λ (w : Option ℕ). Hits w b.part) (sym entry) (λ fields h. (let o = own fields h in
-            (o.0, record { entry = p; there = there; matches = ap (λ (x : Option (Vec MatchField)). is_agreed x fields) is ∙ o.1; first = o.2 }))))
-      ]
-  ];
+  grown = one_more_weaker (IsBranchBehind part entries m.items rank) (IsHitBranch part entries (Some k)) old new (λ b own. record {
+    entry = own.entry;
+    within = λ fields h. (let o = own.within fields h in (o.0, record { entry = p; there = there; matches = ap (λ (x : Option (Vec MatchField)). is_agreed x fields) is ∙ o.1; first = o.2 }));
+    conditions = own.conditions;
+  }) adds.grown;
   all = λ fields t h hit.
       let same : hit.entry ≡ p = (let at = hit.there in cc) in
       adds.all fields t h (ap (λ (x : Option (Vec MatchField)). is_agreed x fields) (sym is) ∙ ap (λ (x : PulledEntry). is_agreed x.fields fields) (sym same) ∙ hit.matches)
       (subst (λ (x : PulledEntry). NoEntryAhead entries (Some (record { priority = x.priority; place = k })) fields) same hit.first);
 }
   where
-    Hits : Option ℕ → Part → Type 0
-    Hits w q = (fields : Field → Option ℕ) → InPart q fields → InPart part fields × IsHitOrMiss entries w fields
+    rank : Option Rank
+    rank = Some (record { priority = p.priority; place = k })
 
 -- an entry that never matches
 pub never_added : (part : Part) (entries : List PulledEntry) (k : ℕ) (p : PulledEntry) (old : List Branch) → slice_get entries k ≡ Some p → p.fields ≡ None → AddsHit part entries (Some k) old old
 never_added part entries k p old there is = record {
-  conditions = λ b c. inl c;
-  kept = λ b c. c;
-  within = λ b c. inl c;
+  grown = inl refl;
   all = λ fields t h hit.
       let same : hit.entry ≡ p = (let at = hit.there in cc) in
       let no : false ≡ true = ap (λ (x : Option (Vec MatchField)). is_agreed x fields) (sym is) ∙ ap (λ (x : PulledEntry). is_agreed x.fields fields) (sym same) ∙ hit.matches in
@@ -133,56 +160,67 @@ never_added part entries k p old there is = record {
 
 pub miss_added : (part : Part) (entries : List PulledEntry) (old new : List Branch) → AddsBranch part entries [] None old new → AddsHit part entries None old new
 miss_added part entries old new adds = record {
-  conditions = adds.conditions;
-  kept = adds.kept;
-  within = λ b c. elim (adds.within b c) as (λ w. Contains old b ⊎ Hits b.entry b.part) [
-    | inl before ↦ inl before
-    | inr own ↦ elim (adds.named b c) as (λ w. Contains old b ⊎ Hits b.entry b.part) [
-        | inl before ↦ inl before
-        | inr entry ↦ inr (subst (λ (w : Option ℕ). Hits w b.part) (sym entry) (λ fields h. (let o = own fields h in (o.0, o.2))))
-      ]
-  ];
+  grown = one_more_weaker (IsBranchBehind part entries [] None) (IsHitBranch part entries None) old new (λ b own. record {
+    entry = own.entry;
+    within = λ fields h. (let o = own.within fields h in (o.0, o.2));
+    conditions = own.conditions;
+  }) adds.grown;
   all = λ fields t h none. adds.all fields t h refl none;
 }
-  where
-    Hits : Option ℕ → Part → Type 0
-    Hits w q = (fields : Field → Option ℕ) → InPart q fields → InPart part fields × IsHitOrMiss entries w fields
 
 -- ---- the branches of the first entries
 
+-- a branch has the packets of the part that hit its entry
+abbrev pub IsOwnBranch : Part → List PulledEntry → Branch → Type 0
+IsOwnBranch part entries b = IsHitBranch part entries b.entry b
+
+own_branch : (part : Part) (entries : List PulledEntry) (w : Option ℕ) (b : Branch) → IsHitBranch part entries w b → IsOwnBranch part entries b
+own_branch part entries w b own = subst (λ (v : Option ℕ). IsHitBranch part entries v b) (sym own.entry) own
+
 pub record AreFirstBranches (part : Part) (entries : List PulledEntry) (n : ℕ) (branches : List Branch) : Type 0 where
-  pub conditions : (b : Branch) → Contains branches b → AreListsOfConditions b.part.lacks.items
-  pub within : (b : Branch) → Contains branches b → (fields : Field → Option ℕ) → InPart b.part fields → InPart part fields × IsHitOrMiss entries b.entry fields
+  pub each : (b : Branch) → Contains branches b → IsOwnBranch part entries b
+  pub places : (b : Branch) → Contains branches b → (k : ℕ) × (k < n) × (b.entry ≡ Some k)
+  pub once : HaveDistinctEntries branches
   pub all : (k : ℕ) → k < n → (fields : Field → Option ℕ) → IsSomeTagging fields → InPart part fields → IsHitAt entries k fields → (b : Branch) × Contains branches b × InPart b.part fields
 
 pub no_branches : (part : Part) (entries : List PulledEntry) → AreFirstBranches part entries 0 []
-no_branches part entries = record { conditions = λ b c. absurd (none_of b c); within = λ b c. absurd (none_of b c); all = λ k lt. absurd (omega (arith, lt)) }
+no_branches part entries = record { each = λ b c. absurd (none_of b c); places = λ b c. absurd (none_of b c); once = λ i j a b at. absurd cc; all = λ k lt. absurd (omega (arith, lt)) }
 
 pub branches_more : (part : Part) (entries : List PulledEntry) (n : ℕ) (old new : List Branch) → AreFirstBranches part entries n old → AddsHit part entries (Some n) old new → AreFirstBranches part entries (n + 1) new
 branches_more part entries n old new are adds = record {
-  conditions = λ b c. elim (adds.conditions b c) as (λ w. AreListsOfConditions b.part.lacks.items) [ inl before ↦ are.conditions b before | inr own ↦ own ];
-  within = λ b c. elim (adds.within b c) as (λ w. (fields : Field → Option ℕ) → InPart b.part fields → InPart part fields × IsHitOrMiss entries b.entry fields) [ inl before ↦ are.within b before | inr own ↦ own ];
+  each = λ b c. elim (cases b c) as (λ w. IsOwnBranch part entries b) [ inl before ↦ are.each b before | inr own ↦ own_branch part entries (Some n) b own ];
+  places = λ b c. elim (cases b c) as (λ w. (k : ℕ) × (k < n + 1) × (b.entry ≡ Some k)) [
+    | inl before ↦ (let k = are.places b before in (k.0, omega (arith, k.1), k.2))
+    | inr own ↦ (n, omega arith, own.entry)
+  ];
+  once = one_more_distinct (IsHitBranch part entries (Some n)) old new (Some n) adds.grown (λ b own. own.entry) (λ b c e. (let k = are.places b c in let same : k.0 ≡ n = below k.0 (sym k.2 ∙ e) in absurd (omega (arith, k.1, same)))) are.once;
   all = below_more (λ (k : ℕ). (fields : Field → Option ℕ) → IsSomeTagging fields → InPart part fields → IsHitAt entries k fields → (b : Branch) × Contains new b × InPart b.part fields) n
-      (λ k lt fields t h hit. (let b = are.all k lt fields t h hit in (b.0, adds.kept b.0 b.1, b.2)))
+      (λ k lt fields t h hit. (let b = are.all k lt fields t h hit in (b.0, one_more_kept (IsHitBranch part entries (Some n)) old new b.0 adds.grown b.1, b.2)))
       (λ fields t h hit. adds.all fields t h hit);
 }
+  where
+    cases : (b : Branch) → Contains new b → Contains old b ⊎ IsHitBranch part entries (Some n) b
+    cases b c = one_more_cases (IsHitBranch part entries (Some n)) old new b adds.grown c
+
+    below : (k : ℕ) → Some k ≡ Some n → k ≡ n
+    below k e = cc
 
 -- all of them, with those that miss
 pub record AreHitBranches (part : Part) (entries : List PulledEntry) (branches : List Branch) : Type 0 where
-  pub conditions : (b : Branch) → Contains branches b → AreListsOfConditions b.part.lacks.items
-  pub within : (b : Branch) → Contains branches b → (fields : Field → Option ℕ) → InPart b.part fields → InPart part fields × IsHitOrMiss entries b.entry fields
+  pub each : (b : Branch) → Contains branches b → IsOwnBranch part entries b
+  pub once : HaveDistinctEntries branches
   pub all : (w : Option ℕ) (fields : Field → Option ℕ) → IsSomeTagging fields → InPart part fields → IsHitOrMiss entries w fields → (b : Branch) × Contains branches b × InPart b.part fields
 
 pub branches_done : (part : Part) (entries : List PulledEntry) (n : ℕ) (old new : List Branch) → length entries ≤ n → AreFirstBranches part entries n old → AddsHit part entries None old new → AreHitBranches part entries new
 branches_done part entries n old new most are adds = record {
-  conditions = λ b c. elim (adds.conditions b c) as (λ w. AreListsOfConditions b.part.lacks.items) [ inl before ↦ are.conditions b before | inr own ↦ own ];
-  within = λ b c. elim (adds.within b c) as (λ w. (fields : Field → Option ℕ) → InPart b.part fields → InPart part fields × IsHitOrMiss entries b.entry fields) [ inl before ↦ are.within b before | inr own ↦ own ];
+  each = λ b c. elim (one_more_cases (IsHitBranch part entries None) old new b adds.grown c) as (λ w. IsOwnBranch part entries b) [ inl before ↦ are.each b before | inr own ↦ own_branch part entries None b own ];
+  once = one_more_distinct (IsHitBranch part entries None) old new None adds.grown (λ b own. own.entry) (λ b c e. (let k = are.places b c in let g : Some k.0 ≡ None = sym k.2 ∙ e in absurd cc)) are.once;
   all = by_entry;
 }
   where
     by_entry : (w : Option ℕ) (fields : Field → Option ℕ) → IsSomeTagging fields → InPart part fields → IsHitOrMiss entries w fields → (b : Branch) × Contains new b × InPart b.part fields
     by_entry None fields t h hit = adds.all fields t h hit
     by_entry (Some k) fields t h hit = elim (cases_lt k n) as (λ w. (b : Branch) × Contains new b × InPart b.part fields) [
-      | inl lt ↦ (let b = are.all k lt fields t h hit in (b.0, adds.kept b.0 b.1, b.2))
+      | inl lt ↦ (let b = are.all k lt fields t h hit in (b.0, one_more_kept (IsHitBranch part entries None) old new b.0 adds.grown b.1, b.2))
       | inr le ↦ (let past : Some hit.entry ≡ None = sym hit.there ∙ slice_get_past entries k (omega (arith, most, le)) in absurd cc)
     ]

@@ -1,7 +1,6 @@
 -- The entry that a packet hits, by what the entries ask of the frame that came in.
 use Rattle.std.proofs.Common.{◌≡◌, ◌⊎◌, ◌<◌, ◌≤◌, ◌+◌, ℕ, zero, suc, Bool, true, false, List, [], ◌∷◌, length, Option, Some, None, refl, sym, ap, subst, ◌∙◌, arith, inl, inr}
 use Rattle.std.specs.Prelude.{slice_get}
-use Rattle.std.specs.List.{Contains}
 use Rattle.std.specs.Global.{Vec}
 use Rattle.std.proofs.lemmas.Bool.{cases_lt}
 use Rattle.std.proofs.lemmas.Option.{slice_get_cases, slice_get_past}
@@ -16,15 +15,14 @@ use Rattle.of_classifier.specs.Winner.{NoneMatches, Wins, winner_number, winner_
 use Rattle.of_classifier.proofs.WinnerLaw.{none_both, wins_both}
 use Rattle.of_table.specs.Table.{FlowEntry, rows_from, winner_place}
 use Rattle.of_symbolic.specs.declared.branching.Branch.{Branch}
-use Rattle.of_symbolic.specs.declared.branching.Rank.{Rank}
 use Rattle.of_symbolic.specs.declared.overlay.Overlay.{Overlay}
 use Rattle.of_symbolic.specs.declared.part.Part.{Part}
 use Rattle.of_symbolic.specs.declared.pulled_entry.PulledEntry.{PulledEntry}
 use Rattle.of_symbolic.specs.Actions.{AreRewriting}
 use Rattle.of_symbolic.specs.Branches.{AreBranches, rewritten_fields}
-use Rattle.of_symbolic.specs.Branching.{ArePulledEntries, IsAhead, IsHitAt, IsHitOrMiss, IsPulledEntry, NoEntryAhead, is_agreed, pulled_of}
+use Rattle.of_symbolic.specs.Branching.{ArePulledEntries, IsHitAt, IsHitOrMiss, IsPulledEntry, NoEntryAhead, is_agreed, pulled_of}
 use Rattle.of_symbolic.specs.Overlays.{IsOverlay}
-use Rattle.of_symbolic.specs.Parts.{InPart, received_fields}
+use Rattle.of_symbolic.specs.Parts.{received_fields}
 use Rattle.of_symbolic.specs.Pulling.{IsPulled}
 use Rattle.of_symbolic.proofs.BranchLemmas.{AreHitBranches}
 use Rattle.of_symbolic.proofs.Lookups.{never_of_frames, when_of_frames}
@@ -157,7 +155,8 @@ module _ (o : Overlay) (l : List Action) (metadata : ℕ) (over : IsOverlay o l)
 pub branches_are : (o : Overlay) (metadata : ℕ) (flows : List FlowEntry) (entries : List PulledEntry) (part : Part) (branches : List Branch) → ArePulledEntries o metadata flows entries → AreHitBranches part entries branches
     → (l : List Action) → IsOverlay o l → AreRewriting l → AreBranches flows l metadata part branches
 branches_are o metadata flows entries part branches pulled are l over rewriting = record {
-  within = λ b c fields h. (are.within b c fields h).0;
-  wins = λ b c frame port is h. wins_by_hit o l metadata over rewriting frame port is flows entries pulled b.entry (are.within b c (received_fields frame port) h).1;
+  within = λ b c fields h. ((are.each b c).within fields h).0;
+  wins = λ b c frame port is h. wins_by_hit o l metadata over rewriting frame port is flows entries pulled b.entry ((are.each b c).within (received_fields frame port) h).1;
+  once = are.once;
   all = λ frame port is h. are.all (winner_place (rewritten_fields l metadata frame port) flows) (received_fields frame port) (some_tagging frame port 0 is) h (winner_is_hit o l metadata over rewriting frame port is flows entries pulled);
 }

@@ -1,5 +1,5 @@
 -- Parts, with more regions and with fewer packets.
-use Rattle.std.proofs.Common.{◌≡◌, ◌⊎◌, ◌<◌, ◌+◌, ℕ, Bool, true, false, List, [], ◌∷◌, ◌++◌, length, get_or, map, take, Option, Some, None, refl, sym, ap, subst, ◌∙◌, arith, inl, inr}
+use Rattle.std.proofs.Common.{◌≡◌, ◌⊎◌, ◌<◌, ◌+◌, ℕ, Bool, true, false, List, [], ◌∷◌, ◌++◌, length, get_or, take, Option, Some, refl, sym, ap, subst, ◌∙◌, arith, inl, inr}
 use Rattle.std.specs.Prelude.{slice_get, ◌&&◌}
 use Rattle.std.specs.List.{Contains}
 use Rattle.std.specs.Global.{Vec}
@@ -170,11 +170,14 @@ matched_more m old i x new next is lt so_far less = record {
   conditions = less.conditions so_far.conditions;
   within = λ fields h.
       let before = less.within fields h in
-      let s = so_far.within fields before.0 in
-      (s.0, s.1, λ y c. elim (first_or_next old.lacks.items i x y is lt c) as (λ w. matches_map y.items fields ≡ false) [
-        | inl first ↦ s.2 y first
-        | inr same ↦ subst (λ (z : Vec MatchField). matches_map z.items fields ≡ false) same before.1
-      ]);
+      let s = so_far.within fields before.0 in (
+        s.0,
+        s.1,
+        λ y c. elim (first_or_next old.lacks.items i x y is lt c) as (λ w. matches_map y.items fields ≡ false) [
+          | inl first ↦ s.2 y first
+          | inr same ↦ subst (λ (z : Vec MatchField). matches_map z.items fields ≡ false) same before.1
+        ],
+      );
   all = λ fields t h yes none.
       less.all fields (so_far.all fields t h yes (λ y c. none y (still_first old.lacks.items i x y is lt c))) (none x (next_first old.lacks.items i x is lt));
 }

@@ -1,6 +1,6 @@
 -- The entries of a table as conditions on the frame that came in.
-use Rattle.std.proofs.Common.{◌≡◌, ◌+◌, ℕ, zero, suc, List, [], ◌∷◌, ◌++◌, length, Option, Some, None, refl, sym, ap, subst, ◌∙◌, arith, append_assoc}
-use Rattle.std.specs.Prelude.{slice_get, true, IfSome}
+use Rattle.std.proofs.Common.{◌≡◌, ℕ, zero, suc, List, [], ◌∷◌, ◌++◌, Option, Some, None, refl, sym, ap, subst, arith, append_assoc}
+use Rattle.std.specs.Prelude.{true, IfSome}
 use Rattle.std.specs.List.{Contains}
 use Rattle.std.specs.Global.{Vec}
 use Rattle.of_oxm.specs.declared.match_field.MatchField.{MatchField}
@@ -16,7 +16,6 @@ use Rattle.of_symbolic.specs.Branches.{AsksUnknown}
 use Rattle.of_symbolic.specs.Branching.{AllHaveConditions, ArePulledEntries, HasConditions, IsPulledEntry, pulled_of}
 use Rattle.of_symbolic.specs.Overlays.{IsOverlay}
 use Rattle.of_symbolic.specs.Pulling.{AsksConditions, IsPulled, is_unknown_in}
-use Rattle.of_symbolic.proofs.PartLemmas.{none_of}
 
 -- the walk over entries: whatever is pulled of those that are left completes the whole, and those are entries of the whole
 pub record IsPulledSoFar (o : Overlay) (metadata : ℕ) (flows : List FlowEntry) (left : List Entry) (out : List PulledEntry) : Type 0 where

@@ -1,5 +1,5 @@
 -- THE ENTRIES OF A TABLE as conditions on the frame that came in, and which of them wins (OpenFlow 1.3.5, 5.3).
-use Rattle.std.specs.Prelude.{◌≡◌, ℕ, ◌<◌, ◌⊎◌, Bool, true, false, List, [], ◌∷◌, length, Option, Some, None, IfSome, slice_get, ⊤}
+use Rattle.std.specs.Prelude.{◌≡◌, ℕ, ◌<◌, ◌⊎◌, ◌++◌, Bool, true, false, List, [], ◌∷◌, length, Option, Some, None, IfSome, slice_get, ⊤}
 use Rattle.std.specs.List.{Contains}
 use Rattle.std.specs.Option.{option_map}
 use Rattle.std.specs.Global.{Vec}
@@ -94,17 +94,28 @@ pub record IsPartBehindAll (entries : List PulledEntry) (n : ℕ) (of : Option R
 
 -- ---- branches
 
--- one more branch at most: the packets of a part that these conditions match, and no entry that goes before
+-- the same branches, or one more
+abbrev pub HasOneMore : (Branch → Type 0) → List Branch → List Branch → Type 0
+HasOneMore P old new = (new ≡ old) ⊎ ((b : Branch) × (new ≡ old ++ b ∷ []) × P b)
+
+-- packets of a part that these conditions match, and no entry that goes before
+pub record IsBranchBehind (part : Part) (entries : List PulledEntry) (m : List MatchField) (of : Option Rank) (b : Branch) : Type 0 where
+  pub entry : b.entry ≡ ranked_place of
+  pub within : (fields : Field → Option ℕ) → InPart b.part fields → InPart part fields × (matches_map m fields ≡ true) × NoEntryAhead entries of fields
+  pub conditions : AreListsOfConditions b.part.lacks.items
+
+-- one more branch at most: all such packets
 pub record AddsBranch (part : Part) (entries : List PulledEntry) (m : List MatchField) (of : Option Rank) (old new : List Branch) : Type 0 where
-  pub conditions : (b : Branch) → Contains new b → Contains old b ⊎ AreListsOfConditions b.part.lacks.items
-  pub kept : (b : Branch) → Contains old b → Contains new b
-  pub named : (b : Branch) → Contains new b → Contains old b ⊎ (b.entry ≡ ranked_place of)
-  pub within : (b : Branch) → Contains new b → Contains old b ⊎ ((fields : Field → Option ℕ) → InPart b.part fields → InPart part fields × (matches_map m fields ≡ true) × NoEntryAhead entries of fields)
+  pub grown : HasOneMore (IsBranchBehind part entries m of) old new
   pub all : (fields : Field → Option ℕ) → IsSomeTagging fields → InPart part fields → matches_map m fields ≡ true → NoEntryAhead entries of fields → (b : Branch) × Contains new b × InPart b.part fields
 
--- the packets of a part that hit an entry, or none
+-- packets of a part that hit an entry, or none
+pub record IsHitBranch (part : Part) (entries : List PulledEntry) (w : Option ℕ) (b : Branch) : Type 0 where
+  pub entry : b.entry ≡ w
+  pub within : (fields : Field → Option ℕ) → InPart b.part fields → InPart part fields × IsHitOrMiss entries w fields
+  pub conditions : AreListsOfConditions b.part.lacks.items
+
+-- one more branch at most: all such packets
 pub record AddsHit (part : Part) (entries : List PulledEntry) (w : Option ℕ) (old new : List Branch) : Type 0 where
-  pub conditions : (b : Branch) → Contains new b → Contains old b ⊎ AreListsOfConditions b.part.lacks.items
-  pub kept : (b : Branch) → Contains old b → Contains new b
-  pub within : (b : Branch) → Contains new b → Contains old b ⊎ ((fields : Field → Option ℕ) → InPart b.part fields → InPart part fields × IsHitOrMiss entries b.entry fields)
+  pub grown : HasOneMore (IsHitBranch part entries w) old new
   pub all : (fields : Field → Option ℕ) → IsSomeTagging fields → InPart part fields → IsHitOrMiss entries w fields → (b : Branch) × Contains new b × InPart b.part fields

@@ -104,9 +104,7 @@ fn push_branch(
     requires own { AreConditions fields.now }
     ensures { OnOk result (AddsBranch part.now entries.now fields.now of out.old.items out.new.items) }
 {
-    let chosen = part
-        .matched(alloc, fields)?
-        .behind_all(alloc, entries, of)?;
+    let chosen = part.matched(alloc, fields)?.behind_all(alloc, entries, of)?;
     if !chosen.regions.is_empty() {
         out.push(Branch {
             part: chosen,

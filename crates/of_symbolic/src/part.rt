@@ -19,6 +19,7 @@ use std::alloc::{AllocError, Global};
 #[derive(Drop)]
 pub struct Part {
     pub regions: Vec<Region>,
+    /// What one of these lists of conditions matches is not in the part.
     pub lacks: Vec<Vec<MatchField>>,
 }
 
@@ -64,10 +65,7 @@ fn left_regions(
 }
 
 // Rivals with these conditions, each named by its index.
-fn rivals_in<'a>(
-    alloc: Global,
-    lacks: &'a [Vec<MatchField>],
-) -> Result<Vec<Rival<'a>>, AllocError>
+fn rivals_in<'a>(alloc: Global, lacks: &'a [Vec<MatchField>]) -> Result<Vec<Rival<'a>>, AllocError>
     ensures { IfOk result (λ rivals. HaveConditions lacks.now rivals.items) }
 {
     let mut rivals = Vec::new(alloc);

@@ -6,7 +6,7 @@ use Rattle.of_symbolic.specs.declared.overlay.Overlay.{Overlay}
 use Rattle.of_symbolic.specs.declared.pulled_entry.PulledEntry.{PulledEntry}
 use Rattle.of_symbolic.specs.Branching.{AddsHit, ArePulledEntries}
 use Rattle.of_table.specs.Table.{FlowEntry}
-use Rattle.of_symbolic.proofs.BranchLemmas.{AreHitBranches, branches_done, branches_more}
+use Rattle.of_symbolic.proofs.BranchLemmas.{branches_done, branches_more}
 use Rattle.of_symbolic.proofs.HitLemmas.{branches_are}
 use Rattle.of_symbolic.proofs.PulledLemmas.{pulled_kept}
 use Rattle.of_symbolic.proofs.branching.branches.Goals as goal
@@ -46,4 +46,5 @@ returns-clause-conditions c =
     let pulled = c.in-Some.pulled in
     let most : length pulled.items ≤ c.loop-place.place = omega (arith, c.loop-place-test.false, c.len-place-end.ensures, pulled.ok.0) in
     let adds : AddsHit c.args.part.now pulled.items None c.loop-place.out.items c.push_miss.new.out.items = rw (sym c.deref-2.ensures.value) c.in_ok-push_miss.ensures in
-    (branches_done c.args.part.now pulled.items c.loop-place.place c.loop-place.out.items c.push_miss.new.out.items most c.loop-place.invariant adds).conditions
+    let are = branches_done c.args.part.now pulled.items c.loop-place.place c.loop-place.out.items c.push_miss.new.out.items most c.loop-place.invariant adds in
+    λ b there. (are.each b there).conditions

@@ -1,5 +1,4 @@
-use Rattle.std.proofs.Common.{◌≡◌, List, take, take_all, subst}
-use Rattle.of_regions.specs.declared.region.Region.{Region}
+use Rattle.std.proofs.Common.{◌≡◌, take, take_all, subst}
 use Rattle.of_symbolic.proofs.PartLemmas.{AreApart, one_apart}
 use Rattle.of_symbolic.proofs.part.are_apart.Goals as goal
 

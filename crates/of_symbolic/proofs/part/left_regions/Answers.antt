@@ -1,4 +1,3 @@
-use Rattle.std.proofs.Common.{◌≡◌, List, take, take_all, subst, ◌∙◌}
 use Rattle.of_symbolic.proofs.PartLemmas.{one_dropped, one_left}
 use Rattle.of_symbolic.proofs.part.left_regions.Goals as goal
 use Rattle.of_symbolic.proofs.part.left_regions.Goals.{then-not-is_whole_in+in_ok-push, else-not-is_whole_in}

@@ -1,4 +1,4 @@
-use Rattle.std.proofs.Common.{◌≡◌, true, Option, None, Some, subst}
+use Rattle.std.proofs.Common.{◌≡◌, true, Option, subst}
 use Rattle.std.specs.Prelude.{IfNone, IfSome}
 use Rattle.of_table.specs.Entries.{entry_of, flows_of}
 use Rattle.of_symbolic.specs.declared.pulled_entry.PulledEntry.{PulledEntry}

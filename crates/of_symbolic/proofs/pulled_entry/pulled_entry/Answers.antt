@@ -1,4 +1,4 @@
-use Rattle.std.proofs.Common.{◌≡◌, None, Some, refl}
+use Rattle.std.proofs.Common.{None, Some, refl}
 use Rattle.of_table.specs.Entries.{entry_of}
 use Rattle.of_symbolic.proofs.PulledLemmas.{one_pulled}
 use Rattle.of_symbolic.proofs.pulled_entry.pulled_entry.Goals as goal

@@ -1,4 +1,4 @@
-use Rattle.std.proofs.Common.{◌≡◌, sym}
+use Rattle.std.proofs.Common.{sym}
 use Rattle.std.proofs.lemmas.Result.{IfOk-weaker}
 use Rattle.of_regions.specs.Searching.{IsFoundBySearch}
 use Rattle.of_symbolic.specs.Parts.{FindsInPart, HaveConditions}

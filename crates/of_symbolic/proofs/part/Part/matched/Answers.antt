@@ -1,4 +1,4 @@
-use Rattle.std.proofs.Common.{◌≡◌, ◌<◌, ◌≤◌, length, take_all, sym, arith}
+use Rattle.std.proofs.Common.{◌<◌, ◌≤◌, length, take_all, sym, arith}
 use Rattle.of_symbolic.proofs.PartLemmas.{contains_index, matched_begun, matched_is, matched_more}
 use Rattle.of_symbolic.proofs.part.Part.matched.Goals as goal
 

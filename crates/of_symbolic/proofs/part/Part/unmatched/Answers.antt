@@ -1,4 +1,4 @@
-use Rattle.std.proofs.Common.{◌≡◌, sym}
+use Rattle.std.proofs.Common.{sym}
 use Rattle.of_symbolic.proofs.PartLemmas.{unmatched_apart, unmatched_more}
 use Rattle.of_symbolic.proofs.part.Part.unmatched.Goals as goal
 

@@ -1,4 +1,4 @@
-use Rattle.std.proofs.Common.{◌≡◌, [], sym}
+use Rattle.std.proofs.Common.{[], sym}
 use Rattle.of_regions.specs.Searching.{IsStart}
 use Rattle.of_symbolic.proofs.PartLemmas.{whole_is}
 use Rattle.of_symbolic.proofs.part.Part.whole.Goals as goal
