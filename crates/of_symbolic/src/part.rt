@@ -102,7 +102,7 @@ impl Part {
         })
     }
 
-    // Those that a match does not match.
+    /// Those that a match does not match.
     pub fn unmatched(self, alloc: Global, fields: &Vec<MatchField>) -> Result<Part, AllocError>
         requires { AreConditions fields.now.items }
         ensures { IfOk result (IsUnmatchedPart fields.now.items self) }
@@ -118,7 +118,7 @@ impl Part {
         })
     }
 
-    // Those that a match matches. Lists of conditions that then match none are left out.
+    /// Those that a match matches. Lists of conditions that match no packet of the regions that are left are left out.
     pub fn matched(&self, alloc: Global, fields: &[MatchField]) -> Result<Part, AllocError>
         requires each { AreListsOfConditions self.now.lacks.items }
         requires own { AreConditions fields.now }
