@@ -29,13 +29,6 @@ behind_matched p m place of old new is ahead less = record {
   conditions = less.conditions;
 }
 
-pub behind_same : (p : PulledEntry) (place : ℕ) (of : Option Rank) (old : Part) → (IsAhead p.priority place of → p.fields ≡ None) → IsPartBehind p place of old old
-behind_same p place of old never = record {
-  within = λ fields h. (h, λ a. ap (λ (o : Option (Vec MatchField)). is_agreed o fields) (never a));
-  all = λ fields h no. h;
-  conditions = λ c. c;
-}
-
 pub behind_none : (entries : List PulledEntry) (of : Option Rank) (old : Part) → IsPartBehindAll entries 0 of old old
 behind_none entries of old = record { within = λ fields h. (h, λ k p lt. absurd (omega (arith, lt))); all = λ fields h none. h; conditions = λ c. c }
 
@@ -122,13 +115,6 @@ module _ (part : Part) (entries : List PulledEntry) (m : List MatchField) (of : 
     all = λ fields t h yes none. (b, subst (λ (bs : List Branch). Contains bs b) (sym grown) (Contains-push old b), subst (λ (q : Part). InPart q fields) (sym own) (behind.all fields (is.all fields t h yes) none));
   }
 
-  -- without regions there is no packet
-  pub branch_empty : chosen.regions.items ≡ [] → AddsBranch part entries m of old old
-  branch_empty none = record {
-    grown = inl refl;
-    all = λ fields t h yes first. (let i = behind.all fields (is.all fields t h yes) first in absurd (none_of i.0.0 (subst (λ (rs : List Region). Contains rs i.0.0) none i.0.1)));
-  }
-
 -- ---- the branch of an entry, and that of a miss
 
 pub hit_added : (part : Part) (entries : List PulledEntry) (k : ℕ) (p : PulledEntry) (m : Vec MatchField) (old new : List Branch) → slice_get entries k ≡ Some p → p.fields ≡ Some m
@@ -182,9 +168,6 @@ pub record AreFirstBranches (part : Part) (entries : List PulledEntry) (n : ℕ)
   pub places : (b : Branch) → Contains branches b → (k : ℕ) × (k < n) × (b.entry ≡ Some k)
   pub once : HaveDistinctEntries branches
   pub all : (k : ℕ) → k < n → (fields : Field → Option ℕ) → IsSomeTagging fields → InPart part fields → IsHitAt entries k fields → (b : Branch) × Contains branches b × InPart b.part fields
-
-pub no_branches : (part : Part) (entries : List PulledEntry) → AreFirstBranches part entries 0 []
-no_branches part entries = record { each = λ b c. absurd (none_of b c); places = λ b c. absurd (none_of b c); once = λ i j a b at. absurd cc; all = λ k lt. absurd (omega (arith, lt)) }
 
 pub branches_more : (part : Part) (entries : List PulledEntry) (n : ℕ) (old new : List Branch) → AreFirstBranches part entries n old → AddsHit part entries (Some n) old new → AreFirstBranches part entries (n + 1) new
 branches_more part entries n old new are adds = record {

@@ -46,17 +46,6 @@ list_rival lacks rivals is m c = same_part (λ (y : Vec MatchField). y.items) (�
 pub rivals_kept : (lacks : List (Vec MatchField)) (rivals : List Rival) → HaveConditions lacks rivals → ((m : Vec MatchField) → Contains lacks m → AreConditions m.items) → (q : Rival) → Contains rivals q → AreConditions q.fields.now
 rivals_kept lacks rivals is each q c = let m = rival_list lacks rivals is q c in subst AreConditions (sym m.2) (each m.0 m.1)
 
--- one more rival
-pub one_rival : (lacks : List (Vec MatchField)) (rivals : List Rival) (i : ℕ) (m : Vec MatchField) (q : Rival) → m ≡ get_or lacks i m → i < length lacks → q.fields.now ≡ m.items → HaveConditions (take i lacks) rivals → HaveConditions (take (i + 1) lacks) (rivals ++ q ∷ [])
-one_rival lacks rivals i m q is lt fields so_far =
-    let items : Vec MatchField → List MatchField = λ x. x.items in
-    let more : take (i + 1) lacks ≡ take i lacks ++ m ∷ [] = take_more lacks i m lt ∙ ap (λ (z : Vec MatchField). take i lacks ++ z ∷ []) (sym is) in
-    map_push (λ (y : Rival). y.fields.now) rivals q
-    ∙ ap (λ (ms : List (List MatchField)). ms ++ q.fields.now ∷ []) so_far
-    ∙ ap (λ (x : List MatchField). map items (take i lacks) ++ x ∷ []) fields
-    ∙ sym (map_push items (take i lacks) m)
-    ∙ ap (map items) (sym more)
-
 module _ (part : Part) (rivals : List Rival) (are : HaveConditions part.lacks.items rivals) where
   unrivalled_none : (fields : Field → Option ℕ) → IsUnrivalled rivals fields → NoneOfMatches part.lacks.items fields
   unrivalled_none fields h m c = let q = list_rival part.lacks.items rivals are m c in ap (λ (x : List MatchField). matches_map x fields) q.2 ∙ h q.0 q.1

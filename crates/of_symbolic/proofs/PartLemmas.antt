@@ -59,17 +59,11 @@ next_first {X} xs i x is lt =
 abbrev pub AreApart : List MatchField → List Region → Type 0
 AreApart m regions = (fields : Field → Option ℕ) → InSome regions fields → matches_map m fields ≡ false
 
-pub none_apart : (m : List MatchField) → AreApart m []
-none_apart m fields h = absurd (none_of h.0 h.1)
-
 pub one_apart : (m : List MatchField) (regions : List Region) (i : ℕ) (r : Region) → r ≡ get_or regions i r → i < length regions → Meets r m Apart → AreApart m (take i regions) → AreApart m (take (i + 1) regions)
 one_apart m regions i r is lt apart old fields h = elim (first_or_next regions i r h.0 is lt h.1) as (λ w. matches_map m fields ≡ false) [
   | inl first ↦ old fields (h.0, first, h.2)
   | inr same ↦ apart fields (subst (λ (x : Region). InRegion x fields) (sym same) h.2)
 ]
-
-pub none_left : (m : List MatchField) → AreLeftRegions m [] []
-none_left m = record { within = λ fields h. h; all = λ fields h no. h }
 
 pub one_left : (m : List MatchField) (regions : List Region) (i : ℕ) (r : Region) (out : List Region) → r ≡ get_or regions i r → i < length regions → AreLeftRegions m (take i regions) out → AreLeftRegions m (take (i + 1) regions) (out ++ r ∷ [])
 one_left m regions i r out is lt old = record {
@@ -96,10 +90,6 @@ one_dropped m regions i r out is lt whole old = record {
 
 pub some_tagging : (frame : List ℕ) (port metadata : ℕ) → IsFrame frame → IsSomeTagging (field_map (layers_of frame) port metadata)
 some_tagging frame port metadata h = (tagging_of (layers_of frame).tags, tags_seen frame port metadata h.1 h.0)
-
-pub no_metadata_kept : IsCondition no_metadata
-unfolding row_of
-no_metadata_kept = inl (record { value = omega arith; mask = tt })
 
 received_metadata : (frame : List ℕ) (port : ℕ) → matches_map (no_metadata ∷ []) (received_fields frame port) ≡ true
 unfolding row_of

@@ -22,12 +22,6 @@ pub record IsPulledSoFar (o : Overlay) (metadata : ℕ) (flows : List FlowEntry)
   pub goes_on : (rest : List PulledEntry) → ArePulledEntries o metadata (flows_of left) rest → ArePulledEntries o metadata flows (out ++ rest)
   pub among : (e : FlowEntry) → Contains (flows_of left) e → Contains flows e
 
-pub pulled_begun : (o : Overlay) (metadata : ℕ) (flows : List FlowEntry) (left : List Entry) → flows_of left ≡ flows → IsPulledSoFar o metadata flows left []
-pulled_begun o metadata flows left is = record {
-  goes_on = λ rest h. subst (λ (x : List FlowEntry). ArePulledEntries o metadata x rest) is h;
-  among = λ e c. subst (λ (x : List FlowEntry). Contains x e) is c;
-}
-
 pub pulled_more : (o : Overlay) (metadata : ℕ) (flows : List FlowEntry) (left others : List Entry) (x : Entry) (out : List PulledEntry) (p : PulledEntry) → left ≡ x ∷ others → IsPulledEntry o metadata (entry_of x) p
     → IsPulledSoFar o metadata flows left out → IsPulledSoFar o metadata flows others (out ++ p ∷ [])
 pulled_more o metadata flows left others x out p is own h = record {
