@@ -133,11 +133,13 @@ replaces it, as an ADD would. A resubmit to a later table becomes GOTO_TABLE if 
 It prints flow text (`ofswitch asm --help`), which `asm`, `trace --flows` and `check --flows` read: groups by number, flows
 by table, and in a table in the order of FILE. If a line uses something that this switch does not support, standard error
 names the line and the words, and nothing is printed, unless --skip leaves such lines out. Comments before the flow text say
-what was left out or changed; the first one is `# part of a table: N lines left out`.
+what was left out or changed; the first one is `# part of a table: N lines left out`. With --json it prints one JSON document
+about the import instead, or about the lines that are refused, and nothing on standard error.
 
   ofswitch import examples/ovs-router.txt
   ovs-ofctl -O OpenFlow13 --no-names dump-flows br0 | ofswitch import - > br0.flows
   ofswitch import --skip --renumber br-int.txt > br-int.flows
+  ofswitch import --skip --json br-int.txt | jq '.flows[] | select(.counters.n_packets == \"0\") | .line'
   ofswitch check --flows br0.flows";
 
 const SAYING: &str =
@@ -207,6 +209,8 @@ struct Argument {
 enum Kind {
     // By its place; it has to be there.
     Positional,
+    // By its place, where it is there; then none of the options of which there has to be exactly one is needed.
+    Free,
     // Behind this option, which has to be there.
     Required(&'static str),
     // Behind this option, of which there has to be exactly one; the help calls the value so.
@@ -263,7 +267,7 @@ const DISASSEMBLE: [Argument; 1] = [Argument {
     help: "The event file to run; - is standard input",
 }];
 
-const IMPORT: [Argument; 3] = [
+const IMPORT: [Argument; 4] = [
     Argument {
         name: "FILE",
         kind: Kind::Positional,
@@ -279,6 +283,11 @@ const IMPORT: [Argument; 3] = [
         kind: Kind::Flag("renumber"),
         help: "Give the tables that occur the numbers 0 to 15, in their order",
     },
+    Argument {
+        name: "json",
+        kind: Kind::Flag("json"),
+        help: "Print the flows, the flow text and the lines that are refused as JSON (docs/JSON.md)",
+    },
 ];
 
 const SAY: [Argument; 1] = [Argument {
@@ -290,7 +299,7 @@ const SAY: [Argument; 1] = [Argument {
 const TRACE: [Argument; 11] = [
     Argument {
         name: "FILE",
-        kind: Kind::Positional,
+        kind: Kind::Free,
         help: "The file of the switch; or the frame, if an option names the file",
     },
     Argument {
@@ -562,7 +571,8 @@ fn subcommand_of<'a>(alloc: Global, row: &Subcommand) -> Result<Command<'a>, All
     let mut command = Command::new(alloc, row.name)
         .about(row.about)
         .after_help(row.text);
-    let mut alternatives = ArgGroup::new(alloc, ALTERNATIVES).required(true);
+    let needed = !row.arguments.iter().any(|it| is_free(&it.kind));
+    let mut alternatives = ArgGroup::new(alloc, ALTERNATIVES).required(needed);
     let mut some = false;
     for it in row.arguments {
         if is_alternative(&it.kind) {
@@ -586,11 +596,18 @@ fn is_alternative(kind: &Kind) -> bool {
     }
 }
 
+fn is_free(kind: &Kind) -> bool {
+    match kind {
+        Kind::Free => true,
+        _ => false,
+    }
+}
+
 fn argument_of<'a>(alloc: Global, argument: &Argument) -> Result<Arg<'a>, AllocError> {
     let named = Arg::new(alloc, argument.name).help(argument.help);
     match argument.kind {
         Kind::Positional => Ok(named.required(true)),
-        Kind::Place => Ok(named),
+        Kind::Place | Kind::Free => Ok(named),
         Kind::Required(option) => Ok(named.long(option).required(true)),
         Kind::Alternative(option, value) | Kind::Optional(option, value) => Ok(
             named.long(option).value_name(value),

@@ -38,6 +38,16 @@ const DEFAULT_STEPS: u32 = 100_000;
 
 const DEFAULT_DPID: u64 = 1;
 
+/// What a trace without a frame lacks.
+const NO_FRAME: &str =
+    "no frame: write it behind the file, in words or as hexadecimal digits with --port
+  ofswitch trace FILE in_port=1,dl_dst=02:00:00:00:00:a1,ip,nw_dst=10.1.1.9
+  ofswitch trace FILE --port 1 0200000000a1020000000001
+";
+
+/// How a port is given.
+const PORT_WORDS: &str = "the port is --port N, or in_port=N in the words of the frame";
+
 /// What the user asks for.
 #[derive(Debug, PartialEq, Eq, Drop)]
 pub enum Request {
@@ -72,6 +82,8 @@ pub enum Request {
         skip: bool,
         /// Whether tables get the numbers 0 to 15.
         renumber: bool,
+        /// Whether the outcome is printed as one JSON document.
+        json: bool,
     },
     /// To print the trace of a frame that is received at a port of the switch of a file; `-` is standard input.
     Trace(Trace),
@@ -268,6 +280,7 @@ fn file_request_of(
             file,
             skip: matches.get_flag("skip"),
             renumber: matches.get_flag("renumber"),
+            json: matches.get_flag("json"),
         }),
         _ => Ok(Request::Replay {
             file,
@@ -282,9 +295,15 @@ fn file_request_of(
 fn trace_of(alloc: Global, matches: &ArgMatches<'_>) -> Result<Trace, NoRequest> {
     let (file, kind) = switch_file_of(alloc, matches)?;
     // with a file by its place the frame is the second word, else the first
-    let frame = matches.get_str("FRAME").or(matches.get_str("FILE"));
+    let frame = match kind {
+        FileKind::Guessed => matches.get_str("FRAME"),
+        _ => matches.get_str("FILE"),
+    };
+    let Some(frame) = frame else {
+        return Err(refused(alloc, NO_FRAME)?);
+    };
     let at = row_of(alloc, matches.get_str("at"))?;
-    let received = received_of(alloc, kind, matches.get_str("N"), frame.unwrap_or(""))?;
+    let received = received_of(alloc, kind, matches.get_str("N"), frame)?;
     Ok(Trace {
         file,
         kind,
@@ -375,6 +394,17 @@ fn port_of(alloc: Global, kind: FileKind, number: Option<u32>) -> Result<u32, No
     }
 }
 
+// A port that frames are traced from, which has to be given.
+fn given_port_of(alloc: Global, kind: FileKind, port: Option<&str>) -> Result<u32, NoRequest> {
+    match (port_of(alloc, kind, number_in(port.unwrap_or(""))), port) {
+        (Err(NoRequest::Refused(why)), None) => Err(NoRequest::Refused(format!(in alloc;
+            "{why}{}\n",
+            PORT_WORDS
+        )?)),
+        (found, _) => found,
+    }
+}
+
 // A frame in hexadecimal digits or in words, and the port at which it is received. Words may say the port, too.
 fn received_of(
     alloc: Global,
@@ -386,7 +416,7 @@ fn received_of(
         return said_of(alloc, kind, port, frame);
     }
     Ok(Received {
-        port: port_of(alloc, kind, number_in(port.unwrap_or("")))?,
+        port: given_port_of(alloc, kind, port)?,
         frame: frame_of(alloc, frame)?,
     })
 }
@@ -404,6 +434,9 @@ fn said_of(
     };
     match read_frame(alloc, given, words.as_bytes()) {
         Ok(received) => {
+            if received.port == 0 {
+                given_port_of(alloc, kind, port)?;
+            }
             port_of(alloc, kind, Some(received.port))?;
             Ok(received)
         }

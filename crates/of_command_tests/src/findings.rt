@@ -297,7 +297,7 @@ fn too_few_steps(rt: HostRuntime) -> Result<(), Fail> {
 fn the_packet_of_a_file(rt: HostRuntime) -> Result<(), Fail> {
     let (written, _) = checked(rt.alloc(), HIGHER)?;
     let wanted =
-        b"flow 0 0 never: 0 1\nflow 0 1 wins in_port 1 metadata 0x0000000000000000 0000000000000000000000000800450000140000000040000000000000000a000000\ntable 0 no table-miss entry\n";
+        b"flow 0 0 never: 0 1\nflow 0 1 wins in_port 1 metadata 0x0000000000000000 00000000000000000000000008004500001400000000400070eb000000000a000000\ntable 0 no table-miss entry\n";
     assert_eq!(rt; written.as_slice(), wanted.as_slice());
     Ok(())
 }

@@ -11,13 +11,13 @@ use Rattle.of_import.specs.declared.parsed_lines.FlowLine.{FlowLine}
 use Rattle.of_import.specs.declared.parsed_lines.GroupLine.{GroupLine}
 use Rattle.of_import.specs.ParsedLinesViews.{view_faults, view_flow_line, view_group_line}
 use Rattle.of_import.specs.declared.mode.Mode.{Mode}
-use Rattle.of_import.specs.declared.kept.LineRefusal.{LineRefusal}
+use Rattle.of_import.specs.declared.kept.KeptLines.{KeptLines}
 use Rattle.of_import.specs.declared.parsed_lines.LineFaults.{LineFaults}
 use Rattle.of_import.specs.declared.import.ImportError.{ImportError}
 use Rattle.of_import.specs.declared.import.ImportError.TheVariants.{NoMemory, Faults, Refused, TooMany}
 use Rattle.of_import.specs.Imports.{FaultsOf, IsImport, IsTextOf, NoImport, RefusedOf, kept_in, notes_for, numbers_for, parsed}
 use Rattle.of_import.specs.Kept.{Kept}
-use Rattle.of_import.specs.KeptViews.{view_refusal}
+use Rattle.of_import.specs.KeptViews.{view_kept}
 use Rattle.of_import.specs.Notes.{is_changed, notes_of}
 use Rattle.of_import.specs.ParsedLines.{parsed_lines_of}
 use Rattle.of_import.specs.PartialFlows.{Refusal}
@@ -35,15 +35,16 @@ lines_parsed place line lines shown gs fs s e h = h ∙ ap (λ (xs : List ℕ). 
 
 -- ---- the whole
 
-pub made_import : (lines : List (List ℕ)) (mode : Mode) (n : TableNumbers) (k : Kept) (faults : List LineFaults) (refused : List LineRefusal) (notes text : List ℕ) (changed : ℕ) → n ≡ numbers_for mode lines → k ≡ kept_in (parsed_lines_of mode n.numbers lines) → map view_faults faults ≡ (parsed_lines_of mode n.numbers lines).faults → map view_refusal refused ≡ k.refused → notes ≡ notes_of n.moves (map view_faults faults) k → IsTextOf k notes text → changed ≡ length (filter is_changed k.flows) → (mode.skip ≡ false → length faults + length refused ≡ 0) → n.count ≤ 16 → IsImport lines mode text faults refused changed
-made_import lines mode n k faults refused notes text changed e kh fh rh nh th ch none few =
-    let eqk : k ≡ kept_in (parsed mode lines) = kh ∙ ap (λ (m : TableNumbers). kept_in (parsed_lines_of mode m.numbers lines)) e in
+pub made_import : (lines : List (List ℕ)) (mode : Mode) (n : TableNumbers) (k : KeptLines) (faults : List LineFaults) (moves : List (ℕ × ℕ)) (notes text : List ℕ) (changed : ℕ) → n ≡ numbers_for mode lines → view_kept k ≡ kept_in (parsed_lines_of mode n.numbers lines) → map view_faults faults ≡ (parsed_lines_of mode n.numbers lines).faults → moves ≡ n.moves → notes ≡ notes_of n.moves (map view_faults faults) (view_kept k) → IsTextOf (view_kept k) notes text → changed ≡ length (filter is_changed (view_kept k).flows) → (mode.skip ≡ false → length faults + length k.refused.items ≡ 0) → n.count ≤ 16 → IsImport lines mode text faults k moves changed
+made_import lines mode n k faults moves notes text changed e kh fh mh nh th ch none few =
+    let eqk : view_kept k ≡ kept_in (parsed mode lines) = kh ∙ ap (λ (m : TableNumbers). kept_in (parsed_lines_of mode m.numbers lines)) e in
     let eqf : map view_faults faults ≡ (parsed mode lines).faults = fh ∙ ap (λ (m : TableNumbers). (parsed_lines_of mode m.numbers lines).faults) e in
-    let eqn : notes ≡ notes_for mode lines = nh ∙ (ap (λ (m : TableNumbers). notes_of m.moves (map view_faults faults) k) e ∙ (ap (λ (f : List (ℕ × List Refusal)). notes_of (numbers_for mode lines).moves f k) eqf ∙ ap (λ (x : Kept). notes_of (numbers_for mode lines).moves (parsed mode lines).faults x) eqk)) in
+    let eqn : notes ≡ notes_for mode lines = nh ∙ (ap (λ (m : TableNumbers). notes_of m.moves (map view_faults faults) (view_kept k)) e ∙ (ap (λ (f : List (ℕ × List Refusal)). notes_of (numbers_for mode lines).moves f (view_kept k)) eqf ∙ ap (λ (x : Kept). notes_of (numbers_for mode lines).moves (parsed mode lines).faults x) eqk)) in
     record {
       text_is = subst (λ (x : List ℕ). IsTextOf (kept_in (parsed mode lines)) x text) eqn (subst (λ (x : Kept). IsTextOf x notes text) eqk th);
       faults_are = eqf;
-      refused_are = rh ∙ ap (λ (x : Kept). x.refused) eqk;
+      kept_is = eqk;
+      moves_are = mh ∙ ap (λ (m : TableNumbers). m.moves) e;
       changed_is = ch ∙ ap (λ (x : Kept). length (filter is_changed x.flows)) eqk;
       none = none;
       few = subst (λ (m : TableNumbers). m.count ≤ 16) e few;

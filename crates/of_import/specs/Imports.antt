@@ -6,13 +6,13 @@ use Rattle.of_text.specs.Lines.{lines_of}
 use Rattle.of_text.specs.First.{first_refusal}
 use Rattle.of_import.specs.declared.mode.Mode.{Mode}
 use Rattle.of_import.specs.declared.parsed_lines.LineFaults.{LineFaults}
-use Rattle.of_import.specs.declared.kept.LineRefusal.{LineRefusal}
+use Rattle.of_import.specs.declared.kept.KeptLines.{KeptLines}
 use Rattle.of_import.specs.declared.import.ImportError.{ImportError}
 use Rattle.of_import.specs.declared.import.ImportError.TheVariants.{NoMemory, Faults, Refused, TooMany}
 use Rattle.of_import.specs.ParsedLinesViews.{view_faults}
 use Rattle.of_import.specs.ParsedLines.{FlowAt, ParsedLines, parsed_lines_of}
 use Rattle.of_import.specs.Kept.{Kept, flows_in, groups_in, kept_of_lines, line_of_item}
-use Rattle.of_import.specs.KeptViews.{view_refusal}
+use Rattle.of_import.specs.KeptViews.{view_kept, view_refusal}
 use Rattle.of_import.specs.TableNumbers.{TableNumbers, table_numbers_of, same_numbers}
 use Rattle.of_import.specs.Counters.{with_counters}
 use Rattle.of_import.specs.Notes.{is_changed, notes_of}
@@ -45,13 +45,15 @@ kept_in t = kept_of_lines t.groups t.flows
 abbrev pub notes_for : Mode → List (List ℕ) → List ℕ
 notes_for mode lines = notes_of (numbers_for mode lines).moves (parsed mode lines).faults (kept_in (parsed mode lines))
 
--- A TEXT, the lines with words that are refused, and those that the switch refuses (without `skip` there are none), and how many flows have an action left out
-pub record IsImport (lines : List (List ℕ)) (mode : Mode) (text : List ℕ) (faults : List LineFaults) (refused : List LineRefusal) (changed : ℕ) : Type 0 where
+-- A TEXT, the lines with words that are refused, its groups and flows and the lines that the switch refuses (without `skip` no line is refused), which
+-- tables have another number, and how many flows have an action left out
+pub record IsImport (lines : List (List ℕ)) (mode : Mode) (text : List ℕ) (faults : List LineFaults) (kept : KeptLines) (moves : List (ℕ × ℕ)) (changed : ℕ) : Type 0 where
   pub text_is : IsTextOf (kept_in (parsed mode lines)) (notes_for mode lines) text
   pub faults_are : map view_faults faults ≡ (parsed mode lines).faults
-  pub refused_are : map view_refusal refused ≡ (kept_in (parsed mode lines)).refused
+  pub kept_is : view_kept kept ≡ kept_in (parsed mode lines)
+  pub moves_are : moves ≡ (numbers_for mode lines).moves
   pub changed_is : changed ≡ length (filter is_changed (kept_in (parsed mode lines)).flows)
-  pub none : mode.skip ≡ false → length faults + length refused ≡ 0
+  pub none : mode.skip ≡ false → length faults + length kept.refused.items ≡ 0
   pub few : (numbers_for mode lines).count ≤ 16
 
 -- ---- why there is none

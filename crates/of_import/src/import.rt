@@ -3,6 +3,7 @@ ghost use Rattle.std.specs.Prelude.{◌≡◌, ◌<◌, ◌+◌, ◌++◌, [], f
 ghost use Rattle.std.specs.List.{AllByRecursion};
 ghost use Rattle.of_text.specs.Configs.{EncodeConfig, config_text};
 ghost use Rattle.of_text.specs.Lines.{lines_of};
+ghost use Rattle.of_text.specs.Views.{view_flows, view_groups};
 ghost use Rattle.of_import.specs.Imports.{FaultsOf, IsConfigOf, IsImport, IsTextOf, NoImport, RefusedOf, kept_in, numbers_for as numbers_for_lines};
 ghost use Rattle.of_import.specs.Counters.{with_notes};
 ghost use Rattle.of_import.specs.CounterViews.{view_notes};
@@ -12,6 +13,7 @@ ghost use Rattle.of_import.specs.ParsedLinesViews.{AreSoundGroups, FlowIsSound, 
 ghost use Rattle.of_import.specs.TableNumbersViews.{view_numbers};
 ghost use Rattle.of_import.specs.declared.import.ImportError.TheVariants.{NoMemory};
 
+use crate::copies::{copy_flow, copy_group};
 use crate::counters::{counter_notes, push_with_notes};
 use crate::kept::{KeptLines, LineRefusal, keep};
 use crate::mode::Mode;
@@ -23,14 +25,16 @@ use of_text::{Config, FillError, FlowText, GroupText, disassemble, texts_are_of_
 use std::alloc::{AllocError, AllocFailed, Global};
 use thiserror::Error;
 
-/// The flow text of a table of Open vSwitch, and its lines that are not in it.
-#[derive(Debug, Drop)]
+/// The flow text of a table of Open vSwitch, and its lines.
+#[derive(Drop)]
 pub struct Import {
     pub text: Vec<u8>,
     /// Lines with words that are refused.
     pub faults: Vec<LineFaults>,
-    /// Lines that the switch refuses.
-    pub refused: Vec<LineRefusal>,
+    /// The groups and flows of the text, and the lines that the switch refuses.
+    pub kept: KeptLines,
+    /// Tables that have another number, and that number.
+    pub moves: Vec<(u8, u8)>,
     /// How many flows have an action left out.
     pub changed: usize,
 }
@@ -67,36 +71,36 @@ impl<T: Drop> From<AllocFailed<T>> for ImportError {
     }
 }
 
-// The groups, whose lines are appended.
+// Copies of the groups, whose lines are appended.
 fn unzip_groups(
     alloc: Global,
     lines: &mut Vec<usize>,
-    groups: Vec<GroupLine>,
+    groups: &[GroupLine],
 ) -> Result<Vec<GroupText>, AllocError>
-    ensures lines { OnOk result (lines.new.items ≡ lines.old.items ++ map (λ g. g.line) groups.items) }
-    ensures groups { IfOk result (λ made. made.items ≡ map (λ g. g.group) groups.items) }
+    ensures lines { OnOk result (lines.new.items ≡ lines.old.items ++ map (λ g. g.line) groups.now) }
+    ensures groups { IfOk result (λ made. view_groups made.items ≡ view_groups (map (λ g. g.group) groups.now)) }
 {
     let mut made = Vec::new(alloc);
     for it in groups {
         lines.push(it.line)?;
-        made.push(it.group)?;
+        made.push(copy_group(alloc, &it.group)?)?;
     }
     Ok(made)
 }
 
-// The flows, whose lines are appended.
+// Copies of the flows, whose lines are appended.
 fn unzip_flows(
     alloc: Global,
     lines: &mut Vec<usize>,
-    flows: Vec<FlowLine>,
+    flows: &[FlowLine],
 ) -> Result<Vec<FlowText>, AllocError>
-    ensures lines { OnOk result (lines.new.items ≡ lines.old.items ++ map (λ f. f.line) flows.items) }
-    ensures flows { IfOk result (λ made. made.items ≡ map (λ f. f.flow) flows.items) }
+    ensures lines { OnOk result (lines.new.items ≡ lines.old.items ++ map (λ f. f.line) flows.now) }
+    ensures flows { IfOk result (λ made. view_flows made.items ≡ view_flows (map (λ f. f.flow) flows.now)) }
 {
     let mut made = Vec::new(alloc);
     for it in flows {
         lines.push(it.line)?;
-        made.push(it.flow)?;
+        made.push(copy_flow(alloc, &it.flow)?)?;
     }
     Ok(made)
 }
@@ -111,15 +115,11 @@ fn line_of(lines: &[usize], place: usize) -> usize
 }
 
 // The configuration of what is kept.
-fn configure(
-    alloc: Global,
-    groups: Vec<GroupLine>,
-    flows: Vec<FlowLine>,
-) -> Result<Config, ImportError>
-    requires groups { AreSoundGroups groups.items }
-    requires flows { AllByRecursion FlowIsSound flows.items }
-    ensures found { IfOk result (λ config. IsConfigOf (map view_group_line groups.items) (map view_flow_line flows.items) config) }
-    ensures failed { IfErr result (RefusedOf (map view_group_line groups.items) (map view_flow_line flows.items)) }
+fn configure(alloc: Global, groups: &[GroupLine], flows: &[FlowLine]) -> Result<Config, ImportError>
+    requires groups { AreSoundGroups groups.now }
+    requires flows { AllByRecursion FlowIsSound flows.now }
+    ensures found { IfOk result (λ config. IsConfigOf (map view_group_line groups.now) (map view_flow_line flows.now) config) }
+    ensures failed { IfErr result (RefusedOf (map view_group_line groups.now) (map view_flow_line flows.now)) }
 {
     let mut lines = Vec::new(alloc);
     let groups = unzip_groups(alloc, &mut lines, groups)?;
@@ -156,22 +156,17 @@ fn known_text(config: &Config)
 }
 
 // The text of what is kept, after these comments.
-fn written(
-    alloc: Global,
-    notes: &mut Vec<u8>,
-    kept: KeptLines,
-) -> Result<Vec<LineRefusal>, ImportError>
-    requires groups { AreSoundGroups kept.groups.items }
-    requires flows { AllByRecursion FlowIsSound kept.flows.items }
-    ensures text { IfOk result (λ _. IsTextOf (view_kept kept) notes.old.items notes.new.items) }
-    ensures refused { IfOk result (λ refused. refused.items ≡ kept.refused.items) }
-    ensures failed { IfErr result (RefusedOf (view_kept kept).groups (view_kept kept).flows) }
+fn written(alloc: Global, notes: &mut Vec<u8>, kept: &KeptLines) -> Result<(), ImportError>
+    requires groups { AreSoundGroups kept.now.groups.items }
+    requires flows { AllByRecursion FlowIsSound kept.now.flows.items }
+    ensures text { OnOk result (IsTextOf (view_kept kept.now) notes.old.items notes.new.items) }
+    ensures failed { IfErr result (RefusedOf (view_kept kept.now).groups (view_kept kept.now).flows) }
 {
     let counters = counter_notes(alloc, &kept.flows)?;
-    let config = configure(alloc, kept.groups, kept.flows)?;
+    let config = configure(alloc, &kept.groups, &kept.flows)?;
     known_text(&config);
     push_text(alloc, notes, counters, &config)?;
-    Ok(kept.refused)
+    Ok(())
 }
 
 // The new numbers of tables.
@@ -215,7 +210,7 @@ fn accepted(
 /// as comments behind the flows. With `skip` lines that are
 /// refused are left out, else there has to be none. With `renumber` the tables that occur get the numbers 0 to 15.
 pub fn import_tables(alloc: Global, text: &[u8], mode: Mode) -> Result<Import, ImportError>
-    ensures found { IfOk result (λ r. IsImport (lines_of text.now) mode r.text.items r.faults.items r.refused.items r.changed) }
+    ensures found { IfOk result (λ r. IsImport (lines_of text.now) mode r.text.items r.faults.items r.kept r.moves.items r.changed) }
     ensures failed { IfErr result (NoImport (lines_of text.now) mode) }
 {
     let numbers = numbers_for(alloc, mode, text)?;
@@ -225,11 +220,12 @@ pub fn import_tables(alloc: Global, text: &[u8], mode: Mode) -> Result<Import, I
     let (kept, faults) = accepted(alloc, mode, &numbers.numbers, text)?;
     let mut text = notes_for(alloc, &numbers.moves, &faults, &kept)?;
     let changed = count_changed(&kept.flows);
-    match written(alloc, &mut text, kept) {
-        Ok(refused) => Ok(Import {
+    match written(alloc, &mut text, &kept) {
+        Ok(()) => Ok(Import {
             text,
             faults,
-            refused,
+            kept,
+            moves: numbers.moves,
             changed,
         }),
         Err(error) => Err(error),

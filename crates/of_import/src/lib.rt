@@ -17,9 +17,10 @@ mod table_numbers;
 mod word_fault;
 
 pub use import::{Import, ImportError, import_tables};
-pub use kept::LineRefusal;
+pub use kept::{KeptLines, LineRefusal};
 pub use laws::comments_change_nothing;
+pub use line::FlowMarks;
 pub use mode::Mode;
-pub use of_ovs_words::{Why, name_of};
-pub use parsed_lines::LineFaults;
+pub use of_ovs_words::{Why, name_of, value_of};
+pub use parsed_lines::{FlowLine, GroupLine, LineFaults};
 pub use word_fault::WordFault;

@@ -18,7 +18,7 @@ use Rattle.of_symbolic.specs.declared.overlay.TagNumber.{TagNumber}
 use Rattle.of_symbolic.specs.declared.overlay.TagNumber.TheVariants.{Value, Received, IfTagged, Unknown}
 use Rattle.of_symbolic.specs.Asking.{any_value, asked_at, by_tag, field_asked, own_pcp, own_vid, pcp_asked, pushed_pcp, pushed_vid, tagged_vid, vid_asked, vid_bits, with_tag, without_tag}
 use Rattle.of_symbolic.specs.Overlays.{Shows, tags_in, with_value}
-use Rattle.of_symbolic.specs.Tags.{AreTags, IsNumber, own_tags}
+use Rattle.of_symbolic.specs.Tags.{AreTagsAfter, IsNumber, own_tags}
 use Rattle.of_symbolic.proofs.VidBits.{and_zero, none_left, present_bit, vid_agrees, vid_under, zero_and}
 
 -- whether the field of the match agrees is what it asks of the frame's fields
@@ -144,7 +144,7 @@ own_vid_holds None e map received at s = own_vid_same (λ y. agrees e (Some y)) 
 own_vid_holds (Some n) e map received at s = by_tag_holds (agrees e (Some (4096 + n))) (agrees e (Some 0)) map received s
 
 vid_holds : (ps : List PushedTag) (own : Option ReceivedTag) (e : MatchField) (map : Field → Option ℕ) (received tags : List Tag) → IsVid e → IfSome (outermost tags) (λ t. t.vid < 2 ^ 12) → Says map (outermost received)
-    → AreTags ps own received tags → Holds (vid_asked (slice_get ps 0) own e) (agrees e (Some (vid (option_map (λ (t : Tag). t.vid) (outermost tags))))) map
+    → AreTagsAfter ps own received tags → Holds (vid_asked (slice_get ps 0) own e) (agrees e (Some (vid (option_map (λ (t : Tag). t.vid) (outermost tags))))) map
 vid_holds [] None e map received tags k small s h = tt
 vid_holds [] (Some own) e map received tags k small s h =
     holds_same (own_vid own.vid e) (agrees e (Some (vid (option_map (λ (t : Tag). t.vid) (outermost tags))))) _ map
@@ -184,7 +184,7 @@ own_pcp_holds k (Some n) e map (t ∷ ts) is at s =
     holds_same (by_tag (agrees e (Some n)) false) (agrees e (Some (unwrap_or k.pcp t.pcp))) (agrees e (Some n)) map (ap (λ (o : Option ℕ). agrees e (Some (unwrap_or o t.pcp))) is) (by_tag_holds (agrees e (Some n)) false map (Some t) s)
 
 pcp_holds : (ps : List PushedTag) (own : Option ReceivedTag) (e : MatchField) (map : Field → Option ℕ) (received tags : List Tag) → e.field ≡ VlanPcp → Says map (outermost received)
-    → AreTags ps own received tags → Holds (pcp_asked (slice_get ps 0) own e) (agrees e (option_map (λ (t : Tag). t.pcp) (outermost tags))) map
+    → AreTagsAfter ps own received tags → Holds (pcp_asked (slice_get ps 0) own e) (agrees e (option_map (λ (t : Tag). t.pcp) (outermost tags))) map
 pcp_holds [] None e map received tags at s h = tt
 pcp_holds [] (Some own) e map received tags at s h =
     holds_same (own_pcp own.pcp e) (agrees e (option_map (λ (t : Tag). t.pcp) (outermost tags))) (agrees e (option_map (λ (t : Tag). t.pcp) (outermost (own_tags own received)))) map

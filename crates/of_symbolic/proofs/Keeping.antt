@@ -20,7 +20,8 @@ use Rattle.of_symbolic.specs.declared.overlay.TagNumber.{TagNumber}
 use Rattle.of_symbolic.specs.declared.overlay.TagNumber.TheVariants.{Value, Received, IfTagged, Unknown}
 use Rattle.of_symbolic.specs.Asking.{any_value, asked_at, by_tag, field_asked, own_pcp, own_vid, pcp_asked, pushed_pcp, pushed_vid, vid_asked, vid_bits, with_tag, without_tag}
 use Rattle.of_regions.specs.Conditions.{IsCondition}
-use Rattle.of_symbolic.specs.Pulling.{is_pcp_unknown, is_unknown_at, is_vid_unknown, is_not_known, is_received}
+use Rattle.of_symbolic.specs.Overlaid.{is_number_known}
+use Rattle.of_symbolic.specs.Pulling.{is_pcp_unknown, is_unknown_at, is_vid_unknown, is_received}
 use Rattle.of_symbolic.proofs.Holding.{IsVid}
 
 -- ---- VLAN_VID
@@ -158,7 +159,7 @@ tagged_closed x true true h = cc
 tagged_closed x true false h = cc
 tagged_closed x false u h = cc
 
-pushed_vid_open : (k : TagNumber) (e : MatchField) → pushed_vid k e ≡ Open → (is_not_known k && not (eqb (bits_looked_at e % 4096) 0)) ≡ true
+pushed_vid_open : (k : TagNumber) (e : MatchField) → pushed_vid k e ≡ Open → (not (is_number_known k) && not (eqb (bits_looked_at e % 4096) 0)) ≡ true
 pushed_vid_open (Value n) e h = absurd (by_tag_closed _ _ h)
 pushed_vid_open (IfTagged n) e h = absurd (by_tag_closed _ _ h)
 pushed_vid_open Received e h = absurd (tagged_closed (vid_bits e) (eqb (bits_looked_at e / 4096) (e.value / 4096)) (eqb (bits_looked_at e % 4096) 0) h)
@@ -177,7 +178,7 @@ zero_open : (e : MatchField) (b : Bool) → cond b Open (Asks e) ≡ Open → b 
 zero_open e true h = refl
 zero_open e false h = absurd cc
 
-pushed_pcp_open : (k : TagNumber) (e : MatchField) → pushed_pcp k e ≡ Open → (is_not_known k || (is_received k && eqb e.value 0)) ≡ true
+pushed_pcp_open : (k : TagNumber) (e : MatchField) → pushed_pcp k e ≡ Open → (not (is_number_known k) || (is_received k && eqb e.value 0)) ≡ true
 pushed_pcp_open (Value n) e h = absurd (by_tag_closed _ _ h)
 pushed_pcp_open (IfTagged n) e h = absurd (by_tag_closed _ _ h)
 pushed_pcp_open Received e h = zero_open e (eqb e.value 0) h

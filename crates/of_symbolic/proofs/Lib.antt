@@ -1,6 +1,7 @@
 pub mod Rewriting
 pub mod Following
 pub mod Showing
+pub mod Overlaying
 pub mod VidBits
 pub mod Holding
 pub mod Keeping

@@ -9,7 +9,7 @@ use Rattle.of_symbolic.specs.declared.overlay.Overlay.{Overlay}
 use Rattle.of_symbolic.specs.declared.overlay.PushedTag.{PushedTag}
 use Rattle.of_symbolic.specs.declared.overlay.ReceivedTag.{ReceivedTag}
 use Rattle.of_symbolic.specs.Overlays.{IsOverlay, value_by}
-use Rattle.of_symbolic.specs.Tags.{Tags, PopsOwn, no_tags, tags_after, tags_set}
+use Rattle.of_symbolic.specs.Tags.{Tags, PopsOwn, no_tags, tags_by, tags_set}
 
 -- ---- the tag of the frame that came in
 
@@ -18,16 +18,16 @@ record PopsFrom (k : Tags) (l : List Action) : Type 0 where
   pub before : List Action
   pub after : List Action
   pub is : l ≡ before ++ actions.PopVlan ∷ after
-  pub none : (fold (λ j a. tags_after a j) k before).pushed ≡ []
+  pub none : (fold (λ j a. tags_by a j) k before).pushed ≡ []
 
-later : (k : Tags) (a : Action) (l : List Action) → PopsFrom (tags_after a k) l → PopsFrom k (a ∷ l)
+later : (k : Tags) (a : Action) (l : List Action) → PopsFrom (tags_by a k) l → PopsFrom k (a ∷ l)
 later k a l h = record { before = a ∷ h.before; after = h.after; is = ap (λ (x : List Action). a ∷ x) h.is; none = h.none }
 
 set_stays : (f : Field) (n : ℕ) (ps : List PushedTag) (own : ReceivedTag) → (o : ReceivedTag) × ((tags_set f n ps (Some own)).own ≡ Some o)
 set_stays f n [] own = (_, refl)
 set_stays f n (p ∷ ps) own = (own, refl)
 
-pops_from : (l : List Action) (ps : List PushedTag) (own : ReceivedTag) → (fold (λ j a. tags_after a j) (record { pushed = ps; own = Some own }) l).own ≡ None → PopsFrom (record { pushed = ps; own = Some own }) l
+pops_from : (l : List Action) (ps : List PushedTag) (own : ReceivedTag) → (fold (λ j a. tags_by a j) (record { pushed = ps; own = Some own }) l).own ≡ None → PopsFrom (record { pushed = ps; own = Some own }) l
 pops_from [] ps own h = absurd cc
 pops_from (actions.PushVlan type ∷ l) ps own h = later _ (actions.PushVlan type) l (pops_from l _ own h)
 pops_from (actions.PopVlan ∷ l) [] own h = record { before = []; after = l; is = refl; none = refl }
@@ -49,5 +49,5 @@ only_pops o l h none =
 pub popped_back : (o : Overlay) (l : List Action) (type : ℕ) → IsOverlay o l → IsOverlay o (l ++ actions.PushVlan type ∷ actions.PopVlan ∷ [])
 popped_back o l type h = record {
   set = λ f. h.set f ∙ sym (fold-append (λ old a. value_by a f old) None l (actions.PushVlan type ∷ actions.PopVlan ∷ []));
-  tags = h.tags ∙ sym (fold-append (λ k a. tags_after a k) no_tags l (actions.PushVlan type ∷ actions.PopVlan ∷ []));
+  tags = h.tags ∙ sym (fold-append (λ k a. tags_by a k) no_tags l (actions.PushVlan type ∷ actions.PopVlan ∷ []));
 }

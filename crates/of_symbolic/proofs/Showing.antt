@@ -15,7 +15,7 @@ use Rattle.of_symbolic.specs.declared.overlay.PushedTag.{PushedTag}
 use Rattle.of_symbolic.specs.declared.overlay.ReceivedTag.{ReceivedTag}
 use Rattle.of_symbolic.specs.Actions.{call_of, view_by, view_of_actions}
 use Rattle.of_symbolic.specs.Overlays.{IsOverlay, Shows, tags_in, value_by, value_set, with_value}
-use Rattle.of_symbolic.specs.Tags.{Tags, AreTags, IsNumber, IsPushed, copied, new_tag, no_tags, own_tag, own_tags, pushed_set, received_set, tags_after, tags_of_actions, tags_popped, tags_set}
+use Rattle.of_symbolic.specs.Tags.{Tags, AreTagsAfter, IsNumber, IsPushed, copied, new_tag, no_tags, own_tag, own_tags, pushed_set, received_set, tags_by, tags_of_actions, tags_popped, tags_set}
 
 -- ---- a tag is pushed
 
@@ -34,7 +34,7 @@ above_own : (k : ReceivedTag) (received : List Tag) → IsPushed (new_tag None (
 above_own k [] = record { vid = copied_none k.vid; pcp = copied_none k.pcp }
 above_own k (t ∷ ts) = record { vid = copied_some k.vid t.vid; pcp = copied_some k.pcp t.pcp }
 
-new_pushed : (ps : List PushedTag) (own : Option ReceivedTag) (received tags : List Tag) → AreTags ps own received tags → IsPushed (new_tag (slice_get ps 0) own) (outermost received) (unwrap_or (outermost tags) no_tag)
+new_pushed : (ps : List PushedTag) (own : Option ReceivedTag) (received tags : List Tag) → AreTagsAfter ps own received tags → IsPushed (new_tag (slice_get ps 0) own) (outermost received) (unwrap_or (outermost tags) no_tag)
 new_pushed [] None received tags h = record { vid = tt; pcp = tt }
 new_pushed [] (Some k) received tags h = subst (λ (ts : List Tag). IsPushed (new_tag None (Some k)) (outermost received) (unwrap_or (outermost ts) no_tag)) (sym h) (above_own k received)
 new_pushed (p ∷ ps) own received [] h = absurd h
@@ -42,7 +42,7 @@ new_pushed (p ∷ ps) own received (t ∷ tags) h = h.0
 
 -- ---- a tag is popped
 
-popped_tags : (ps : List PushedTag) (own : Option ReceivedTag) (received tags : List Tag) → AreTags ps own received tags → AreTags (tags_popped ps own).pushed (tags_popped ps own).own received (drop 1 tags)
+popped_tags : (ps : List PushedTag) (own : Option ReceivedTag) (received tags : List Tag) → AreTagsAfter ps own received tags → AreTagsAfter (tags_popped ps own).pushed (tags_popped ps own).own received (drop 1 tags)
 popped_tags [] own received tags h = tt
 popped_tags (p ∷ ps) own received [] h = absurd h
 popped_tags (p ∷ ps) own received (t ∷ tags) h = h.1
@@ -63,8 +63,8 @@ own_are_set : (f : Field) (v : ℕ) (k : ReceivedTag) (received : List Tag) → 
 own_are_set f v k [] = refl
 own_are_set f v k (t ∷ ts) = ap (λ (u : Tag). u ∷ ts) (own_is_set f v k t)
 
-set_tags : (f : Field) (v : ℕ) (ps : List PushedTag) (own : Option ReceivedTag) (received tags : List Tag) → AreTags ps own received tags →
-    AreTags (tags_set f v ps own).pushed (tags_set f v ps own).own received (outermost_set f v tags)
+set_tags : (f : Field) (v : ℕ) (ps : List PushedTag) (own : Option ReceivedTag) (received tags : List Tag) → AreTagsAfter ps own received tags →
+    AreTagsAfter (tags_set f v ps own).pushed (tags_set f v ps own).own received (outermost_set f v tags)
 set_tags f v [] None received tags h = tt
 set_tags f v [] (Some k) received tags h = ap (outermost_set f v) h ∙ own_are_set f v k received
 set_tags f v (p ∷ ps) own received [] h = absurd h
@@ -81,7 +81,7 @@ field_set_by false n o x y h = h
 
 -- ---- an action, and several
 
-one_shows : (a : Action) (set : Field → Option ℕ) (k : Tags) (v w : View) → Shows set k v w → Shows (λ f. value_by a f (set f)) (tags_after a k) v (view_by (call_of a) w)
+one_shows : (a : Action) (set : Field → Option ℕ) (k : Tags) (v w : View) → Shows set k v w → Shows (λ f. value_by a f (set f)) (tags_by a k) v (view_by (call_of a) w)
 one_shows (actions.PushVlan type) set k v w h = record { fields = h.fields; tags = (new_pushed k.pushed k.own v.tags w.tags h.tags, h.tags) }
 one_shows actions.PopVlan set k v w h = record { fields = h.fields; tags = popped_tags k.pushed k.own v.tags w.tags h.tags }
 one_shows (actions.SetNwTtl ttl) set k v w h = record { fields = h.fields; tags = h.tags }
@@ -93,9 +93,9 @@ one_shows (actions.SetField f n) set k v w h = record {
 one_shows (actions.Output port max) set k v w h = record { fields = h.fields; tags = h.tags }
 one_shows (actions.Group group) set k v w h = record { fields = h.fields; tags = h.tags }
 
-all_show : (l : List Action) (set : Field → Option ℕ) (k : Tags) (v w : View) → Shows set k v w → Shows (λ f. fold (λ old a. value_by a f old) (set f) l) (fold (λ j a. tags_after a j) k l) v (view_of_actions l w)
+all_show : (l : List Action) (set : Field → Option ℕ) (k : Tags) (v w : View) → Shows set k v w → Shows (λ f. fold (λ old a. value_by a f old) (set f) l) (fold (λ j a. tags_by a j) k l) v (view_of_actions l w)
 all_show [] set k v w h = record { fields = h.fields; tags = h.tags }
-all_show (a ∷ l) set k v w h = all_show l (λ f. value_by a f (set f)) (tags_after a k) v (view_by (call_of a) w) (one_shows a set k v w h)
+all_show (a ∷ l) set k v w h = all_show l (λ f. value_by a f (set f)) (tags_by a k) v (view_by (call_of a) w) (one_shows a set k v w h)
 
 own_same : (t : Tag) → t ≡ own_tag (record { vid = None; pcp = None }) t
 own_same t = refl
@@ -109,5 +109,5 @@ overlay_shows o l v h =
     let all : Shows (value_set l) (tags_of_actions l) v (view_of_actions l v) = all_show l (λ f. None) no_tags v v (record { fields = λ f. refl; tags = tags_same v.tags }) in
     record {
       fields = λ f. all.fields f ∙ ap (λ (x : Option ℕ). with_value x (v.fields f)) (sym (h.set f));
-      tags = subst (λ (k : Tags). AreTags k.pushed k.own v.tags (view_of_actions l v).tags) (sym h.tags) all.tags;
+      tags = subst (λ (k : Tags). AreTagsAfter k.pushed k.own v.tags (view_of_actions l v).tags) (sym h.tags) all.tags;
     }

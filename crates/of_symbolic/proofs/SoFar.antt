@@ -12,7 +12,7 @@ use Rattle.of_symbolic.specs.declared.asking.Asked.{Asked}
 use Rattle.of_symbolic.specs.declared.asking.Asked.TheVariants.{Never, Open, Nothing, Asks}
 use Rattle.of_symbolic.specs.declared.overlay.Overlay.{Overlay}
 use Rattle.of_symbolic.specs.Actions.{view_of_actions}
-use Rattle.of_symbolic.specs.Asking.{asked_of}
+use Rattle.of_symbolic.specs.Asking.{asked_of_frame}
 use Rattle.of_symbolic.specs.Overlays.{IsOverlay, HasVids}
 use Rattle.of_regions.specs.Conditions.{AreConditions, IsCondition}
 use Rattle.of_symbolic.specs.Pulling.{is_unknown_at, is_unknown_in}
@@ -27,7 +27,7 @@ frame_says : (v : View) (port : ℕ) → HasVids v → Says (fields_seen v port 
 frame_says v port h = record { vid_is = refl; pcp_is = refl; small = first_small v.tags h }
 
 pub one_holds : (o : Overlay) (metadata : ℕ) (e : MatchField) → IsKept e → (l : List Action) → IsOverlay o l → (v : View) (port : ℕ) → HasVids v →
-    Holds (asked_of o metadata e) (agrees e (fields_seen (view_of_actions l v) port metadata e.field)) (fields_seen v port 0)
+    Holds (asked_of_frame o metadata e) (agrees e (fields_seen (view_of_actions l v) port metadata e.field)) (fields_seen v port 0)
 one_holds o metadata e k l h v port small =
     at_holds o e v (view_of_actions l v) port metadata (overlay_shows o l v h) (kept_vid e k) (first_small (view_of_actions l v).tags (all_small l v small)) (frame_says v port small) e.field refl
 
@@ -83,7 +83,7 @@ or_right false b e = e
 still_unknown : (o : Overlay) (m : List MatchField) (e : MatchField) → is_unknown_in o m ≡ true → is_unknown_in o (m ++ e ∷ []) ≡ true
 still_unknown o m e h = any_more (λ x. is_unknown_at o x x.field) m e ∙ or_left _ _ h
 
-pub open_more : (o : Overlay) (metadata : ℕ) (m : List MatchField) (e : MatchField) (t : Bool) (fields : List MatchField) → asked_of o metadata e ≡ Open → SoFar o metadata m t fields → SoFar o metadata (m ++ e ∷ []) true fields
+pub open_more : (o : Overlay) (metadata : ℕ) (m : List MatchField) (e : MatchField) (t : Bool) (fields : List MatchField) → asked_of_frame o metadata e ≡ Open → SoFar o metadata m t fields → SoFar o metadata (m ++ e ∷ []) true fields
 open_more o metadata m e t fields is h = record {
   unknown = λ k. any_more (λ x. is_unknown_at o x x.field) m e ∙ or_right _ _ (open_unknown o metadata e e.field is);
   same = λ k. absurd cc;
@@ -94,7 +94,7 @@ and_same : (a b c : Bool) → a ≡ c → b ≡ true → (a && b) ≡ c
 and_same true b c e f = f ∙ e
 and_same false b c e f = e
 
-pub nothing_more : (o : Overlay) (metadata : ℕ) (m : List MatchField) (e : MatchField) (t : Bool) (fields : List MatchField) → IsKept e → asked_of o metadata e ≡ Nothing → SoFar o metadata m t fields → SoFar o metadata (m ++ e ∷ []) t fields
+pub nothing_more : (o : Overlay) (metadata : ℕ) (m : List MatchField) (e : MatchField) (t : Bool) (fields : List MatchField) → IsKept e → asked_of_frame o metadata e ≡ Nothing → SoFar o metadata m t fields → SoFar o metadata (m ++ e ∷ []) t fields
 nothing_more o metadata m e t fields k is h = record {
   unknown = λ u. still_unknown o m e (h.unknown u);
   same = λ u l g v port s.
@@ -104,7 +104,7 @@ nothing_more o metadata m e t fields k is h = record {
   kept = h.kept;
 }
 
-pub field_more : (o : Overlay) (metadata : ℕ) (m : List MatchField) (e x : MatchField) (t : Bool) (fields : List MatchField) → IsKept e → asked_of o metadata e ≡ Asks x → SoFar o metadata m t fields → SoFar o metadata (m ++ e ∷ []) t (fields ++ x ∷ [])
+pub field_more : (o : Overlay) (metadata : ℕ) (m : List MatchField) (e x : MatchField) (t : Bool) (fields : List MatchField) → IsKept e → asked_of_frame o metadata e ≡ Asks x → SoFar o metadata m t fields → SoFar o metadata (m ++ e ∷ []) t (fields ++ x ∷ [])
 field_more o metadata m e x t fields k is h = record {
   unknown = λ u. still_unknown o m e (h.unknown u);
   same = λ u l g v port s.
@@ -134,7 +134,7 @@ one_false p (x ∷ xs) (suc i) d lt e = and_false (p x) (list_all p xs) (one_fal
     and_false true b e = e
     and_false false b e = refl
 
-pub never_matches : (o : Overlay) (metadata : ℕ) (m : List MatchField) (i : ℕ) (d : MatchField) → AllByRecursion IsKept m → i < length m → asked_of o metadata (get_or m i d) ≡ Never →
+pub never_matches : (o : Overlay) (metadata : ℕ) (m : List MatchField) (i : ℕ) (d : MatchField) → AllByRecursion IsKept m → i < length m → asked_of_frame o metadata (get_or m i d) ≡ Never →
     (l : List Action) → IsOverlay o l → (v : View) (port : ℕ) → HasVids v → matches_map m (fields_seen (view_of_actions l v) port metadata) ≡ false
 never_matches o metadata m i d k lt is l h v port s =
     let e = get_or m i d in
@@ -156,10 +156,10 @@ next_so_far o metadata m s i d t u xs ys e lt same_test same_fields h =
 pub kept_at : (m s : List MatchField) (i : ℕ) (d : MatchField) → s ≡ m → AllByRecursion IsKept m → i < length s → IsKept (get_or s i d)
 kept_at m s i d e h lt = one_kept s i d (subst (AllByRecursion IsKept) (sym e) h) lt
 
-pub never_at : (o : Overlay) (metadata : ℕ) (m s : List MatchField) (i : ℕ) (d : MatchField) → s ≡ m → AllByRecursion IsKept m → i < length s → asked_of o metadata (get_or s i d) ≡ Never →
+pub never_at : (o : Overlay) (metadata : ℕ) (m s : List MatchField) (i : ℕ) (d : MatchField) → s ≡ m → AllByRecursion IsKept m → i < length s → asked_of_frame o metadata (get_or s i d) ≡ Never →
     (l : List Action) → IsOverlay o l → (v : View) (port : ℕ) → HasVids v → matches_map m (fields_seen (view_of_actions l v) port metadata) ≡ false
 never_at o metadata m s i d e k lt is =
-    never_matches o metadata m i d k (subst (λ (x : List MatchField). i < length x) e lt) (subst (λ (x : List MatchField). asked_of o metadata (get_or x i d) ≡ Never) e is)
+    never_matches o metadata m i d k (subst (λ (x : List MatchField). i < length x) e lt) (subst (λ (x : List MatchField). asked_of_frame o metadata (get_or x i d) ≡ Never) e is)
 
 pub all_taken : (m s : List MatchField) (i : ℕ) → s ≡ m → length s ≤ i → take i m ≡ m
 all_taken m s i e h = take_all i m (omega (arith, h, ap length e))

@@ -82,5 +82,5 @@ asked_at o metadata e VlanVid = vid_asked (slice_get o.pushed.items 0) o.own e
 asked_at o metadata e VlanPcp = pcp_asked (slice_get o.pushed.items 0) o.own e
 asked_at o metadata e f = field_asked (value o.set f) e
 
-abbrev pub asked_of : Overlay → ℕ → MatchField → Asked
-asked_of o metadata e = asked_at o metadata e e.field
+abbrev pub asked_of_frame : Overlay → ℕ → MatchField → Asked
+asked_of_frame o metadata e = asked_at o metadata e e.field

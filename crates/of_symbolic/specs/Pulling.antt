@@ -15,10 +15,11 @@ use Rattle.of_symbolic.specs.declared.overlay.Overlay.{Overlay}
 use Rattle.of_symbolic.specs.declared.overlay.PushedTag.{PushedTag}
 use Rattle.of_symbolic.specs.declared.overlay.ReceivedTag.{ReceivedTag}
 use Rattle.of_symbolic.specs.declared.overlay.TagNumber.{TagNumber}
-use Rattle.of_symbolic.specs.declared.overlay.TagNumber.TheVariants.{Received, Unknown as NotKnown}
+use Rattle.of_symbolic.specs.declared.overlay.TagNumber.TheVariants.{Received}
 use Rattle.of_symbolic.specs.declared.pulling.Pulled.{Pulled}
 use Rattle.of_symbolic.specs.declared.pulling.Pulled.TheVariants.{Never, Unknown, When}
 use Rattle.of_symbolic.specs.Actions.{frame_of_actions, view_of_actions}
+use Rattle.of_symbolic.specs.Overlaid.{is_number_known}
 use Rattle.of_symbolic.specs.Overlays.{HasVids}
 
 -- ---- what is pulled
@@ -47,23 +48,19 @@ AsksConditions (When fields) = AreConditions fields.items
 
 -- ---- what is unknown
 
-abbrev pub is_not_known : TagNumber → Bool
-is_not_known NotKnown = true
-is_not_known other = false
-
 abbrev pub is_received : TagNumber → Bool
 is_received Received = true
 is_received other = false
 
 -- VLAN_VID of an unknown tag: of a tag that was pushed the bit 0x1000 is known
 abbrev pub is_vid_unknown : Option PushedTag → Option ReceivedTag → MatchField → Bool
-is_vid_unknown (Some tag) own e = is_not_known tag.vid && not (bits_looked_at e % 0x1000 == 0)
+is_vid_unknown (Some tag) own e = not (is_number_known tag.vid) && not (bits_looked_at e % 0x1000 == 0)
 is_vid_unknown None (Some tag) e = false
 is_vid_unknown None None e = true
 
 -- VLAN_PCP of an unknown tag. A PCP of 0 that was copied says: no tag, or a tag with that PCP. No list of fields says that.
 abbrev pub is_pcp_unknown : Option PushedTag → Option ReceivedTag → MatchField → Bool
-is_pcp_unknown (Some tag) own e = is_not_known tag.pcp || (is_received tag.pcp && (e.value == 0))
+is_pcp_unknown (Some tag) own e = not (is_number_known tag.pcp) || (is_received tag.pcp && (e.value == 0))
 is_pcp_unknown None (Some tag) e = false
 is_pcp_unknown None None e = true
 

@@ -50,11 +50,11 @@ abbrev pub tags_set : Field → ℕ → List PushedTag → Option ReceivedTag �
 tags_set f value [] own = record { pushed = []; own = option_map (received_set f value) own }
 tags_set f value (tag ∷ rest) own = record { pushed = pushed_set f value tag ∷ rest; own = own }
 
-abbrev pub tags_after : Action → Tags → Tags
-tags_after (actions.PushVlan type) k = record k { pushed = new_tag (slice_get k.pushed 0) k.own ∷ k.pushed }
-tags_after actions.PopVlan k = tags_popped k.pushed k.own
-tags_after (actions.SetField field value) k = tags_set field value k.pushed k.own
-tags_after other k = k
+abbrev pub tags_by : Action → Tags → Tags
+tags_by (actions.PushVlan type) k = record k { pushed = new_tag (slice_get k.pushed 0) k.own ∷ k.pushed }
+tags_by actions.PopVlan k = tags_popped k.pushed k.own
+tags_by (actions.SetField field value) k = tags_set field value k.pushed k.own
+tags_by other k = k
 
 -- before any action no tag was pushed, and that of the frame is as it was received
 abbrev pub no_tags : Tags
@@ -62,7 +62,7 @@ no_tags = record { pushed = []; own = Some (record { vid = None; pcp = None }) }
 
 -- after actions, the first one first
 abbrev pub tags_of_actions : List Action → Tags
-tags_of_actions = fold (λ k a. tags_after a k) no_tags
+tags_of_actions = fold (λ k a. tags_by a k) no_tags
 
 -- one of the actions is a POP_VLAN before which no pushed tag was left
 pub record PopsOwn (l : List Action) : Type 0 where
@@ -98,7 +98,7 @@ AreOwn None received tags = ⊤
 AreOwn (Some k) received tags = tags ≡ own_tags k received
 
 -- the tags of the packet, where `received` are those of the frame that came in
-abbrev pub AreTags : List PushedTag → Option ReceivedTag → List Tag → List Tag → Type 0
-AreTags [] own received tags = AreOwn own received tags
-AreTags (k ∷ ks) own received [] = ⊥
-AreTags (k ∷ ks) own received (tag ∷ tags) = IsPushed k (outermost received) tag × AreTags ks own received tags
+abbrev pub AreTagsAfter : List PushedTag → Option ReceivedTag → List Tag → List Tag → Type 0
+AreTagsAfter [] own received tags = AreOwn own received tags
+AreTagsAfter (k ∷ ks) own received [] = ⊥
+AreTagsAfter (k ∷ ks) own received (tag ∷ tags) = IsPushed k (outermost received) tag × AreTagsAfter ks own received tags

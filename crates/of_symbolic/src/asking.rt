@@ -3,7 +3,7 @@ ghost use Rattle.std.specs.Prelude.{◌≡◌, Some, slice_get};
 ghost use Rattle.of_layers.specs.declared.field.Field.TheVariants.{VlanVid};
 ghost use Rattle.of_oxm.specs.Relations.{agrees, bits_looked_at};
 ghost use Rattle.of_symbolic.specs.declared.asking.Asked.TheVariants.{Asks};
-ghost use Rattle.of_symbolic.specs.Asking.{asked_of, by_tag as by_tag_so, field_asked as field_asks, own_pcp as own_pcp_asks, own_vid as own_vid_asks, pcp_asked as pcp_asks, pushed_pcp as pushed_pcp_asks, pushed_vid as pushed_vid_asks, tagged_vid as tagged_vid_asks, vid_asked as vid_asks};
+ghost use Rattle.of_symbolic.specs.Asking.{asked_of_frame, by_tag as by_tag_so, field_asked as field_asks, own_pcp as own_pcp_asks, own_vid as own_vid_asks, pcp_asked as pcp_asks, pushed_pcp as pushed_pcp_asks, pushed_vid as pushed_vid_asks, tagged_vid as tagged_vid_asks, vid_asked as vid_asks};
 
 use crate::overlay::{Overlay, PushedTag, ReceivedTag, TagNumber, first_tag};
 use of_headers::Field;
@@ -168,7 +168,7 @@ fn pcp_asked(pushed: Option<PushedTag>, own: Option<ReceivedTag>, e: &MatchField
 
 /// What a field of a match on the packet, with this metadata, asks of the frame that came in.
 pub fn ask(overlay: &Overlay, metadata: u64, e: &MatchField) -> Asked
-    ensures { result ≡ asked_of overlay.now metadata e.now }
+    ensures { result ≡ asked_of_frame overlay.now metadata e.now }
 {
     match e.field {
         Field::InPort => Asked::Asks(*e),

@@ -1,15 +1,17 @@
 //! What rewriting actions make of a frame, and what an overlay says about it.
-ghost use Rattle.std.specs.Prelude.{◌≡◌, ◌∷◌, ◌++◌, ℕ, List, [], None};
+ghost use Rattle.std.specs.Prelude.{◌≡◌, ◌∷◌, ◌++◌, ℕ, List, [], None, true};
+ghost use Rattle.of_layers.specs.declared.field.Field.{Field};
 ghost use Rattle.of_headers.specs.FieldMap.{value};
 ghost use Rattle.of_oxm.specs.declared.match_field.MatchField.{MatchField};
 ghost use Rattle.of_actions.specs.declared.action.Action.{Action};
 ghost use Rattle.of_actions.specs.declared.action.Action.TheVariants.{PopVlan, PushVlan};
 ghost use Rattle.of_rewrite.specs.Frames.{IsFrame};
-ghost use Rattle.of_rewrite.specs.Views.{IsView, View};
+ghost use Rattle.of_rewrite.specs.Views.{IsView, View, fields_seen};
 ghost use Rattle.of_symbolic.specs.declared.overlay.Overlay.{Overlay};
 ghost use Rattle.of_symbolic.specs.Actions.{AreRewriting, frame_of_actions, view_of_actions};
 ghost use Rattle.of_symbolic.specs.declared.pulling.Pulled.{Pulled};
 ghost use Rattle.of_symbolic.specs.Overlays.{HasVids, IsOverlay, Shows, tags_in};
+ghost use Rattle.of_symbolic.specs.Overlaid.{is_field_known, overlaid};
 ghost use Rattle.of_symbolic.specs.Pulling.{IsPulled, IsTrueOfFrames};
 ghost use Rattle.of_symbolic.specs.Tags.{PopsOwn};
 
@@ -25,10 +27,13 @@ pub fn rewritten_frames_have_views()
 
 /// What an overlay says about a packet is so, for each frame that came in.
 ///
+/// `fields`: so the fields that a lookup of the packet compares are known, except those of an unknown tag (OpenFlow 1.3.5, 5.3).
 /// `tag`: if nothing is known of the outermost tag of that frame, a POP_VLAN met no pushed tag.
 /// `back`: PUSH_VLAN and then POP_VLAN leave what was known before.
 pub fn overlays_show_views()
     ensures view { (o : Overlay) (actions : List Action) (v : View) → IsOverlay o actions → Shows (value o.set) (tags_in o) v (view_of_actions actions v) }
+    ensures fields { (o : Overlay) (actions : List Action) (v : View) (port metadata : ℕ) (f : Field) → IsOverlay o actions → is_field_known o f ≡ true →
+        fields_seen (view_of_actions actions v) port metadata f ≡ overlaid o metadata (fields_seen v port 0) f }
     ensures tag { (o : Overlay) (actions : List Action) → IsOverlay o actions → o.own ≡ None → PopsOwn actions }
     ensures back { (o : Overlay) (actions : List Action) (type : ℕ) → IsOverlay o actions → IsOverlay o (actions ++ PushVlan type ∷ PopVlan ∷ []) }
 {}

@@ -45,7 +45,7 @@ pub struct Overlay {
     pub set: FieldKey,
     /// The tags that were pushed, the outermost first.
     pub pushed: Vec<PushedTag>,
-    /// The outermost tag of the frame that came in. None if POP_VLAN popped it.
+    /// The outermost tag of the frame that came in. None after a POP_VLAN that met no pushed tag: nothing is known of the tags below it.
     pub own: Option<ReceivedTag>,
 }
 
@@ -76,6 +76,7 @@ fn new_tag(pushed: Option<PushedTag>, own: Option<ReceivedTag>) -> PushedTag
     }
 }
 
+/// The outermost tag that was pushed, if one is left.
 pub fn first_tag(tags: &[PushedTag]) -> Option<PushedTag>
     ensures { result ≡ slice_get tags.now 0 }
 {
@@ -83,6 +84,7 @@ pub fn first_tag(tags: &[PushedTag]) -> Option<PushedTag>
 }
 
 impl PushedTag {
+    // SET_FIELD: a VID has 12 bits, and a PCP 3.
     fn with_field(self, field: Field, value: u128) -> PushedTag
         ensures { result ≡ pushed_set field value self }
     {
@@ -101,6 +103,7 @@ impl PushedTag {
 }
 
 impl ReceivedTag {
+    // SET_FIELD, in the same bits.
     fn with_field(self, field: Field, value: u128) -> ReceivedTag
         ensures { result ≡ received_set field value self }
     {
@@ -133,7 +136,7 @@ impl Overlay {
         }
     }
 
-    /// The same after one more action. Out of memory, it is as before.
+    /// The same after one more action (5.12): this is then the overlay of the packet after all actions so far. If memory runs out, it is as before.
     pub fn after(&mut self, action: &Action) -> Result<(), AllocError>
         ensures after { OnOk result ((l : List TheAction) → IsOverlay self.old l → IsOverlay self.new (l ++ action.now ∷ [])) }
         ensures err { OnErr result ((l : List TheAction) → IsOverlay self.old l → IsOverlay self.new l) }

@@ -148,7 +148,7 @@ fn a_dump_is_imported(rt: HostRuntime) -> Result<(), Fail> {
     let done = imported(rt.alloc(), DUMP, PLAIN)?;
     assert!(rt; done.text.as_slice() == WRITTEN);
     assert!(rt; done.faults.is_empty());
-    assert!(rt; done.refused.is_empty());
+    assert!(rt; done.kept.refused.is_empty());
     Ok(())
 }
 
@@ -190,7 +190,7 @@ fn lines_at_fault_are_named(rt: HostRuntime) {
 fn lines_at_fault_are_left_out(rt: HostRuntime) -> Result<(), Fail> {
     let done = imported(rt.alloc(), FAULTS, SKIP)?;
     assert_eq!(rt; done.faults.len(), 8);
-    assert_eq!(rt; done.refused.len(), 1);
+    assert_eq!(rt; done.kept.refused.len(), 1);
     assert_eq!(rt; done.changed, 1);
     assert!(rt; done.text.as_slice() == LEFT);
     Ok(())

@@ -11,4 +11,6 @@ mod frames;
 #[cfg(test)]
 mod import;
 #[cfg(test)]
+mod import_json;
+#[cfg(test)]
 mod text;

@@ -6,7 +6,8 @@ use crate::parts::print_part;
 use crate::standard_input::StandardInput;
 use of_classifier::Scan;
 use of_command_line::{Check, CheckOutput, FileKind};
-use of_import::Mode;
+use of_import::{Import, Mode};
+use of_import_report::flow_lines_of;
 use of_replay::Ended;
 use of_replay::streams::{ReaderSource, WriterSink};
 use of_report::{Content, Form, content_of, lines_by_table, report_events, report_flows};
@@ -78,14 +79,14 @@ fn events_reported(rt: &HostRuntime, asked: &Check, bytes: &[u8]) -> Result<bool
     report_events::<Lookups, _, _>(rt.alloc(), &mut reader, steps, form, &mut writer)
 }
 
-/// The flow text of what ovs-ofctl prints.
-pub fn text_of_table(rt: &HostRuntime, kind: FileKind, bytes: &[u8]) -> Result<Vec<u8>, NoReport> {
+/// The import of what ovs-ofctl prints, whole.
+pub fn import_whole(rt: &HostRuntime, kind: FileKind, bytes: &[u8]) -> Result<Import, NoReport> {
     let mode = Mode {
         skip: false,
         renumber: false,
     };
     match import_of(rt, bytes, mode) {
-        Ok(done) => Ok(done.text),
+        Ok(done) => Ok(done),
         Err(NotImported::Ended(ended)) => Err(NoReport::Ended(ended)),
         Err(NotImported::Faults) => {
             say_guess(rt, kind);
@@ -111,17 +112,21 @@ fn text_reported(rt: &HostRuntime, asked: &Check, text: &[u8]) -> Result<bool, E
     }
 }
 
+// The report on what ovs-ofctl prints: its entries have the lines of their flows there.
+fn table_reported(rt: &HostRuntime, asked: &Check, done: &Import) -> Result<bool, Ended> {
+    match flow_lines_of(rt.alloc(), &done.kept.flows) {
+        Ok(lines) => flows_reported(rt, asked, &done.text, &lines),
+        Err(_) => Err(Ended::NoMemory),
+    }
+}
+
 /// Prints the report on the file. Returns whether something was found, or how the run ended, and what was read.
 pub fn reported(rt: &HostRuntime, asked: &Check) -> Result<(Result<bool, Ended>, Seen), NoReport> {
     let bytes = bytes_of(rt, asked.file.as_str())?;
     let found = match content_as(asked.kind, &bytes) {
         Content::EventFile => events_reported(rt, asked, &bytes),
         Content::FlowText => text_reported(rt, asked, &bytes),
-        // its entries have other lines than those of the flow text that it becomes
-        Content::OvsTable => {
-            let text = text_of_table(rt, asked.kind, &bytes)?;
-            flows_reported(rt, asked, &text, &[])
-        }
+        Content::OvsTable => table_reported(rt, asked, &import_whole(rt, asked.kind, &bytes)?),
     };
     Ok((found, Seen::whole(bytes)))
 }

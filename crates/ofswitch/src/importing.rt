@@ -3,6 +3,7 @@
 use crate::hinting::say_refusal;
 use of_hints::import_hint;
 use of_import::{Import, ImportError, LineFaults, LineRefusal, Mode, import_tables, name_of};
+use of_import_report::{import_as_json, left_out};
 use of_replay::streams::{ReaderSource, WriterSink};
 use of_replay::{Ended, READ_SIZE, ended_by, read_file, write_all, zeros};
 use of_text::TextFault;
@@ -54,15 +55,29 @@ pub fn imported<R: Read + Drop>(
     rt: &HostRuntime,
     reader: R,
     mode: Mode,
-) -> Result<usize, NotImported> {
-    let bytes = match read_whole(rt.alloc(), reader) {
-        Ok(bytes) => bytes,
-        Err(ended) => return Err(NotImported::Ended(ended)),
-    };
+) -> Result<u128, NotImported> {
+    let bytes = read_whole(rt.alloc(), reader).map_err(NotImported::Ended)?;
     let done = import_of(rt, &bytes, mode)?;
     print_text(rt, &done.text)?;
-    say_faults(rt, &done.faults, &done.refused);
+    say_faults(rt, &done.faults, &done.kept.refused);
     Ok(left_out(&done))
+}
+
+/// The same as one JSON document, which also says what is refused; standard error names nothing.
+pub fn imported_as_json<R: Read + Drop>(
+    rt: &HostRuntime,
+    reader: R,
+    mode: Mode,
+) -> Result<u128, NotImported> {
+    let bytes = read_whole(rt.alloc(), reader).map_err(NotImported::Ended)?;
+    let Ok(answer) = import_as_json(rt.alloc(), &bytes, mode) else {
+        return Err(NotImported::Ended(Ended::NoMemory));
+    };
+    print_text(rt, &answer.json)?;
+    match answer.left_out {
+        Some(count) => Ok(count),
+        None => Err(NotImported::Faults),
+    }
 }
 
 /// The import of a table; if there is none, standard error says why.
@@ -81,11 +96,6 @@ fn say_import_hint(rt: &HostRuntime, bytes: &[u8]) {
     if let Some(hint) = import_hint(bytes) {
         let _ = eprintln!(rt; "{hint}");
     }
-}
-
-fn left_out(done: &Import) -> usize {
-    let lines = done.faults.len().saturating_add(done.refused.len());
-    lines.saturating_add(done.changed)
 }
 
 // Names what is wrong on standard error, except what other commands print at their end.

@@ -19,7 +19,7 @@ mod tracing;
 use crate::checking::{NoReport, reported};
 use crate::lookups::Lookups;
 use hinting::{Seen, Watched, bytes_of, say_hint, say_refusal, say_unread};
-use importing::{NotImported, imported, read_whole};
+use importing::{NotImported, imported, imported_as_json, read_whole};
 use live::live_rows;
 use of_asking::Answering;
 use of_check::{check_events, check_file};
@@ -103,6 +103,7 @@ fn carry_out(rt: &HostRuntime, request: &Request) -> ExitCode {
             file,
             skip,
             renumber,
+            json,
         } => run_import(
             rt,
             file.as_str(),
@@ -110,6 +111,7 @@ fn carry_out(rt: &HostRuntime, request: &Request) -> ExitCode {
                 skip: *skip,
                 renumber: *renumber,
             },
+            *json,
         ),
         Request::Say { messages } => run_say(rt, messages.as_str()),
         Request::Serve(asked) => run_serve(rt, asked),
@@ -117,12 +119,12 @@ fn carry_out(rt: &HostRuntime, request: &Request) -> ExitCode {
     }
 }
 
-fn run_import(rt: &HostRuntime, path: &str, mode: Mode) -> ExitCode {
+fn run_import(rt: &HostRuntime, path: &str, mode: Mode, json: bool) -> ExitCode {
     let done = if path == "-" {
-        imported(rt, StandardInput::new(rt), mode)
+        import_over(rt, StandardInput::new(rt), mode, json)
     } else {
         match File::open(rt, path) {
-            Ok(file) => imported(rt, file, mode),
+            Ok(file) => import_over(rt, file, mode, json),
             Err(error) => return end_unopened(rt, path, &error),
         }
     };
@@ -131,6 +133,20 @@ fn run_import(rt: &HostRuntime, path: &str, mode: Mode) -> ExitCode {
         Ok(_) => ExitCode::from(LEFT_OUT),
         Err(NotImported::Faults) => ExitCode::from(BAD_LINES),
         Err(NotImported::Ended(ended)) => end_file(rt, path, &Seen::nothing(rt.alloc()), &ended),
+    }
+}
+
+// How many lines of a table are left out or lose an action.
+fn import_over<R: Read + Drop>(
+    rt: &HostRuntime,
+    reader: R,
+    mode: Mode,
+    json: bool,
+) -> Result<u128, NotImported> {
+    if json {
+        imported_as_json(rt, reader, mode)
+    } else {
+        imported(rt, reader, mode)
     }
 }
 

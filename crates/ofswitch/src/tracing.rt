@@ -1,7 +1,7 @@
 //! Traces of frames.
 ghost use Rattle.std.specs.Prelude.{◌≡◌};
 
-use crate::checking::{NoReport, bytes_of, content_as, text_of_table};
+use crate::checking::{NoReport, bytes_of, content_as, import_whole};
 use crate::hinting::Seen;
 use crate::lookups::Lookups;
 use of_command_line::{Asked, FileKind, Trace};
@@ -86,8 +86,8 @@ pub fn traced_by_content(rt: &HostRuntime, asked: &Trace) -> Result<(Ended, Seen
             traced_on_flows(rt, asked, &mut reader)
         }
         Content::OvsTable => {
-            let text = text_of_table(rt, asked.kind, &bytes)?;
-            let mut reader = ReaderSource::new(text.as_slice());
+            let done = import_whole(rt, asked.kind, &bytes)?;
+            let mut reader = ReaderSource::new(done.text.as_slice());
             traced_on_flows(rt, asked, &mut reader)
         }
     };
