@@ -8,7 +8,6 @@ use Rattle.std.proofs.lemmas.List.Elements.{Contains-append_left, Contains-push,
 use Rattle.std.proofs.lemmas.Option.{slice_get_past}
 use Rattle.of_layers.specs.declared.field.Field.{Field}
 use Rattle.of_oxm.specs.declared.match_field.MatchField.{MatchField}
-use Rattle.of_regions.specs.declared.region.Region.{Region}
 use Rattle.of_regions.specs.Regions.{IsSomeTagging}
 use Rattle.of_regions.proofs.SearchLemmas.{contains_at}
 use Rattle.of_symbolic.specs.declared.branching.Branch.{Branch}
@@ -18,7 +17,6 @@ use Rattle.of_symbolic.specs.declared.pulled_entry.PulledEntry.{PulledEntry}
 use Rattle.of_symbolic.specs.Branches.{HaveDistinctEntries}
 use Rattle.of_symbolic.specs.Branching.{AddsBranch, AddsHit, HasOneMore, IsAhead, IsBranchBehind, IsHitAt, IsHitBranch, IsHitOrMiss, IsPartBehind, IsPartBehindAll, NoEntryAhead, is_agreed, ranked_place}
 use Rattle.of_symbolic.specs.Parts.{AreListsOfConditions, InPart, IsMatchedPart, IsUnmatchedPart}
-use Rattle.of_symbolic.proofs.PartLemmas.{none_of}
 
 -- ---- behind entries
 

@@ -18,13 +18,13 @@ use Rattle.of_shapes.specs.Rules.{shape_of, tagging_of}
 use Rattle.of_shapes.proofs.Shapes.{shaped, tags_seen}
 use Rattle.of_regions.specs.declared.meeting.Meeting.TheVariants.{Apart, Whole}
 use Rattle.of_regions.specs.declared.region.Region.{Region}
-use Rattle.of_regions.specs.Conditions.{AreConditions, IsCondition}
+use Rattle.of_regions.specs.Conditions.{AreConditions}
 use Rattle.of_regions.specs.Meeting.{Meets}
 use Rattle.of_regions.specs.Narrowing.{AreNarrowed}
 use Rattle.of_regions.specs.Regions.{InRegion, IsSomeTagging}
 use Rattle.of_regions.specs.Searching.{InSome, IsStart}
 use Rattle.of_symbolic.specs.declared.part.Part.{Part}
-use Rattle.of_symbolic.specs.Parts.{AreLeftRegions, AreListsOfConditions, InPart, IsMatchedPart, IsUnmatchedPart, IsWholePart, NoneOfMatches, no_metadata, received_fields}
+use Rattle.of_symbolic.specs.Parts.{AreLeftRegions, AreListsOfConditions, InPart, IsListed, IsMatchedPart, IsUnmatchedPart, IsWholePart, NoneOfMatches, no_metadata, received_fields}
 
 -- ---- lists
 
@@ -116,6 +116,13 @@ whole_is start part begins are lacks = record {
 
 pub unmatched_apart : (m : List MatchField) (part : Part) → AreApart m part.regions.items → IsUnmatchedPart m part part
 unmatched_apart m part apart = record { within = λ fields h. (h, apart fields h.0); all = λ fields h no. h; conditions = λ c. c }
+
+pub unmatched_listed : (m : List MatchField) (part : Part) → IsListed part.lacks.items m → IsUnmatchedPart m part part
+unmatched_listed m part listed = record {
+  within = λ fields h. (h, ap (λ (x : List MatchField). matches_map x fields) (sym listed.2) ∙ h.1 listed.0 listed.1);
+  all = λ fields h no. h;
+  conditions = λ c. c;
+}
 
 -- each list of conditions, with one more
 pub conditions_more : (old new : List (Vec MatchField)) (own : Vec MatchField) → new ≡ old ++ own ∷ [] → AreConditions own.items → AreListsOfConditions old → AreListsOfConditions new

@@ -22,6 +22,10 @@ use Rattle.of_symbolic.specs.declared.part.Part.{Part}
 abbrev pub AreListsOfConditions : List (Vec MatchField) → Type 0
 AreListsOfConditions lacks = (m : Vec MatchField) → Contains lacks m → AreConditions m.items
 
+-- these conditions are one of the lists
+abbrev pub IsListed : List (Vec MatchField) → List MatchField → Type 0
+IsListed lacks m = (x : Vec MatchField) × Contains lacks x × (x.items ≡ m)
+
 -- none of these lists of conditions matches
 abbrev pub NoneOfMatches : List (Vec MatchField) → (Field → Option ℕ) → Type 0
 NoneOfMatches lacks fields = (m : Vec MatchField) → Contains lacks m → matches_map m.items fields ≡ false

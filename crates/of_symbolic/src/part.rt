@@ -6,7 +6,7 @@ ghost use Rattle.of_regions.specs.declared.meeting.Meeting.TheVariants.{Apart, W
 ghost use Rattle.of_regions.specs.Conditions.{AreConditions};
 ghost use Rattle.of_regions.specs.Meeting.{Meets};
 ghost use Rattle.of_regions.specs.Searching.{InSome};
-ghost use Rattle.of_symbolic.specs.Parts.{AreLeftRegions, AreListsOfConditions, FindsInPart, HaveConditions, IsMatchedPart, IsUnmatchedPart, IsWholePart};
+ghost use Rattle.of_symbolic.specs.Parts.{AreLeftRegions, AreListsOfConditions, FindsInPart, HaveConditions, IsListed, IsMatchedPart, IsUnmatchedPart, IsWholePart};
 
 use of_headers::Field;
 use of_oxm::{Match, MatchField};
@@ -78,6 +78,24 @@ fn rivals_in<'a>(alloc: Global, lacks: &'a [Vec<MatchField>]) -> Result<Vec<Riva
     Ok(rivals)
 }
 
+fn are_same(xs: &[MatchField], ys: &[MatchField]) -> bool
+    ensures { result ≡ true → xs.now ≡ ys.now }
+{
+    xs == ys
+}
+
+// Whether a list of conditions is one of these.
+fn is_listed(lacks: &[Vec<MatchField>], fields: &[MatchField]) -> bool
+    ensures { result ≡ true → IsListed lacks.now fields.now }
+{
+    for index in 0..lacks.len() {
+        if are_same(&lacks[index], fields) {
+            return true;
+        }
+    }
+    false
+}
+
 fn copied_conditions(fields: &Vec<MatchField>) -> Result<Vec<MatchField>, AllocError>
     ensures { IfOk result (λ copy. copy.items ≡ fields.now.items) }
 {
@@ -108,6 +126,9 @@ impl Part {
         ensures { IfOk result (IsUnmatchedPart fields.now.items self) }
     {
         if are_apart(&self.regions, fields) {
+            return Ok(self);
+        }
+        if is_listed(&self.lacks, fields) {
             return Ok(self);
         }
         let mut lacks = self.lacks;
