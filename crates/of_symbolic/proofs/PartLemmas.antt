@@ -1,6 +1,7 @@
 -- Parts, with more regions and with fewer packets.
-use Rattle.std.proofs.Common.{◌≡◌, ◌⊎◌, ◌<◌, ◌+◌, ℕ, Bool, true, false, List, [], ◌∷◌, ◌++◌, length, get_or, take, Option, Some, refl, sym, ap, subst, ◌∙◌, arith, inl, inr}
-use Rattle.std.specs.Prelude.{slice_get, ◌&&◌}
+use Rattle.std.proofs.Common.{◌≡◌, ◌⊎◌, ◌<◌, ◌+◌, ◌%◌, ◌^◌, ℕ, Bool, eqb, true, false, List, [], ◌∷◌, ◌++◌, length, get_or, take, Option, None, Some, refl, sym, ap, subst, ◌∙◌, arith, inl, inr}
+use Rattle.std.specs.Prelude.{bit_and, slice_get, ◌&&◌}
+use Rattle.std.proofs.lemmas.Bool.{eqb-true}
 use Rattle.std.specs.List.{Contains}
 use Rattle.std.specs.Global.{Vec}
 use Rattle.std.proofs.lemmas.List.{take_more}
@@ -8,11 +9,11 @@ use Rattle.std.proofs.lemmas.List.Elements.{Contains-append_left, Contains-push,
 use Rattle.std.proofs.lemmas.Option.{slice_get-get_or}
 use Rattle.of_layers.specs.declared.field.Field.{Field}
 use Rattle.of_layers.specs.declared.field.Field.TheVariants.{Metadata}
-use Rattle.of_layers.specs.Fields.{row_of}
+use Rattle.of_layers.specs.Fields.{ones_of, row_of}
 use Rattle.of_layers.specs.Reading.{layers_of}
 use Rattle.of_headers.specs.FieldMap.{field_map}
 use Rattle.of_oxm.specs.declared.match_field.MatchField.{MatchField}
-use Rattle.of_oxm.specs.Relations.{agrees, matches_map}
+use Rattle.of_oxm.specs.Relations.{matches_map}
 use Rattle.of_rewrite.specs.Frames.{IsFrame}
 use Rattle.of_shapes.specs.Rules.{shape_of, tagging_of}
 use Rattle.of_shapes.proofs.Shapes.{shaped, tags_seen}
@@ -24,7 +25,8 @@ use Rattle.of_regions.specs.Narrowing.{AreNarrowed}
 use Rattle.of_regions.specs.Regions.{InRegion, IsSomeTagging}
 use Rattle.of_regions.specs.Searching.{InSome, IsStart}
 use Rattle.of_symbolic.specs.declared.part.Part.{Part}
-use Rattle.of_symbolic.specs.Parts.{AreLeftRegions, AreListsOfConditions, InPart, IsListed, IsMatchedPart, IsUnmatchedPart, IsWholePart, NoneOfMatches, no_metadata, received_fields}
+use Rattle.of_symbolic.specs.Parts.{AreLeftRegions, AreListsOfConditions, InPart, IsListed, IsMatchedPart, IsUnmatchedPart, IsWholePart, NoneOfMatches, received_fields}
+use Rattle.of_symbolic.proofs.Following.{low_bits}
 
 -- ---- lists
 
@@ -88,6 +90,9 @@ one_dropped m regions i r out is lt whole old = record {
 
 -- ---- all frames
 
+abbrev pub no_metadata : MatchField
+no_metadata = record { field = Metadata; value = 0; mask = None }
+
 pub some_tagging : (frame : List ℕ) (port metadata : ℕ) → IsFrame frame → IsSomeTagging (field_map (layers_of frame) port metadata)
 some_tagging frame port metadata h = (tagging_of (layers_of frame).tags, tags_seen frame port metadata h.1 h.0)
 
@@ -95,12 +100,15 @@ received_metadata : (frame : List ℕ) (port : ℕ) → matches_map (no_metadata
 unfolding row_of
 received_metadata frame port = refl
 
-metadata_asked : (fields : Field → Option ℕ) → matches_map (no_metadata ∷ []) fields ≡ true → agrees no_metadata (fields Metadata) ≡ true
-metadata_asked fields h = by_test (agrees no_metadata (fields Metadata)) refl h
+metadata_asked : (frame : List ℕ) (port metadata : ℕ) → metadata < 2 ^ 64 → matches_map (no_metadata ∷ []) (field_map (layers_of frame) port metadata) ≡ true → metadata ≡ 0
+unfolding row_of
+metadata_asked frame port metadata fits h = by_test (eqb (bit_and metadata (ones_of Metadata)) 0) refl h
   where
-    by_test : (b : Bool) → agrees no_metadata (fields Metadata) ≡ b → matches_map (no_metadata ∷ []) fields ≡ true → agrees no_metadata (fields Metadata) ≡ true
-    by_test true e h = e
-    by_test false e h = absurd (let g : false ≡ true = sym (ap (λ (b : Bool). b && true) e) ∙ h in cc)
+    by_test : (b : Bool) → eqb (bit_and metadata (ones_of Metadata)) 0 ≡ b → (b && true) ≡ true → metadata ≡ 0
+    by_test true e h =
+        let none : metadata % 2 ^ 64 ≡ 0 = sym (low_bits metadata Metadata) ∙ eqb-true _ _ e in
+        omega (arith, none, fits)
+    by_test false e h = absurd cc
 
 pub whole_is : (start : List Region) (part : Part) → IsStart [] start → AreNarrowed (no_metadata ∷ []) start part.regions.items → part.lacks.items ≡ [] → IsWholePart part
 whole_is start part begins are lacks = record {
@@ -109,7 +117,7 @@ whole_is start part begins are lacks = record {
         (begins.all (shape_of (layers_of frame).body) (tagging_of (layers_of frame).tags) (received_fields frame port) (shaped frame port 0 h.1 h.0) (tags_seen frame port 0 h.1 h.0) refl) (received_metadata frame port),
     λ m c. absurd (none_of m (subst (λ (ms : List (Vec MatchField)). Contains ms m) lacks c)),
   );
-  metadata = λ fields h. metadata_asked fields (are.within fields h.0).1;
+  metadata = λ frame port metadata fits h. metadata_asked frame port metadata fits (are.within (field_map (layers_of frame) port metadata) h.0).1;
 }
 
 -- ---- the packets that a match does not match

@@ -1,13 +1,12 @@
 -- A PART OF ALL PACKETS: packets of some regions that none of some lists of conditions matches (OpenFlow 1.3.5, 5.3).
-use Rattle.std.specs.Prelude.{◌≡◌, ℕ, List, Option, None, map, true, false}
+use Rattle.std.specs.Prelude.{◌≡◌, ℕ, ◌<◌, ◌^◌, List, Option, map, true, false}
 use Rattle.std.specs.List.{Contains}
 use Rattle.std.specs.Global.{Vec}
 use Rattle.of_layers.specs.declared.field.Field.{Field}
-use Rattle.of_layers.specs.declared.field.Field.TheVariants.{Metadata}
 use Rattle.of_layers.specs.Reading.{layers_of}
 use Rattle.of_headers.specs.FieldMap.{field_map}
 use Rattle.of_oxm.specs.declared.match_field.MatchField.{MatchField}
-use Rattle.of_oxm.specs.Relations.{agrees, matches_map}
+use Rattle.of_oxm.specs.Relations.{matches_map}
 use Rattle.of_rewrite.specs.Frames.{IsFrame}
 use Rattle.of_regions.specs.declared.region.Region.{Region}
 use Rattle.of_regions.specs.declared.rival.Rival.{Rival}
@@ -38,13 +37,10 @@ InPart part fields = InSome part.regions.items fields × NoneOfMatches part.lack
 abbrev pub received_fields : List ℕ → ℕ → Field → Option ℕ
 received_fields frame port = field_map (layers_of frame) port 0
 
-abbrev pub no_metadata : MatchField
-no_metadata = record { field = Metadata; value = 0; mask = None }
-
 -- all frames, by any port, and no packet with other metadata
 pub record IsWholePart (part : Part) : Type 0 where
   pub all : (frame : List ℕ) (port : ℕ) → IsFrame frame → InPart part (received_fields frame port)
-  pub metadata : (fields : Field → Option ℕ) → InPart part fields → agrees no_metadata (fields Metadata) ≡ true
+  pub metadata : (frame : List ℕ) (port metadata : ℕ) → metadata < 2 ^ 64 → InPart part (field_map (layers_of frame) port metadata) → metadata ≡ 0
 
 -- ---- what a search in it finds
 
