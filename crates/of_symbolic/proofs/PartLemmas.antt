@@ -125,6 +125,12 @@ whole_is start part begins are lacks = record {
 pub unmatched_apart : (m : List MatchField) (part : Part) → AreApart m part.regions.items → IsUnmatchedPart m part part
 unmatched_apart m part apart = record { within = λ fields h. (h, apart fields h.0); all = λ fields h no. h; conditions = λ c. c }
 
+pub one_unlisted : (lacks : List (Vec MatchField)) (i : ℕ) (own : Vec MatchField) (m : List MatchField) → own ≡ get_or lacks i own → i < length lacks → (own.items ≡ m → ⊥) → ¬ (IsListed (take i lacks) m) → ¬ (IsListed (take (i + 1) lacks) m)
+one_unlisted lacks i own m is lt other none listed = elim (first_or_next lacks i own listed.0 is lt listed.1) as (λ w. ⊥) [
+  | inl first ↦ none (listed.0, first, listed.2)
+  | inr same ↦ other (ap (λ (x : Vec MatchField). x.items) same ∙ listed.2)
+]
+
 pub unmatched_listed : (m : List MatchField) (part : Part) → IsListed part.lacks.items m → IsUnmatchedPart m part part
 unmatched_listed m part listed = record {
   within = λ fields h. (h, ap (λ (x : List MatchField). matches_map x fields) (sym listed.2) ∙ h.1 listed.0 listed.1);

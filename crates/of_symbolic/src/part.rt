@@ -1,5 +1,5 @@
 //! Parts of all packets.
-ghost use Rattle.std.specs.Prelude.{◌≡◌, ℕ, Option, IfOk, true, false};
+ghost use Rattle.std.specs.Prelude.{◌≡◌, ◌↔◌, ℕ, Option, IfOk, IsTrue, true, false};
 ghost use Rattle.of_layers.specs.declared.field.Field.{Field as TheField};
 ghost use Rattle.of_oxm.specs.Relations.{matches_map};
 ghost use Rattle.of_regions.specs.declared.meeting.Meeting.TheVariants.{Apart, Whole};
@@ -79,14 +79,14 @@ fn rivals_in<'a>(alloc: Global, lacks: &'a [Vec<MatchField>]) -> Result<Vec<Riva
 }
 
 fn are_same(xs: &[MatchField], ys: &[MatchField]) -> bool
-    ensures { result ≡ true → xs.now ≡ ys.now }
+    ensures { IsTrue result ↔ (xs.now ≡ ys.now) }
 {
     xs == ys
 }
 
 // Whether a list of conditions is one of these.
 fn is_listed(lacks: &[Vec<MatchField>], fields: &[MatchField]) -> bool
-    ensures { result ≡ true → IsListed lacks.now fields.now }
+    ensures { IsTrue result ↔ IsListed lacks.now fields.now }
 {
     for index in 0..lacks.len() {
         if are_same(&lacks[index], fields) {

@@ -6,7 +6,7 @@ pub returns-then-are_apart : goal.returns-then-are_apart
 returns-then-are_apart c = unmatched_apart c.args.fields.now.items c.args.self (rw (sym c.deref.ensures.value, sym c.deref-2.ensures.value) (c.are_apart.ensures c.if-are_apart.true))
 
 pub returns-then-is_listed : goal.returns-then-is_listed
-returns-then-is_listed c = unmatched_listed c.args.fields.now.items c.args.self (rw (sym c.deref-3.ensures.value, sym c.deref-4.ensures.value) (c.is_listed.ensures c.if-is_listed.true))
+returns-then-is_listed c = unmatched_listed c.args.fields.now.items c.args.self (rw (sym c.deref-3.ensures.value, sym c.deref-4.ensures.value) (c.is_listed.ensures.0 c.if-is_listed.true))
 
 pub returns : goal.returns
 returns c =
