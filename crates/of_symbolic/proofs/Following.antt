@@ -9,7 +9,7 @@ use Rattle.of_layers.specs.Fields.{row_of, number_of, bit_count, ones_of}
 use Rattle.of_layers.proofs.Table.{same_number}
 
 -- the bits of a field are the low bits of a number
-low_bits : (v : ℕ) (f : Field) → bit_and v (ones_of f) ≡ v % 2 ^ bit_count f
+pub low_bits : (v : ℕ) (f : Field) → bit_and v (ones_of f) ≡ v % 2 ^ bit_count f
 unfolding row_of
 low_bits v f = elim f as (λ f. bit_and v (ones_of f) ≡ v % 2 ^ bit_count f) [ InPort ↦ and_mask v 32 | f ↦ and_mask v (bit_count f) ]
 

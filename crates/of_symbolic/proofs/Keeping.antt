@@ -19,8 +19,9 @@ use Rattle.of_symbolic.specs.declared.overlay.ReceivedTag.{ReceivedTag}
 use Rattle.of_symbolic.specs.declared.overlay.TagNumber.{TagNumber}
 use Rattle.of_symbolic.specs.declared.overlay.TagNumber.TheVariants.{Value, Received, IfTagged, Unknown}
 use Rattle.of_symbolic.specs.Asking.{any_value, asked_at, by_tag, field_asked, own_pcp, own_vid, pcp_asked, pushed_pcp, pushed_vid, vid_asked, vid_bits, with_tag, without_tag}
+use Rattle.of_regions.specs.Conditions.{IsCondition}
 use Rattle.of_symbolic.specs.Overlaid.{is_number_known}
-use Rattle.of_symbolic.specs.Pulling.{IsKeptOrAny, is_pcp_unknown, is_unknown_at, is_vid_unknown, is_received}
+use Rattle.of_symbolic.specs.Pulling.{is_pcp_unknown, is_unknown_at, is_vid_unknown, is_received}
 use Rattle.of_symbolic.proofs.Holding.{IsVid}
 
 -- ---- VLAN_VID
@@ -42,7 +43,7 @@ abbrev pub KeptIfAsked : Asked → Type 0
 KeptIfAsked Never = ⊤
 KeptIfAsked Open = ⊤
 KeptIfAsked Nothing = ⊤
-KeptIfAsked (Asks x) = IsKeptOrAny x
+KeptIfAsked (Asks x) = IsCondition x
 
 with_kept : IsKept with_tag
 unfolding row_of

@@ -9,3 +9,8 @@ pub mod Vids
 pub mod SoFar
 pub mod Popping
 pub mod Lookups
+pub mod PartLemmas
+pub mod FindLemmas
+pub mod PulledLemmas
+pub mod BranchLemmas
+pub mod HitLemmas

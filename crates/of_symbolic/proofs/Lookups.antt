@@ -17,7 +17,7 @@ use Rattle.of_symbolic.specs.Pulling.{IsPulled, IsTrueOfFrames}
 use Rattle.of_symbolic.proofs.Rewriting.{stays_frame, views_follow_all}
 use Rattle.of_symbolic.proofs.Vids.{frame_small}
 
-same_match : (m : List MatchField) (f g : Field → Option ℕ) → ((x : Field) → f x ≡ g x) → matches_map m f ≡ matches_map m g
+pub same_match : (m : List MatchField) (f g : Field → Option ℕ) → ((x : Field) → f x ≡ g x) → matches_map m f ≡ matches_map m g
 same_match [] f g h = refl
 same_match (e ∷ m) f g h = λ j. agrees e (h e.field j) && same_match m f g h j
 
@@ -28,11 +28,11 @@ packet_seen : (l : List Action) (frame : List ℕ) (port metadata : ℕ) → IsF
     matches_map m (field_map (layers_of (frame_of_actions l frame)) port metadata) ≡ matches_map m (fields_seen (view_of_actions l (view_of frame)) port metadata)
 packet_seen l frame port metadata h r m = same_match m _ _ (λ f. seen (frame_of_actions l frame) (view_of_actions l (view_of frame)) port metadata f (stays_frame l frame h r) (views_follow_all l frame (view_of frame) h r (own frame)))
 
-never_of_frames : (l : List Action) (metadata : ℕ) (m : List MatchField) → IsPulled l metadata m Never → AreRewriting l → (frame : List ℕ) (port : ℕ) → IsFrame frame →
+pub never_of_frames : (l : List Action) (metadata : ℕ) (m : List MatchField) → IsPulled l metadata m Never → AreRewriting l → (frame : List ℕ) (port : ℕ) → IsFrame frame →
     matches_map m (field_map (layers_of (frame_of_actions l frame)) port metadata) ≡ false
 never_of_frames l metadata m is r frame port h = packet_seen l frame port metadata h r m ∙ is (view_of frame) port (frame_small frame (view_of frame) h (own frame))
 
-when_of_frames : (l : List Action) (metadata : ℕ) (m : List MatchField) (fields : Vec MatchField Global) → IsPulled l metadata m (When fields) → AreRewriting l → (frame : List ℕ) (port : ℕ) → IsFrame frame →
+pub when_of_frames : (l : List Action) (metadata : ℕ) (m : List MatchField) (fields : Vec MatchField Global) → IsPulled l metadata m (When fields) → AreRewriting l → (frame : List ℕ) (port : ℕ) → IsFrame frame →
     matches_map m (field_map (layers_of (frame_of_actions l frame)) port metadata) ≡ matches_map fields.items (field_map (layers_of frame) port 0)
 when_of_frames l metadata m fields is r frame port h =
     packet_seen l frame port metadata h r m

@@ -14,7 +14,8 @@ use Rattle.of_symbolic.specs.declared.overlay.Overlay.{Overlay}
 use Rattle.of_symbolic.specs.Actions.{view_of_actions}
 use Rattle.of_symbolic.specs.Asking.{asked_of_frame}
 use Rattle.of_symbolic.specs.Overlays.{IsOverlay, HasVids}
-use Rattle.of_symbolic.specs.Pulling.{IsKeptOrAny, is_unknown_at, is_unknown_in}
+use Rattle.of_regions.specs.Conditions.{AreConditions, IsCondition}
+use Rattle.of_symbolic.specs.Pulling.{is_unknown_at, is_unknown_in}
 use Rattle.of_symbolic.proofs.Holding.{Holds, Says, at_holds}
 use Rattle.of_symbolic.proofs.Keeping.{KeptIfAsked, at_kept, kept_vid, open_unknown}
 use Rattle.of_symbolic.proofs.Showing.{overlay_shows}
@@ -66,7 +67,7 @@ kept_more P (y ∷ ys) x h k = (h.0, kept_more P ys x h.1 k)
 pub record SoFar (o : Overlay) (metadata : ℕ) (m : List MatchField) (open_so_far : Bool) (fields : List MatchField) : Type 0 where
   pub unknown : open_so_far ≡ true → is_unknown_in o m ≡ true
   pub same : open_so_far ≡ false → (l : List Action) → IsOverlay o l → (v : View) (port : ℕ) → HasVids v → matches_map m (fields_seen (view_of_actions l v) port metadata) ≡ matches_map fields (fields_seen v port 0)
-  pub kept : AllByRecursion IsKeptOrAny fields
+  pub kept : AreConditions fields
 
 pub none_so_far : (o : Overlay) (metadata : ℕ) → SoFar o metadata [] false []
 none_so_far o metadata = record { unknown = λ e. absurd cc; same = λ e l h v port s. refl; kept = tt }
@@ -111,7 +112,7 @@ field_more o metadata m e x t fields k is h = record {
       let own = fields_seen v port 0 in
       let holds : Holds (Asks x) (agrees e (map e.field)) own = subst (λ (a : Asked). Holds a (agrees e (map e.field)) own) is (one_holds o metadata e k l g v port s) in
       all_more (λ y. agrees y (map y.field)) m e ∙ both_same _ _ _ _ (h.same u l g v port s) holds ∙ sym (all_more (λ y. agrees y (own y.field)) fields x);
-  kept = kept_more IsKeptOrAny fields x h.kept (subst KeptIfAsked is (at_kept o metadata e k e.field refl));
+  kept = kept_more IsCondition fields x h.kept (subst KeptIfAsked is (at_kept o metadata e k e.field refl));
 }
   where
     both_same : (a b c d : Bool) → a ≡ c → b ≡ d → (a && b) ≡ (c && d)

@@ -4,3 +4,6 @@ pub mod Overlays
 pub mod Overlaid
 pub mod Asking
 pub mod Pulling
+pub mod Parts
+pub mod Branches
+pub mod Branching

@@ -1,15 +1,15 @@
 -- WHAT A MATCH ON A PACKET that actions rewrote ASKS OF THE FRAME THAT CAME IN (OpenFlow 1.3.5, 5.3 and 7.2.3.7).
-use Rattle.std.specs.Prelude.{◌≡◌, ◌⊎◌, ℕ, ◌%◌, ◌==◌, Bool, true, false, not, ◌&&◌, ◌||◌, List, Option, Some, None, slice_get, ⊤}
-use Rattle.std.specs.List.{AllByRecursion, list_any}
+use Rattle.std.specs.Prelude.{◌≡◌, ℕ, ◌%◌, ◌==◌, Bool, true, false, not, ◌&&◌, ◌||◌, List, Option, Some, None, slice_get, ⊤}
+use Rattle.std.specs.List.{list_any}
 use Rattle.of_layers.specs.declared.field.Field.{Field}
 use Rattle.of_layers.specs.declared.field.Field.TheVariants.{VlanVid, VlanPcp}
 use Rattle.of_layers.specs.Reading.{layers_of}
 use Rattle.of_headers.specs.FieldMap.{field_map}
 use Rattle.of_oxm.specs.declared.match_field.MatchField.{MatchField}
-use Rattle.of_oxm.specs.NormalForm.{IsKept}
 use Rattle.of_oxm.specs.Relations.{bits_looked_at, matches_map}
 use Rattle.of_rewrite.specs.Frames.{IsFrame}
 use Rattle.of_rewrite.specs.Views.{View, fields_seen}
+use Rattle.of_regions.specs.Conditions.{AreConditions}
 use Rattle.of_actions.specs.declared.action.Action.{Action}
 use Rattle.of_symbolic.specs.declared.overlay.Overlay.{Overlay}
 use Rattle.of_symbolic.specs.declared.overlay.PushedTag.{PushedTag}
@@ -40,14 +40,11 @@ IsTrueOfFrames l metadata m (When fields) =
     (frame : List ℕ) (port : ℕ) → IsFrame frame →
     matches_map m (field_map (layers_of (frame_of_actions l frame)) port metadata) ≡ matches_map fields.items (field_map (layers_of frame) port 0)
 
--- a field of a match in normal form, or one that agrees with each value of the field
-abbrev pub IsKeptOrAny : MatchField → Type 0
-IsKeptOrAny e = IsKept e ⊎ ((e.value ≡ 0) × (e.mask ≡ Some 0))
-
-abbrev pub AreKeptOrAny : Pulled → Type 0
-AreKeptOrAny Never = ⊤
-AreKeptOrAny Unknown = ⊤
-AreKeptOrAny (When fields) = AllByRecursion IsKeptOrAny fields.items
+-- what it asks are conditions on fields
+abbrev pub AsksConditions : Pulled → Type 0
+AsksConditions Never = ⊤
+AsksConditions Unknown = ⊤
+AsksConditions (When fields) = AreConditions fields.items
 
 -- ---- what is unknown
 

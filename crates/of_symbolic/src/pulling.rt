@@ -3,7 +3,7 @@ ghost use Rattle.std.specs.Prelude.{◌≡◌, true, IfOk, List};
 ghost use Rattle.of_actions.specs.declared.action.Action.{Action};
 ghost use Rattle.of_symbolic.specs.declared.pulling.Pulled.TheVariants.{Unknown};
 ghost use Rattle.of_symbolic.specs.Overlays.{IsOverlay};
-ghost use Rattle.of_symbolic.specs.Pulling.{AreKeptOrAny, IsPulled, is_unknown_in};
+ghost use Rattle.of_symbolic.specs.Pulling.{AsksConditions, IsPulled, is_unknown_in};
 
 use crate::asking::{Asked, ask};
 use crate::overlay::Overlay;
@@ -33,7 +33,7 @@ pub fn pull(
     m: &Match,
 ) -> Result<Pulled, AllocError>
     ensures is { IfOk result (λ r. (l : List Action) → IsOverlay overlay.now l → IsPulled l metadata m.now r) }
-    ensures kept { IfOk result AreKeptOrAny }
+    ensures conditions { IfOk result AsksConditions }
     ensures unknown { IfOk result (λ r. r ≡ Unknown → is_unknown_in overlay.now m.now ≡ true) }
 {
     m.known();

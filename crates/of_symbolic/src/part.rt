@@ -1,0 +1,166 @@
+//! Parts of all packets.
+ghost use Rattle.std.specs.Prelude.{◌≡◌, ◌↔◌, ℕ, Option, IfOk, IsTrue, true, false};
+ghost use Rattle.of_layers.specs.declared.field.Field.{Field as TheField};
+ghost use Rattle.of_oxm.specs.Relations.{matches_map};
+ghost use Rattle.of_regions.specs.declared.meeting.Meeting.TheVariants.{Apart, Whole};
+ghost use Rattle.of_regions.specs.Conditions.{AreConditions};
+ghost use Rattle.of_regions.specs.Meeting.{Meets};
+ghost use Rattle.of_regions.specs.Searching.{InSome};
+ghost use Rattle.of_symbolic.specs.Parts.{AreLeftRegions, AreListsOfConditions, FindsInPart, HaveConditions, IsListed, IsMatchedPart, IsUnmatchedPart, IsWholePart};
+
+use of_headers::Field;
+use of_oxm::{Match, MatchField};
+use of_regions::{Found, Meeting, Region, Rival, narrowed, regions_of, search_among};
+use std::alloc::{AllocError, Global};
+
+/// Packets of some regions that none of some lists of conditions matches.
+///
+/// There may be no such packet, since the lists may match all of the regions together: `find` tells.
+#[derive(Drop)]
+pub struct Part {
+    pub regions: Vec<Region>,
+    /// What one of these lists of conditions matches is not in the part.
+    pub lacks: Vec<Vec<MatchField>>,
+}
+
+fn is_apart_from(region: &Region, fields: &[MatchField]) -> bool
+    ensures { result ≡ true → Meets region.now fields.now Apart }
+{
+    matches!(region.meet(fields), Meeting::Apart)
+}
+
+fn is_whole_in(region: &Region, fields: &[MatchField]) -> bool
+    ensures { result ≡ true → Meets region.now fields.now Whole }
+{
+    matches!(region.meet(fields), Meeting::Whole)
+}
+
+// Whether a match matches no packet of regions.
+fn are_apart(regions: &[Region], fields: &[MatchField]) -> bool
+    ensures { result ≡ true → (map : TheField → Option ℕ) → InSome regions.now map → matches_map fields.now map ≡ false }
+{
+    for region in regions {
+        if !is_apart_from(region, fields) {
+            return false;
+        }
+    }
+    true
+}
+
+// The regions without those of which a match matches all.
+fn left_regions(
+    alloc: Global,
+    regions: &[Region],
+    fields: &[MatchField],
+) -> Result<Vec<Region>, AllocError>
+    ensures { IfOk result (λ new. AreLeftRegions fields.now regions.now new.items) }
+{
+    let mut left = Vec::new(alloc);
+    for region in regions {
+        if !is_whole_in(region, fields) {
+            left.push(*region)?;
+        }
+    }
+    Ok(left)
+}
+
+// Rivals with these conditions, each named by its index.
+fn rivals_in<'a>(alloc: Global, lacks: &'a [Vec<MatchField>]) -> Result<Vec<Rival<'a>>, AllocError>
+    ensures { IfOk result (λ rivals. HaveConditions lacks.now rivals.items) }
+{
+    let mut rivals = Vec::new(alloc);
+    for name in 0..lacks.len() {
+        rivals.push(Rival {
+            name,
+            fields: lacks[name].as_slice(),
+        })?;
+    }
+    Ok(rivals)
+}
+
+fn are_same(xs: &[MatchField], ys: &[MatchField]) -> bool
+    ensures { IsTrue result ↔ (xs.now ≡ ys.now) }
+{
+    xs == ys
+}
+
+// Whether a list of conditions is one of these.
+fn is_listed(lacks: &[Vec<MatchField>], fields: &[MatchField]) -> bool
+    ensures { IsTrue result ↔ IsListed lacks.now fields.now }
+{
+    for index in 0..lacks.len() {
+        if are_same(&lacks[index], fields) {
+            return true;
+        }
+    }
+    false
+}
+
+fn copied_conditions(fields: &Vec<MatchField>) -> Result<Vec<MatchField>, AllocError>
+    ensures { IfOk result (λ copy. copy.items ≡ fields.now.items) }
+{
+    Ok(fields.clone()?)
+}
+
+impl Part {
+    /// All frames, by any port. Their metadata is 0 (OpenFlow 1.3.5, 5.1).
+    pub fn whole(alloc: Global) -> Result<Part, AllocError>
+        ensures whole { IfOk result IsWholePart }
+        ensures conditions { IfOk result (λ part. AreListsOfConditions part.lacks.items) }
+    {
+        let no_metadata = MatchField {
+            field: Field::Metadata,
+            value: 0,
+            mask: None,
+        };
+        let regions = regions_of(alloc, &Match::of_all(alloc))?;
+        Ok(Part {
+            regions: narrowed(alloc, &regions, &[no_metadata])?,
+            lacks: Vec::new(alloc),
+        })
+    }
+
+    /// Those that a match does not match.
+    pub fn unmatched(self, alloc: Global, fields: &Vec<MatchField>) -> Result<Part, AllocError>
+        requires { AreConditions fields.now.items }
+        ensures { IfOk result (IsUnmatchedPart fields.now.items self) }
+    {
+        if are_apart(&self.regions, fields) {
+            return Ok(self);
+        }
+        if is_listed(&self.lacks, fields) {
+            return Ok(self);
+        }
+        let mut lacks = self.lacks;
+        lacks.push(copied_conditions(fields)?)?;
+        Ok(Part {
+            regions: left_regions(alloc, &self.regions, fields)?,
+            lacks,
+        })
+    }
+
+    /// Those that a match matches. Lists of conditions that match no packet of the regions that are left are left out.
+    pub fn matched(&self, alloc: Global, fields: &[MatchField]) -> Result<Part, AllocError>
+        requires each { AreListsOfConditions self.now.lacks.items }
+        requires own { AreConditions fields.now }
+        ensures { IfOk result (IsMatchedPart fields.now self.now) }
+    {
+        let mut part = Part {
+            regions: narrowed(alloc, &self.regions, fields)?,
+            lacks: Vec::new(alloc),
+        };
+        for index in 0..self.lacks.len() {
+            part = part.unmatched(alloc, &self.lacks[index])?;
+        }
+        Ok(part)
+    }
+
+    /// Searches for a packet of the part, in so many steps at most.
+    pub fn find(&self, alloc: Global, steps: usize) -> Result<Found, AllocError>
+        requires { AreListsOfConditions self.now.lacks.items }
+        ensures { IfOk result (FindsInPart self.now steps) }
+    {
+        let rivals = rivals_in(alloc, &self.lacks)?;
+        search_among(alloc, &self.regions, &rivals, steps)
+    }
+}
