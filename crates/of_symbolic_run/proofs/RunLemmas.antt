@@ -5,7 +5,7 @@ use Rattle.of_machine.specs.declared.data.Packet.{Packet}
 use Rattle.of_machine.specs.declared.data.Item.{Item}
 use Rattle.of_machine.specs.TheWorld.{TheWorld}
 use Rattle.of_machine.specs.Rows.{Work, Lookup, Task, task, row, entering}
-use Rattle.of_machine.specs.Runs.{Machine, after, step, first_step, starting}
+use Rattle.of_machine.specs.Runs.{Machine, after, step, starting}
 use Rattle.of_symbolic_run.specs.declared.advance.Advance.{Advance}
 use Rattle.of_symbolic_run.specs.declared.advance.Advance.TheVariants.{Done, Divides, Unsupported}
 use Rattle.of_symbolic_run.specs.declared.state.SymbolicTask.{SymbolicTask}

@@ -1,12 +1,12 @@
 -- What each kind of work leaves of a packet.
-use Rattle.std.proofs.Common.{◌≡◌, ◌==◌, ℕ, zero, suc, Bool, true, false, List, [], ◌∷◌, ◌++◌, refl, sym, ◌∙◌, ap, drop, Option, Some, None, length, get_or, ◌<◌, ◌≤◌, ◌+◌, append_assoc}
+use Rattle.std.proofs.Common.{◌≡◌, ◌==◌, ℕ, false, List, [], ◌∷◌, ◌++◌, refl, sym, ◌∙◌, ap, drop, Some, length, get_or, ◌<◌, ◌≤◌, ◌+◌, append_assoc}
 use Rattle.std.specs.Prelude.{map, IsTrue, slice_get}
 use Rattle.std.proofs.lemmas.List.{append-nil, map-append, drop_all}
 use Rattle.of_actions.specs.declared.action.Action.{Action}
 use Rattle.of_actions.specs.declared.action.Action.TheVariants as actions
 use Rattle.of_action_set.specs.Sets.{with_action, with_actions}
 use Rattle.of_wire.specs.declared.limits.TheConstants.{OFPP_TABLE}
-use Rattle.of_actions.specs.declared.instruction.Instruction.TheVariants.{Apply, Clear, Write, Metadata, Goto}
+use Rattle.of_actions.specs.declared.instruction.Instruction.TheVariants.{Apply, Write, Goto}
 use Rattle.of_action_set.specs.Sets.{in_order}
 use Rattle.of_ports.specs.declared.port.Port.{Port}
 use Rattle.of_machine.specs.declared.data.Packet.{Packet}
@@ -20,7 +20,7 @@ use Rattle.of_symbolic_run.specs.declared.state.SymbolicTask.{SymbolicTask}
 use Rattle.of_symbolic_run.specs.declared.state.Emission.{Emission}
 use Rattle.of_symbolic_run.specs.declared.state.Work.{Work}
 use Rattle.of_symbolic_run.specs.declared.state.Work.TheVariants.{Lookup, Do, RunSet, Act}
-use Rattle.of_symbolic_run.specs.States.{IsCopyOf, TakesRow, answer_to, is_rewrite, items_for, packet_for, task_for, row_for, work_for}
+use Rattle.of_symbolic_run.specs.States.{IsCopyOf, TakesRow, answer_to, is_rewrite, items_for, packet_for, row_for, work_for}
 
 pub first_is : (l : List Work) (x : Work) → slice_get l 0 ≡ Some x → l ≡ x ∷ drop 1 l
 first_is [] x h = cc

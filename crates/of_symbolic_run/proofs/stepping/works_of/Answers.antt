@@ -1,4 +1,4 @@
-use Rattle.std.proofs.Common.{refl, ap, sym, ◌∙◌, ◌++◌, ◌∷◌, [], false}
+use Rattle.std.proofs.Common.{refl}
 use Rattle.of_actions.specs.declared.action.Action.TheVariants.{Output}
 use Rattle.of_symbolic_run.proofs.StepLemmas.{works_done, works_more}
 use Rattle.of_symbolic_run.proofs.stepping.works_of.Goals as goal

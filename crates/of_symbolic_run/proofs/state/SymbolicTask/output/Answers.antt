@@ -1,4 +1,4 @@
-use Rattle.std.proofs.Common.{refl, ap, sym, ◌∙◌, ◌++◌, ◌∷◌, [], false}
+use Rattle.std.proofs.Common.{refl}
 use Rattle.of_symbolic_run.proofs.StepLemmas.{outputs}
 use Rattle.of_symbolic_run.proofs.state.SymbolicTask.output.Goals as goal
 

@@ -1,4 +1,4 @@
-use Rattle.std.proofs.Common.{refl, ap, sym, ◌∙◌, ◌++◌, ◌∷◌, [], false}
+use Rattle.std.proofs.Common.{refl}
 use Rattle.of_symbolic_run.proofs.StepLemmas.{is_done, rewrites}
 use Rattle.of_symbolic_run.proofs.state.SymbolicTask.rewrite_frame_by.Goals as goal
 

@@ -1,4 +1,4 @@
-use Rattle.std.proofs.Common.{refl, ap, sym, ◌∙◌, ◌++◌, ◌∷◌, [], false}
+use Rattle.std.proofs.Common.{refl, ap, ◌∙◌, ◌++◌}
 use Rattle.of_symbolic_run.proofs.StepLemmas.{writes}
 use Rattle.of_symbolic_run.proofs.state.SymbolicTask.write_into_set.Goals as goal
 
