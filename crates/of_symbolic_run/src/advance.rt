@@ -1,0 +1,131 @@
+//! The steps of a symbolic run that are the same for each frame.
+ghost use Rattle.std.specs.Prelude.{◌≡◌, ◌<◌, ℕ, Some, List, IfOk, IsTrue, OnOk, length, slice_get};
+ghost use Rattle.of_actions.specs.InstructionLists.{is_served_body};
+ghost use Rattle.of_machine.specs.TheWorld.{TheWorld};
+ghost use Rattle.of_symbolic_run.specs.declared.state.Emission.{Emission as AnEmission};
+ghost use Rattle.of_symbolic_run.specs.declared.state.Work.TheVariants.{Act, Do};
+ghost use Rattle.of_symbolic_run.specs.States.{Advances, IsAt, TakesRow, WorkEnds, answer_to, answer_to_tasks, answer_to_works};
+
+use crate::state::{Emission, SymbolicState, SymbolicTask, Work};
+use of_actions::{Action, Instruction};
+use of_wire::limits::OFPP_TABLE;
+use std::alloc::{AllocError, Global};
+
+/// What came of the first work of the first packet.
+#[derive(Clone, Copy, Debug, PartialEq, Eq)]
+pub enum Advance {
+    /// It is done. If there was no work, the packet is removed.
+    Done,
+    /// It is not the same for each frame: a lookup, or DEC_NW_TTL. Nothing changed.
+    Divides,
+    /// A GROUP, or an OUTPUT to the port TABLE. Nothing changed.
+    Unsupported,
+}
+
+// An instruction.
+fn follow_instruction(
+    alloc: Global,
+    task: &mut SymbolicTask<'_>,
+    instruction: &Instruction,
+) -> Result<(), AllocError>
+    requires first { slice_get task.now.work.items 0 ≡ Some (Do instruction.now) }
+    requires served { IsTrue (is_served_body instruction.now) }
+    ensures { OnOk result ((emitted : List AnEmission) → TakesRow task.old emitted task.new emitted) }
+{
+    match instruction {
+        Instruction::Apply(actions) => task.apply_actions(alloc, actions),
+        Instruction::Clear => {
+            task.clear_actions();
+            Ok(())
+        }
+        Instruction::Write(actions) => task.write_into_set(actions),
+        Instruction::Metadata { value, mask } => {
+            task.write_metadata(*value, *mask);
+            Ok(())
+        }
+        Instruction::Goto(table) => task.go_to(*table),
+    }
+}
+
+// An action.
+fn do_action(
+    task: &mut SymbolicTask<'_>,
+    action: Action,
+    emitted: &mut Vec<Emission>,
+) -> Result<Advance, AllocError>
+    requires { slice_get task.now.work.items 0 ≡ Some (Act action) }
+    ensures answer { IfOk result (λ a. a ≡ answer_to (Act action)) }
+    ensures ends { IfOk result (λ a. WorkEnds a task.old emitted.old.items task.new emitted.new.items) }
+{
+    match action {
+        Action::Group(_) => Ok(Advance::Unsupported),
+        Action::DecNwTtl => Ok(Advance::Divides),
+        Action::Output { port, max_len } => {
+            if port == OFPP_TABLE {
+                return Ok(Advance::Unsupported);
+            }
+            task.output(port, max_len, emitted)?;
+            Ok(Advance::Done)
+        }
+        Action::PushVlan(_) | Action::PopVlan | Action::SetNwTtl(_) | Action::SetField { .. } => {
+            task.rewrite_frame_by(action)?;
+            Ok(Advance::Done)
+        }
+    }
+}
+
+// The first work of the packet.
+fn do_first_work(
+    alloc: Global,
+    task: &mut SymbolicTask<'_>,
+    emitted: &mut Vec<Emission>,
+) -> Result<Advance, AllocError>
+    requires { 0 < length task.now.work.items }
+    ensures answer { IfOk result (λ a. a ≡ answer_to_works task.old.work.items) }
+    ensures ends { IfOk result (λ a. WorkEnds a task.old emitted.old.items task.new emitted.new.items) }
+{
+    match &task.work[0] {
+        Work::Lookup(_) => Ok(Advance::Divides),
+        Work::Act(action) => {
+            let action = *action;
+            do_action(task, action, emitted)
+        }
+        Work::Do(served) => {
+            let instruction = served.get();
+            follow_instruction(alloc, task, instruction)?;
+            Ok(Advance::Done)
+        }
+        Work::RunSet => {
+            task.run_action_set(alloc)?;
+            Ok(Advance::Done)
+        }
+    }
+}
+
+// The step of the first packet, for each frame.
+fn step_first(alloc: Global, state: &mut SymbolicState<'_>) -> Result<Advance, AllocError>
+    ensures answer { IfOk result (λ a. a ≡ answer_to_tasks state.old.tasks.items) }
+    ensures step { IfOk result (λ a. Advances a state.old.tasks.items state.old.emitted.items state.new.tasks.items state.new.emitted.items) }
+{
+    if state.tasks.is_empty() {
+        return Ok(Advance::Done);
+    }
+    if state.tasks[0].work.is_empty() {
+        state.tasks.remove(0);
+        return Ok(Advance::Done);
+    }
+    do_first_work(alloc, &mut state.tasks[0], &mut state.emitted)
+}
+
+/// Does the first work of the first packet, for each frame that came in (OpenFlow 1.3.5, 5.1).
+///
+/// `step`: it is the step of the machine, for each switch, each frame and each ingress port. `at`: so the state stays one of the run of each frame.
+/// Without a packet nothing changes. If memory runs out, the state may be anything.
+pub fn advance_state(alloc: Global, state: &mut SymbolicState<'_>) -> Result<Advance, AllocError>
+    ensures answer { IfOk result (λ a. a ≡ answer_to_tasks state.old.tasks.items) }
+    ensures step { IfOk result (λ a. Advances a state.old.tasks.items state.old.emitted.items state.new.tasks.items state.new.emitted.items) }
+    ensures at { IfOk result (λ a. (w : TheWorld) (frame : List ℕ) (port : ℕ) → IsAt w frame port state.old → IsAt w frame port state.new) }
+{
+    let done = step_first(alloc, state)?;
+    Ok(done)
+}
