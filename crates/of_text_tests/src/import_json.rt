@@ -153,7 +153,11 @@ fn lines_in(alloc: Global, text: &[u8], table: usize) -> Result<Vec<usize>, Fail
     let done = import_tables(alloc, text, PLAIN);
     let done = done.ok().ok_or("refused")?;
     let mut lines = flow_lines_of(alloc, &done.kept.flows)?;
-    Ok(lines.swap_remove(table))
+    let mut found = None;
+    if table < lines.len() {
+        found = Some(lines.swap_remove(table));
+    }
+    Ok(found.ok_or("no such table")?)
 }
 
 #[test]
