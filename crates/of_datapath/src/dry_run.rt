@@ -20,7 +20,7 @@ use crate::effect::Effects;
 use crate::told::told_from;
 use of_actions::Action;
 use of_classifier::Lookup;
-use of_groups::Chosen;
+use of_groups::{Chosen, Group};
 use of_headers::{FieldKey, check_length};
 use of_machine::{Items, NoLog, Packet, PacketFrame, StepLog, World, run};
 use of_ports::Port;
@@ -164,6 +164,13 @@ impl<L: Lookup> Datapath<L> {
         ensures { (world_of (forwarding_of self.now)).bucket group place ≡ Some result.now }
     {
         self.groups.bucket(group, place)
+    }
+
+    /// The groups, in ascending order of number (OpenFlow 1.3.5, 5.6).
+    pub fn group_list(&self) -> &[Group]
+        ensures { result.now ≡ (forwarding_of self.now).groups }
+    {
+        self.groups.groups()
     }
 
     /// The ports, in ascending order of number (OpenFlow 1.3.5, 7.2.1).
