@@ -1,0 +1,3 @@
+mod ActionLemmas
+pub mod Pairing
+pub mod AlikeLemmas
