@@ -1,0 +1,5 @@
+mod ActionLemmas
+pub mod Pairing
+pub mod AlikeLemmas
+pub mod PortLemmas
+pub mod EmissionLemmas
