@@ -1,18 +1,16 @@
 -- Entries near a part.
-use Rattle.std.proofs.Common.{◌≡◌, ◌<◌, ℕ, zero, suc, false, true, List, [], ◌∷◌, ◌++◌, length, Option, Some, None, refl, sym, ap, subst, ◌∙◌, arith, inl, inr}
+use Rattle.std.proofs.Common.{◌≡◌, ℕ, zero, suc, false, List, [], ◌∷◌, ◌++◌, length, Option, Some, None, refl, sym, ap, subst, ◌∙◌, arith}
 use Rattle.std.specs.Prelude.{slice_get}
-use Rattle.std.specs.List.{Contains}
 use Rattle.std.specs.Global.{Vec}
 use Rattle.of_layers.specs.declared.field.Field.{Field}
 use Rattle.of_oxm.specs.declared.match_field.MatchField.{MatchField}
 use Rattle.of_oxm.specs.Relations.{matches_map}
-use Rattle.of_regions.specs.Regions.{IsSomeTagging}
 use Rattle.of_regions.specs.Searching.{InSome}
 use Rattle.of_symbolic.specs.declared.branching.Branch.{Branch}
 use Rattle.of_symbolic.specs.declared.branching.Rank.{Rank}
 use Rattle.of_symbolic.specs.declared.part.Part.{Part}
 use Rattle.of_symbolic.specs.declared.pulled_entry.PulledEntry.{PulledEntry}
-use Rattle.of_symbolic.specs.Branching.{AllHaveConditions, AreNearEntries, HasConditions, IsAhead, IsHitAt, IsHitBranch, IsHitOrMiss, IsNearEntry, NoEntryAhead, is_agreed}
+use Rattle.of_symbolic.specs.Branching.{AllHaveConditions, AreNearEntries, IsAhead, IsHitOrMiss, IsNearEntry, NoEntryAhead, is_agreed}
 use Rattle.of_symbolic.specs.Parts.{InPart}
 use Rattle.of_symbolic.proofs.BranchLemmas.{AreHitBranches}
 
