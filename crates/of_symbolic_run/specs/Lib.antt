@@ -1,1 +1,4 @@
+pub mod Rewriting
 pub mod States
+pub mod FrameParts
+pub mod FrameSets

@@ -2,10 +2,24 @@
 #![tactic(auto)]
 
 mod advance;
+mod copying;
+mod finding;
+mod frame_set;
+mod frames;
+mod laws;
+mod received;
+mod rewrites;
+mod served;
 mod state;
 mod stepping;
 mod written;
 
 pub use advance::{Advance, advance_state};
+pub use finding::FrameFound;
+pub use frame_set::FrameSet;
+pub use laws::ended_states_give_runs;
+pub use received::received_state;
+pub use rewrites::Rewrites;
+pub use served::{ServedAction, ServedInstruction};
 pub use state::{Emission, SymbolicPacket, SymbolicState, SymbolicTask, Work};
-pub use written::{ServedInstruction, Written};
+pub use written::Written;
