@@ -22,12 +22,12 @@ cond_front : (b : Bool) (frame : List ℕ) (xs ys zs : List (List ℕ)) → xs �
 cond_front true frame xs ys zs e = ap (λ x. frame ∷ x) e
 cond_front false frame xs ys zs e = e
 
-sent_front : (q : ℕ) (a x : List Item) → sent_by q (a ++ x) ≡ sent_by q a ++ sent_by q x
+pub sent_front : (q : ℕ) (a x : List Item) → sent_by q (a ++ x) ≡ sent_by q a ++ sent_by q x
 sent_front q [] x = refl
 sent_front q (Sent port frame ∷ a) x = cond_front (eqb port q) frame (sent_by q (a ++ x)) (sent_by q a) (sent_by q x) (sent_front q a x)
 sent_front q (PacketIn p ∷ a) x = sent_front q a x
 
-told_front : (a x : List Item) → to_controller (a ++ x) ≡ to_controller a ++ to_controller x
+pub told_front : (a x : List Item) → to_controller (a ++ x) ≡ to_controller a ++ to_controller x
 told_front [] x = refl
 told_front (Sent port frame ∷ a) x = told_front a x
 told_front (PacketIn p ∷ a) x = ap (λ xs. p ∷ xs) (told_front a x)

@@ -3,3 +3,6 @@ pub mod Pairing
 pub mod AlikeLemmas
 pub mod PortLemmas
 pub mod EmissionLemmas
+pub mod Agreeing
+pub mod AgreeingRuns
+pub mod EmittingLemmas

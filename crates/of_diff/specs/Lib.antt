@@ -1,3 +1,5 @@
 pub mod Alike
 pub mod SamePorts
 pub mod SameTables
+pub mod Agreeing
+pub mod Emitting

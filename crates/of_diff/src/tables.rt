@@ -7,7 +7,8 @@ use of_actions::{Action, Instruction};
 use of_table::{Entries, Entry};
 use std::alloc::{AllocError, Global};
 
-fn are_same_actions(xs: &[Action], ys: &[Action]) -> bool
+/// Whether two lists have the same actions.
+pub fn are_same_actions(xs: &[Action], ys: &[Action]) -> bool
     ensures { IsTrue result ↔ (xs.now ≡ ys.now) }
 {
     xs == ys
