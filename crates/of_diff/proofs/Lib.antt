@@ -3,3 +3,5 @@ pub mod Pairing
 pub mod AlikeLemmas
 pub mod PortLemmas
 pub mod EmissionLemmas
+mod ChangedLemmas
+pub mod HitLemmas
