@@ -1,8 +1,7 @@
 -- `==` tells actions apart, and so lists of them.
-use Rattle.std.proofs.Common.{◌≡◌, ℕ, Bool, true, false, eqb, ◌&&◌, List, ap, refl, sym, ◌∙◌, rules}
+use Rattle.std.proofs.Common.{◌≡◌, Bool, true, List, ap, refl, sym, ◌∙◌, rules}
 use Rattle.std.specs.Bool.{Decides}
 use Rattle.std.specs.Cmp.Lexicographic.{pointwise}
-use Rattle.std.proofs.lemmas.Bool.{eqb-true}
 use Rattle.std.proofs.lemmas.Bool.Decides.{Decides-and, Decides-eqb, Decides-like}
 use Rattle.std.proofs.lemmas.Slice.Eq.{slice_eq-Decides}
 use denote.Enum.Bare.{same_true}

@@ -1,5 +1,5 @@
 -- What leaves, at one place and at all.
-use Rattle.std.proofs.Common.{◌≡◌, ◌⊎◌, ℕ, ◌+◌, ◌<◌, eqb, cond, Bool, true, false, List, [], ◌∷◌, ◌++◌, map, length, take, get_or, Option, Some, None, Decides, refl, sym, ap, subst, ◌∙◌, inl, inr}
+use Rattle.std.proofs.Common.{◌≡◌, ◌⊎◌, ℕ, ◌+◌, ◌<◌, eqb, cond, Bool, true, false, List, [], ◌∷◌, ◌++◌, map, length, take, get_or, Option, Some, None, Decides, refl, sym, ap, ◌∙◌, inl, inr}
 use Rattle.std.specs.List.{Contains}
 use Rattle.std.specs.Option.{IfNone}
 use Rattle.std.proofs.lemmas.Bool.{eqb-true}
@@ -11,7 +11,7 @@ use Rattle.of_machine.specs.declared.data.ToController.{ToController}
 use Rattle.of_diff.specs.declared.alike.Compared.{Compared}
 use Rattle.of_diff.specs.declared.alike.Where.{Where}
 use Rattle.of_diff.specs.declared.alike.Where.TheVariants.{Controller, Port as ByPort}
-use Rattle.of_diff.specs.Alike.{IsAlikeAt, LeavesAlike, goes_to, leaving, sent_by, to_controller}
+use Rattle.of_diff.specs.Alike.{IsAlikeAt, LeavesAlike, leaves_at, leaving, sent_by, to_controller}
 
 pub alike_self : (c : Compared) (a : List Item) → LeavesAlike c a a
 alike_self c a = record { sent = λ q. refl; told = λ e. refl }
@@ -98,14 +98,14 @@ abbrev pub IsListedOrSilent : List ℕ → List Item → ℕ → Type 0
 IsListedOrSilent ports items q = Contains ports q ⊎ (leaving (ByPort q) items ≡ [])
 
 pub ports_more : (old new : List ℕ) (items : List Item) (i : ℕ) (item : Item) → i < length items → item ≡ get_or items i item
-    → ((q : ℕ) → Contains old q → Contains new q) → ((q : ℕ) → goes_to (ByPort q) item ≡ true → Contains new q)
+    → ((q : ℕ) → Contains old q → Contains new q) → ((q : ℕ) → leaves_at (ByPort q) item ≡ true → Contains new q)
     → ((q : ℕ) → IsListedOrSilent old (take i items) q) → (q : ℕ) → IsListedOrSilent new (take (i + 1) items) q
-ports_more old new items i item lt is kept named so_far q = by_test (goes_to (ByPort q) item) refl (so_far q)
+ports_more old new items i item lt is kept named so_far q = by_test (leaves_at (ByPort q) item) refl (so_far q)
   where
-    next : leaving (ByPort q) (take (i + 1) items) ≡ leaving (ByPort q) (take i items) ++ cond (goes_to (ByPort q) item) (item ∷ []) []
-    next = filter_more (goes_to (ByPort q)) items i item lt ∙ ap (λ x. leaving (ByPort q) (take i items) ++ cond (goes_to (ByPort q) x) (x ∷ []) []) (sym is)
+    next : leaving (ByPort q) (take (i + 1) items) ≡ leaving (ByPort q) (take i items) ++ cond (leaves_at (ByPort q) item) (item ∷ []) []
+    next = filter_more (leaves_at (ByPort q)) items i item lt ∙ ap (λ x. leaving (ByPort q) (take i items) ++ cond (leaves_at (ByPort q) x) (x ∷ []) []) (sym is)
 
-    by_test : (b : Bool) → goes_to (ByPort q) item ≡ b → IsListedOrSilent old (take i items) q → IsListedOrSilent new (take (i + 1) items) q
+    by_test : (b : Bool) → leaves_at (ByPort q) item ≡ b → IsListedOrSilent old (take i items) q → IsListedOrSilent new (take (i + 1) items) q
     by_test true e h = inl (named q e)
     by_test false e (inl c) = inl (kept q c)
     by_test false e (inr none) = inr (next ∙ ap (λ b. leaving (ByPort q) (take i items) ++ cond b (item ∷ []) []) e ∙ ap (λ xs. xs ++ []) none)

@@ -1,14 +1,13 @@
 -- Over the same ports the same leaves, and the same frames come in.
-use Rattle.std.proofs.Common.{◌≡◌, ℕ, eqb, cond, Bool, true, false, List, [], ◌∷◌, map, Option, Some, None, refl, sym, ap, subst, ◌∙◌}
-use Rattle.std.specs.Prelude.{filter, not, ◌&&◌, ◌||◌}
+use Rattle.std.proofs.Common.{◌≡◌, ℕ, eqb, cond, Bool, true, false, List, [], ◌∷◌, map, Option, Some, None, refl, sym, ap, ◌∙◌}
+use Rattle.std.specs.Prelude.{not, ◌&&◌, ◌||◌}
 use Rattle.std.specs.Option.{option_map}
 use Rattle.of_wire.specs.declared.limits.TheConstants.{OFPP_ALL, OFPP_CONTROLLER, OFPP_FLOOD, OFPP_IN_PORT}
 use Rattle.of_ports.specs.declared.port.Port.{Port}
-use Rattle.of_ports.specs.Ports.{may_receive, may_send, other_ports, port_at}
-use Rattle.of_machine.specs.declared.data.Item.{Item}
+use Rattle.of_ports.specs.Ports.{may_send, other_ports, port_at}
 use Rattle.of_machine.specs.declared.data.Item.TheVariants.{Sent}
 use Rattle.of_machine.specs.declared.data.Packet.{Packet}
-use Rattle.of_machine.specs.Rows.{Emitted, emission, empty_emitted, flooded, output_reason, packet_in_emitted, to_port}
+use Rattle.of_machine.specs.Rows.{Emitted, emission, to_port}
 use Rattle.of_machine.specs.TheWorld.{TheWorld}
 use Rattle.of_diff.specs.Alike.{IsReceivedAt}
 use Rattle.of_diff.specs.SamePorts.{PortKey, SamePorts, port_key}

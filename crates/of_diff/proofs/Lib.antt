@@ -6,3 +6,5 @@ pub mod EmissionLemmas
 pub mod Agreeing
 pub mod AgreeingRuns
 pub mod EmittingLemmas
+mod ChangedLemmas
+pub mod HitLemmas

@@ -1,21 +1,19 @@
 -- Ports that are the same, and numbers that are not there.
-use Rattle.std.proofs.Common.{◌≡◌, ℕ, ◌∷◌, ◌++◌, ◌^◌, ◌<◌, eqb, cond, Bool, true, false, List, [], map, Option, Some, None, Result, Ok, Err, refl, sym, ap, subst, ◌∙◌, ◌⊎◌, inl, inr, arith}
-use Rattle.std.specs.Prelude.{bit_and, filter, find, not, ◌&&◌}
+use Rattle.std.proofs.Common.{◌≡◌, ℕ, ◌∷◌, ◌++◌, ◌^◌, ◌<◌, Bool, true, false, List, [], Some, Result, Ok, Err, refl, ap, subst, ◌∙◌, inl, inr, arith}
+use Rattle.std.specs.Prelude.{bit_and, ◌&&◌}
 use Rattle.std.specs.List.{Contains, list_any}
-use Rattle.std.specs.Option.{option_map}
 use Rattle.std.specs.Result.{OnOk}
 use Rattle.std.specs.Global.{Vec}
 use Rattle.std.proofs.lemmas.List.Elements.{Contains-push_cases}
 use Rattle.std.proofs.lemmas.List.Folds.{list_any_at}
 use Rattle.std.proofs.lemmas.Nat.Bits.{bit_at_and, same_from_bits}
 use Rattle.of_layers.specs.Fields.{ones_of, row_of}
-use Rattle.of_layers.specs.declared.field.Field.{Field}
 use Rattle.of_layers.specs.declared.field.Field.TheVariants.{InPort}
 use Rattle.of_oxm.proofs.Normal.{under_ones}
 use Rattle.of_oxm.specs.declared.match_field.MatchField.{MatchField}
-use Rattle.of_oxm.specs.Relations.{agrees, bits_looked_at, matches_map}
+use Rattle.of_oxm.specs.Relations.{agrees, matches_map}
 use Rattle.of_ports.specs.declared.port.Port.{Port}
-use Rattle.of_diff.specs.SamePorts.{AreAbsences, IsAbsence, IsConditionOf, IsIngressCondition, agrees_under}
+use Rattle.of_diff.specs.SamePorts.{AreAbsences, IsAbsence, IsConditionOf, agrees_under}
 
 pub on_ok_then : {X E : Type 0} (r : Result X E) (P Q R : Type 0) → (P → Q) → OnOk r (Q → R) → OnOk r (P → R)
 on_ok_then (Ok x) P Q R first second = λ p. second (first p)

@@ -1,5 +1,5 @@
 -- WHAT LEAVES A SWITCH for a frame that comes in, and whether two switches send the same (OpenFlow 1.3.5, 5.1).
-use Rattle.std.specs.Prelude.{◌≡◌, ℕ, ◌≤◌, ◌==◌, Bool, true, false, List, [], ◌∷◌, length, filter, Option, Some, if◌then◌else◌}
+use Rattle.std.specs.Prelude.{◌≡◌, ℕ, ◌≤◌, ◌==◌, Bool, true, false, List, [], ◌∷◌, length, filter, Some, if◌then◌else◌}
 use Rattle.of_rewrite.specs.Frames.{IsFrame}
 use Rattle.of_ports.specs.declared.port.Port.{Port}
 use Rattle.of_ports.specs.Ports.{may_receive, port_at}
@@ -58,12 +58,12 @@ DiffersAt c (ByPort q) a b = ¬ (sent_by q a ≡ sent_by q b)
 DiffersAt c Controller a b = (c ≡ All) × (¬ (to_controller a ≡ to_controller b))
 
 -- the item leaves there
-abbrev pub goes_to : Where → Item → Bool
-goes_to (ByPort q) (Sent port frame) = port == q
-goes_to (ByPort q) (PacketIn p) = false
-goes_to Controller (Sent port frame) = false
-goes_to Controller (PacketIn p) = true
+abbrev pub leaves_at : Where → Item → Bool
+leaves_at (ByPort q) (Sent port frame) = port == q
+leaves_at (ByPort q) (PacketIn p) = false
+leaves_at Controller (Sent port frame) = false
+leaves_at Controller (PacketIn p) = true
 
 -- the items that do, in order
 abbrev pub leaving : Where → List Item → List Item
-leaving at items = filter (goes_to at) items
+leaving at items = filter (leaves_at at) items

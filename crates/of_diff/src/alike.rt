@@ -2,7 +2,7 @@
 ghost use Rattle.std.specs.Prelude.{◌≡◌, ◌≢◌, ◌↔◌, ◌⊎◌, ◌∷◌, ◌<◌, ℕ, [], IfNone, IfOk, IfSome, IsTrue, OnOk, length, true};
 ghost use Rattle.std.specs.List.{Contains};
 ghost use Rattle.of_diff.specs.declared.alike.Where.TheVariants.{Port as ByPort};
-ghost use Rattle.of_diff.specs.Alike.{DiffersAt, IsAlikeAt, LeavesAlike, goes_to as goes_there, leaving, sent_by};
+ghost use Rattle.of_diff.specs.Alike.{DiffersAt, IsAlikeAt, LeavesAlike, leaves_at, leaving, sent_by};
 
 use of_machine::{Item, ToController};
 use std::alloc::{AllocError, Global};
@@ -26,8 +26,8 @@ pub enum Where {
 }
 
 // Whether an item leaves there.
-fn goes_to(item: &Item, at: Where) -> bool
-    ensures { result ≡ goes_there at item.now }
+fn leaves_there(item: &Item, at: Where) -> bool
+    ensures { result ≡ leaves_at at item.now }
 {
     match (item, at) {
         (Item::Sent { port, .. }, Where::Port(number)) => *port == number,
@@ -43,7 +43,7 @@ fn next_to(items: &[Item], at: Where) -> Option<(&Item, &[Item])>
 {
     let mut rest = items;
     while let [item, behind @ ..] = rest {
-        if goes_to(item, at) {
+        if leaves_there(item, at) {
             return Some((item, behind));
         }
         rest = behind;
@@ -69,9 +69,13 @@ fn is_same_item(a: &Item, b: &Item) -> bool
     ensures { IsTrue result ↔ (a.now ≡ b.now) }
 {
     match (a, b) {
-        (Item::Sent { port, frame }, Item::Sent { port: by, frame: other }) => {
-            port == by && frame.as_slice() == other.as_slice()
-        }
+        (
+            Item::Sent { port, frame },
+            Item::Sent {
+                port: by,
+                frame: other,
+            },
+        ) => { port == by && frame.as_slice() == other.as_slice() }
         (Item::PacketIn(packet), Item::PacketIn(other)) => is_same_packet(packet, other),
         (Item::Sent { .. }, Item::PacketIn(_)) | (Item::PacketIn(_), Item::Sent { .. }) => false,
     }
@@ -83,13 +87,14 @@ fn is_alike_at(a: &[Item], b: &[Item], at: Where) -> bool
 {
     let (mut left, mut right) = (a, b);
     while let Some((item, behind)) = next_to(left, at) {
-        match next_to(right, at) {
-            Some((other, rest)) if is_same_item(item, other) => {
-                left = behind;
-                right = rest;
-            }
-            _ => return false,
+        let Some((other, rest)) = next_to(right, at) else {
+            return false;
+        };
+        if !is_same_item(item, other) {
+            return false;
         }
+        left = behind;
+        right = rest;
     }
     next_to(right, at).is_none()
 }
@@ -97,7 +102,7 @@ fn is_alike_at(a: &[Item], b: &[Item], at: Where) -> bool
 // Appends the port by which an item leaves, if it is not listed.
 fn push_port_of(ports: &mut Vec<u32>, item: &Item) -> Result<(), AllocError>
     ensures kept { OnOk result ((q : ℕ) → Contains ports.old.items q → Contains ports.new.items q) }
-    ensures named { OnOk result ((q : ℕ) → goes_there (ByPort q) item.now ≡ true → Contains ports.new.items q) }
+    ensures named { OnOk result ((q : ℕ) → leaves_at (ByPort q) item.now ≡ true → Contains ports.new.items q) }
 {
     if let Item::Sent { port, .. } = item {
         if !ports.contains(port) {

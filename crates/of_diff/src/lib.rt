@@ -9,4 +9,4 @@ mod tables;
 pub use alike::{Compared, Where, first_difference};
 pub use emissions::send_the_same;
 pub use ports::{absent_ports, have_same_ports, receiving_port};
-pub use tables::{Changed, are_same_entries, have_same_entries};
+pub use tables::{Changed, are_same_entries, changed_entries, have_same_entries};

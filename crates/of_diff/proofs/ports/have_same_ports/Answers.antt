@@ -12,8 +12,8 @@ pub returns-in_default : goal.returns-in_default
 returns-in_default c =
     let a = c.args.a.now in
     let differ = pairing_parts (map port_key a) (map port_key c.args.b.now) (map port_key (drop c.loop-port.port-index a)) (map port_key (iter_rest c.loop-port.others)) c.loop-port.invariant _ (port_key c.in-Some.other.now) _ _
-        (ap (map port_key) (drop_more a c.loop-port.port-index _ c.loop-port-test.true)) (ap (map port_key) c.in-Some.ensures.steps)
-        (λ same. let yes : c.is_same_port.result ≡ true = c.is_same_port.ensures.1 same in let no = c.if-is_same_port.false in absurd cc) in
+    (ap (map port_key) (drop_more a c.loop-port.port-index _ c.loop-port-test.true)) (ap (map port_key) c.in-Some.ensures.steps)
+    (λ same. let yes : c.is_same_port.result ≡ true = c.is_same_port.ensures.1 same in let no = c.if-is_same_port.false in absurd cc) in
     (λ h. absurd cc, λ h. absurd (differ h))
 
 pub loop-port-preserved : goal.loop-port-preserved

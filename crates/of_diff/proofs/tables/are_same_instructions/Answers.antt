@@ -11,7 +11,7 @@ returns-in_default c =
     let xs = c.args.xs.now in
     let here = at_index xs c.loop-x.x-index c.x-item.result c.loop-x-test.true c.x-item.is in
     let differ = pairing_parts xs c.args.ys.now (drop c.loop-x.x-index xs) (iter_rest c.loop-x.others) c.loop-x.invariant c.x-item.result c.in-Some.y.now _ _ here c.in-Some.ensures.steps
-        (λ same. let yes : c.is_same_instruction.result ≡ true = c.is_same_instruction.ensures.1 same in let no = c.if-is_same_instruction.false in absurd cc) in
+    (λ same. let yes : c.is_same_instruction.result ≡ true = c.is_same_instruction.ensures.1 same in let no = c.if-is_same_instruction.false in absurd cc) in
     (λ h. absurd cc, λ h. absurd (differ h))
 
 pub loop-x-preserved : goal.loop-x-preserved

@@ -3,19 +3,19 @@ use Rattle.std.specs.Borrow.{Bor}
 use Rattle.std.specs.Option.{MatchOption}
 use Rattle.of_table.specs.declared.entry.Entry.{Entry}
 use Rattle.of_table.specs.Entries.{entry_of, flows_of}
-use Rattle.of_diff.specs.SameTables.{Says, says_of}
+use Rattle.of_diff.specs.SameTables.{EntrySays, says_of}
 use Rattle.of_diff.proofs.Pairing.{pairing_decided, pairing_goes_on, pairing_parts}
 use Rattle.of_diff.proofs.tables.have_same_entries.Goals as goal
 
-said : List Entry → List Says
+said : List Entry → List EntrySays
 said entries = map says_of (flows_of entries)
 
 pub returns-in_default : goal.returns-in_default
 unfolding said
 returns-in_default c =
     let differ = pairing_parts (said c.args.a) (said c.args.b) (said c.loop-entry.entry-iterator) (said c.loop-entry.others) c.loop-entry.invariant (says_of (entry_of c.in-Some.entry.now)) (says_of (entry_of c.in-Some-next.other.now)) _ _
-        (ap said c.in-Some.ensures.steps) (ap said c.in-Some-next.ensures.steps)
-        (λ same. let yes : c.are_same_entries.result ≡ true = c.are_same_entries.ensures.1 same in let no = c.if-are_same_entries.false in absurd cc) in
+    (ap said c.in-Some.ensures.steps) (ap said c.in-Some-next.ensures.steps)
+    (λ same. let yes : c.are_same_entries.result ≡ true = c.are_same_entries.ensures.1 same in let no = c.if-are_same_entries.false in absurd cc) in
     (λ h. absurd cc, λ h. absurd (differ h))
 
 pub loop-entry-preserved : goal.loop-entry-preserved
