@@ -8,3 +8,5 @@ pub mod AgreeingRuns
 pub mod EmittingLemmas
 mod ChangedLemmas
 pub mod HitLemmas
+pub mod PairLemmas
+pub mod FindingLemmas

@@ -1,0 +1,124 @@
+-- What is known of two switches while pairs are left.
+use Rattle.std.proofs.Common.{◌≡◌, ℕ, ◌⊎◌, List, [], ◌∷◌, ◌++◌, refl, sym, ap, ◌∙◌, subst, inl, inr}
+use Rattle.std.specs.List.{Contains}
+use Rattle.std.proofs.lemmas.List.Elements.{Contains-append_left, Contains-append_right, Contains-append_cases, Contains-push, Contains-push_cases}
+use Rattle.of_machine.specs.TheWorld.{TheWorld}
+use Rattle.of_symbolic_run.specs.FrameSets.{InFrames}
+use Rattle.of_diff.specs.declared.alike.Compared.{Compared}
+use Rattle.of_diff.specs.declared.difference.Difference.{Difference}
+use Rattle.of_diff.specs.declared.difference.Differences.{Differences}
+use Rattle.of_diff.specs.declared.difference.Undecided.{Undecided}
+use Rattle.of_diff.specs.declared.pair.Pair.{Pair}
+use Rattle.of_diff.specs.Alike.{IsReceivedAt}
+use Rattle.of_diff.specs.Differences.{AreDifferences, InDifferences, InUndecided, IsDifference, IsTreatedAlike}
+use Rattle.of_diff.specs.Pairs.{ArePairs, Holds, InPairs, IsSoFar}
+
+module _ (c : Compared) (w v : TheWorld) where
+  -- where a frame is that is received
+  abbrev pub IsSomewhere : List Pair → Differences → List ℕ → ℕ → Type 0
+  IsSomewhere pairs ds frame port = InPairs pairs frame port ⊎ (InDifferences ds.found.items frame port ⊎ (InUndecided ds.undecided.items frame port ⊎ IsTreatedAlike c w v frame port))
+
+  last_holds : (pairs : List Pair) (pair : Pair) (ds : Differences) → IsSoFar c w v (pairs ++ pair ∷ []) ds → Holds w v pair
+  last_holds pairs pair ds h = h.hold pair (Contains-push pairs pair)
+
+  others_hold : (pairs : List Pair) (pair : Pair) (ds : Differences) → IsSoFar c w v (pairs ++ pair ∷ []) ds → (p : Pair) → Contains pairs p → Holds w v p
+  others_hold pairs pair ds h p at = h.hold p (Contains-append_left pairs (pair ∷ []) p at)
+
+  -- a frame of the last pair, of another pair, or elsewhere
+  pub cases : (pairs : List Pair) (pair : Pair) (ds : Differences) (frame : List ℕ) (port : ℕ) (A : Type 0) → IsSomewhere (pairs ++ pair ∷ []) ds frame port → (InFrames pair.frames frame port → A) → (InPairs pairs frame port → A) →
+      (InDifferences ds.found.items frame port ⊎ (InUndecided ds.undecided.items frame port ⊎ IsTreatedAlike c w v frame port) → A) → A
+  cases pairs pair ds frame port A (inl h) last other rest = by_place (Contains-push_cases pairs pair h.0 h.1)
+    where
+      by_place : Contains pairs h.0 ⊎ (pair ≡ h.0) → A
+      by_place (inl before) = other (h.0, before, h.2)
+      by_place (inr same) = last (subst (λ (p : Pair). InFrames p.frames frame port) (sym same) h.2)
+  cases pairs pair ds frame port A (inr h) last other rest = rest h
+
+  pub put_pairs : (pairs more : List Pair) (pair : Pair) (ds : Differences) → ArePairs c w v pair more → IsSoFar c w v (pairs ++ pair ∷ []) ds → IsSoFar c w v (pairs ++ more) ds
+  put_pairs pairs more pair ds are h = record {
+    hold = λ p at. elim (Contains-append_cases pairs more p at) as (λ x. Holds w v p) [
+      | inl before ↦ others_hold pairs pair ds h p before
+      | inr new ↦ are.hold (last_holds pairs pair ds h) p new
+    ];
+    real = h.real;
+    all = λ frame port received. cases pairs pair ds frame port (IsSomewhere (pairs ++ more) ds frame port) (h.all frame port received)
+        (λ within. elim (are.all (last_holds pairs pair ds h) frame port received within) as (λ x. IsSomewhere (pairs ++ more) ds frame port) [
+          | inl p ↦ inl (p.0, Contains-append_right pairs more p.0 p.1, p.2)
+          | inr alike ↦ inr (inr (inr alike))
+        ])
+        (λ p. inl (p.0, Contains-append_left pairs more p.0 p.1, p.2))
+        (λ rest. inr rest);
+  }
+
+  pub put_alike : (pairs : List Pair) (pair : Pair) (ds : Differences) → (Holds w v pair → (frame : List ℕ) (port : ℕ) → IsReceivedAt w frame port → InFrames pair.frames frame port → IsTreatedAlike c w v frame port) →
+      IsSoFar c w v (pairs ++ pair ∷ []) ds → IsSoFar c w v pairs ds
+  put_alike pairs pair ds alike h = record {
+    hold = others_hold pairs pair ds h;
+    real = h.real;
+    all = λ frame port received. cases pairs pair ds frame port (IsSomewhere pairs ds frame port) (h.all frame port received)
+        (λ within. inr (inr (inr (alike (last_holds pairs pair ds h) frame port received within))))
+        (λ p. inl p)
+        (λ rest. inr rest);
+  }
+
+  more_found : (ds ds' : Differences) (d : Difference) (frame : List ℕ) (port : ℕ) → ds'.found.items ≡ ds.found.items ++ d ∷ [] → ds'.undecided.items ≡ ds.undecided.items →
+      InDifferences ds.found.items frame port ⊎ (InUndecided ds.undecided.items frame port ⊎ IsTreatedAlike c w v frame port) → InDifferences ds'.found.items frame port ⊎ (InUndecided ds'.undecided.items frame port ⊎ IsTreatedAlike c w v frame port)
+  more_found ds ds' d frame port found undecided (inl h) = inl (h.0, subst (λ (l : List Difference). Contains l h.0) (sym found) (Contains-append_left ds.found.items (d ∷ []) h.0 h.1), h.2)
+  more_found ds ds' d frame port found undecided (inr (inl h)) = inr (inl (h.0, subst (λ (l : List Undecided). Contains l h.0) (sym undecided) h.1, h.2))
+  more_found ds ds' d frame port found undecided (inr (inr h)) = inr (inr h)
+
+  pub put_found : (pairs : List Pair) (pair : Pair) (ds ds' : Differences) (d : Difference) → ds'.found.items ≡ ds.found.items ++ d ∷ [] → ds'.undecided.items ≡ ds.undecided.items → IsDifference c w v d → d.frames ≡ pair.frames →
+      IsSoFar c w v (pairs ++ pair ∷ []) ds → IsSoFar c w v pairs ds'
+  put_found pairs pair ds ds' d found undecided is frames h = record {
+    hold = others_hold pairs pair ds h;
+    real = λ x at. elim (Contains-push_cases ds.found.items d x (subst (λ (l : List Difference). Contains l x) found at)) as (λ y. IsDifference c w v x) [
+      | inl before ↦ h.real x before
+      | inr same ↦ subst (λ (y : Difference). IsDifference c w v y) same is
+    ];
+    all = λ frame port received. cases pairs pair ds frame port (IsSomewhere pairs ds' frame port) (h.all frame port received)
+        (λ within. inr (inl (d, subst (λ (l : List Difference). Contains l d) (sym found) (Contains-push ds.found.items d), rw frames within)))
+        (λ p. inl p)
+        (λ rest. inr (more_found ds ds' d frame port found undecided rest));
+  }
+
+  more_undecided : (ds ds' : Differences) (u : Undecided) (frame : List ℕ) (port : ℕ) → ds'.found.items ≡ ds.found.items → ds'.undecided.items ≡ ds.undecided.items ++ u ∷ [] →
+      InDifferences ds.found.items frame port ⊎ (InUndecided ds.undecided.items frame port ⊎ IsTreatedAlike c w v frame port) → InDifferences ds'.found.items frame port ⊎ (InUndecided ds'.undecided.items frame port ⊎ IsTreatedAlike c w v frame port)
+  more_undecided ds ds' u frame port found undecided (inl h) = inl (h.0, subst (λ (l : List Difference). Contains l h.0) (sym found) h.1, h.2)
+  more_undecided ds ds' u frame port found undecided (inr (inl h)) = inr (inl (h.0, subst (λ (l : List Undecided). Contains l h.0) (sym undecided) (Contains-append_left ds.undecided.items (u ∷ []) h.0 h.1), h.2))
+  more_undecided ds ds' u frame port found undecided (inr (inr h)) = inr (inr h)
+
+  pub put_undecided : (pairs : List Pair) (pair : Pair) (ds ds' : Differences) (u : Undecided) → ds'.found.items ≡ ds.found.items → ds'.undecided.items ≡ ds.undecided.items ++ u ∷ [] → u.frames ≡ pair.frames →
+      IsSoFar c w v (pairs ++ pair ∷ []) ds → IsSoFar c w v pairs ds'
+  put_undecided pairs pair ds ds' u found undecided frames h = record {
+    hold = others_hold pairs pair ds h;
+    real = λ x at. h.real x (subst (λ (l : List Difference). Contains l x) found at);
+    all = λ frame port received. cases pairs pair ds frame port (IsSomewhere pairs ds' frame port) (h.all frame port received)
+        (λ within. inr (inr (inl (u, subst (λ (l : List Undecided). Contains l u) (sym undecided) (Contains-push ds.undecided.items u), rw frames within))))
+        (λ p. inl p)
+        (λ rest. inr (more_undecided ds ds' u frame port found undecided rest));
+  }
+
+  -- ---- the beginning and the end
+
+  pub begins : (pair : Pair) (ds : Differences) → ds.found.items ≡ [] → Holds w v pair → ((frame : List ℕ) (port : ℕ) → IsReceivedAt w frame port → InFrames pair.frames frame port) → IsSoFar c w v (pair ∷ []) ds
+  begins pair ds none holds all = record {
+    hold = λ p at. (let same : pair ≡ p = one pair p at in subst (Holds w v) same holds);
+    real = λ d at. absurd (nothing d (subst (λ (l : List Difference). Contains l d) none at));
+    all = λ frame port received. inl (pair, Contains-push [] pair, all frame port received);
+  }
+    where
+      nothing : (d : Difference) → Contains [] d → ⊥
+      nothing d h = absurd cc
+      one : (pair p : Pair) → Contains (pair ∷ []) p → pair ≡ p
+      one pair p at = by_place (Contains-push_cases [] pair p at)
+        where
+          by_place : Contains [] p ⊎ (pair ≡ p) → pair ≡ p
+          by_place (inl before) = absurd cc
+          by_place (inr same) = same
+
+  pub ends : (ds : Differences) → IsSoFar c w v [] ds → AreDifferences c w v ds
+  ends ds h = record { real = h.real; all = λ frame port received. by_place frame port (h.all frame port received) }
+    where
+      by_place : (frame : List ℕ) (port : ℕ) → IsSomewhere [] ds frame port → InDifferences ds.found.items frame port ⊎ (InUndecided ds.undecided.items frame port ⊎ IsTreatedAlike c w v frame port)
+      by_place frame port (inl p) = absurd cc
+      by_place frame port (inr rest) = rest

@@ -1,0 +1,36 @@
+-- WHICH FRAMES TWO SWITCHES TREAT OTHERWISE, and that they treat all others alike (OpenFlow 1.3.5, 5.1).
+use Rattle.std.specs.Prelude.{◌≡◌, ℕ, ◌⊎◌, List}
+use Rattle.std.specs.List.{Contains}
+use Rattle.of_machine.specs.TheWorld.{TheWorld}
+use Rattle.of_symbolic_run.specs.FrameSets.{InFrames}
+use Rattle.of_diff.specs.Alike.{DiffersAt, IsReceivedAt, LeavesAlike, items_at}
+use Rattle.of_diff.specs.declared.alike.Compared.{Compared}
+use Rattle.of_diff.specs.declared.difference.Difference.{Difference}
+use Rattle.of_diff.specs.declared.difference.Differences.{Differences}
+use Rattle.of_diff.specs.declared.difference.Undecided.{Undecided}
+
+-- both switches treat a frame alike
+abbrev pub IsTreatedAlike : Compared → TheWorld → TheWorld → List ℕ → ℕ → Type 0
+IsTreatedAlike c w v frame port = LeavesAlike c (items_at w frame port) (items_at v frame port)
+
+-- both switches receive the frame, and something else leaves them: each ran it
+pub record IsDifference (c : Compared) (w v : TheWorld) (d : Difference) : Type 0 where
+  pub received_first : IsReceivedAt w d.frame.items d.in_port
+  pub received_second : IsReceivedAt v d.frame.items d.in_port
+  pub within : InFrames d.frames d.frame.items d.in_port
+  pub first : d.first.items ≡ items_at w d.frame.items d.in_port
+  pub second : d.second.items ≡ items_at v d.frame.items d.in_port
+  pub differs : DiffersAt c d.at (items_at w d.frame.items d.in_port) (items_at v d.frame.items d.in_port)
+
+-- the frame is one of those of a difference
+abbrev pub InDifferences : List Difference → List ℕ → ℕ → Type 0
+InDifferences found frame port = (d : Difference) × Contains found d × InFrames d.frames frame port
+
+-- it is not known whether the frame is treated alike
+abbrev pub InUndecided : List Undecided → List ℕ → ℕ → Type 0
+InUndecided undecided frame port = (u : Undecided) × Contains undecided u × InFrames u.frames frame port
+
+-- each difference is one, and each frame that is received is treated alike, unless it is one of those of a difference or it is not known
+pub record AreDifferences (c : Compared) (w v : TheWorld) (ds : Differences) : Type 0 where
+  pub real : (d : Difference) → Contains ds.found.items d → IsDifference c w v d
+  pub all : (frame : List ℕ) (port : ℕ) → IsReceivedAt w frame port → InDifferences ds.found.items frame port ⊎ (InUndecided ds.undecided.items frame port ⊎ IsTreatedAlike c w v frame port)

@@ -1,0 +1,63 @@
+-- For contracts inside this crate: the states of both runs for some frames.
+use Rattle.std.specs.Prelude.{◌≡◌, ℕ, ◌⊎◌, ⊤, List}
+use Rattle.std.specs.List.{Contains}
+use Rattle.of_rewrite.specs.Frames.{IsFrame}
+use Rattle.of_machine.specs.TheWorld.{TheWorld}
+use Rattle.of_symbolic_run.specs.declared.dividing.Case.{Case}
+use Rattle.of_symbolic_run.specs.declared.frame_set.FrameSet.{FrameSet}
+use Rattle.of_symbolic_run.specs.declared.state.SymbolicState.{SymbolicState}
+use Rattle.of_symbolic_run.specs.Cases.{AreCases}
+use Rattle.of_symbolic_run.specs.FrameSets.{InFrames}
+use Rattle.of_symbolic_run.specs.States.{IsAt, IsStateCopy}
+use Rattle.of_diff.specs.Alike.{IsReceivedAt}
+use Rattle.of_diff.specs.Differences.{InDifferences, InUndecided, IsTreatedAlike, IsDifference}
+use Rattle.of_diff.specs.declared.alike.Compared.{Compared}
+use Rattle.of_diff.specs.declared.difference.Difference.{Difference}
+use Rattle.of_diff.specs.declared.difference.Differences.{Differences}
+use Rattle.of_diff.specs.declared.pair.Pair.{Pair}
+use Rattle.of_diff.specs.declared.pair.Next.{Next}
+use Rattle.of_diff.specs.declared.pair.Next.TheVariants as next
+use Rattle.of_diff.specs.declared.side.Side.{Side}
+use Rattle.of_diff.specs.declared.side.Side.TheVariants.{Advanced, Divided, Unknown}
+
+-- what becomes of one state for some frames
+abbrev pub SideIs : TheWorld → FrameSet → SymbolicState → SymbolicState → Side → Type 0
+SideIs w frames old new Advanced = (frame : List ℕ) (port : ℕ) → IsAt w frame port old → IsAt w frame port new
+SideIs w frames old new (Divided cases) = AreCases w frames old cases.items
+SideIs w frames old new Unknown = ⊤
+
+-- both states are those of the runs of each frame
+abbrev pub Holds : TheWorld → TheWorld → Pair → Type 0
+Holds w v p = (frame : List ℕ) (port : ℕ) → IsFrame frame → InFrames p.frames frame port → IsAt w frame port p.first × IsAt v frame port p.second
+
+abbrev pub InPairs : List Pair → List ℕ → ℕ → Type 0
+InPairs pairs frame port = (p : Pair) × Contains pairs p × InFrames p.frames frame port
+
+-- the cases of the first run, each with the state of the second
+pub record AreByFirst (cases : List Case) (second : SymbolicState) (pairs : List Pair) : Type 0 where
+  pub each : (p : Pair) → Contains pairs p → (c : Case) × Contains cases c × (p.frames ≡ c.frames) × (p.first ≡ c.state) × IsStateCopy second p.second
+  pub all : (c : Case) → Contains cases c → (p : Pair) × Contains pairs p × (p.frames ≡ c.frames)
+
+-- and those of the second, each with the state of the first
+pub record AreBySecond (first : SymbolicState) (cases : List Case) (pairs : List Pair) : Type 0 where
+  pub each : (p : Pair) → Contains pairs p → (c : Case) × Contains cases c × (p.frames ≡ c.frames) × (p.second ≡ c.state) × IsStateCopy first p.first
+  pub all : (c : Case) → Contains cases c → (p : Pair) × Contains pairs p × (p.frames ≡ c.frames)
+
+-- each frame of a pair is in one of these, whose states are those of its frames, or is treated alike
+pub record ArePairs (c : Compared) (w v : TheWorld) (old : Pair) (pairs : List Pair) : Type 0 where
+  pub hold : Holds w v old → (p : Pair) → Contains pairs p → Holds w v p
+  pub all : Holds w v old → (frame : List ℕ) (port : ℕ) → IsReceivedAt w frame port → InFrames old.frames frame port → InPairs pairs frame port ⊎ IsTreatedAlike c w v frame port
+
+-- what comes of a pair
+abbrev pub NextIs : Compared → TheWorld → TheWorld → Pair → Next → Type 0
+NextIs c w v old (next.Pairs pairs) = ArePairs c w v old pairs.items
+NextIs c w v old next.Alike = Holds w v old → (frame : List ℕ) (port : ℕ) → IsReceivedAt w frame port → InFrames old.frames frame port → IsTreatedAlike c w v frame port
+NextIs c w v old (next.Differs d) = IsDifference c w v d × (d.frames ≡ old.frames)
+NextIs c w v old (next.Undecided u) = u.frames ≡ old.frames
+
+-- all that is known while pairs are left
+pub record IsSoFar (c : Compared) (w v : TheWorld) (pairs : List Pair) (ds : Differences) : Type 0 where
+  pub hold : (p : Pair) → Contains pairs p → Holds w v p
+  pub real : (d : Difference) → Contains ds.found.items d → IsDifference c w v d
+  pub all : (frame : List ℕ) (port : ℕ) → IsReceivedAt w frame port →
+      InPairs pairs frame port ⊎ (InDifferences ds.found.items frame port ⊎ (InUndecided ds.undecided.items frame port ⊎ IsTreatedAlike c w v frame port))

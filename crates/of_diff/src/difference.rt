@@ -1,0 +1,48 @@
+//! What is found about two switches.
+
+use crate::alike::Where;
+use of_machine::Items;
+use of_symbolic_run::FrameSet;
+
+/// Frames that two switches treat otherwise, or may: one of them was run on both.
+#[derive(Drop)]
+pub struct Difference {
+    /// It is one of these. Some of these may be treated alike.
+    pub frames: FrameSet,
+    /// The frame that was run, and the port at which it is received.
+    pub frame: Vec<u8>,
+    pub in_port: u32,
+    /// Where something else leaves.
+    pub at: Where,
+    /// What leaves the first switch.
+    pub first: Items,
+    /// What leaves the second switch.
+    pub second: Items,
+}
+
+/// Why it is not known whether frames are treated alike.
+#[derive(Clone, Copy, Debug, PartialEq, Eq)]
+pub enum Why {
+    /// A lookup asks what is not known of a VLAN tag: of one below the outermost tag, or of a PCP that PUSH_VLAN copied.
+    UnknownTag,
+    /// The runs took as many steps as they may.
+    Steps,
+    /// The search for a frame among them took as many steps as it may, or found none with a port of the switches.
+    Search,
+    /// The actions on the frames differ, but what they made of the frame that was run is the same.
+    OtherActions,
+}
+
+/// Frames of which it is not known whether two switches treat them alike.
+#[derive(Drop)]
+pub struct Undecided {
+    pub frames: FrameSet,
+    pub why: Why,
+}
+
+/// What is found about two switches.
+#[derive(Drop)]
+pub struct Differences {
+    pub found: Vec<Difference>,
+    pub undecided: Vec<Undecided>,
+}
