@@ -34,7 +34,7 @@ fn compare_ended<'a, L: Lookup>(
     requires ports { SamePorts first.now.ports second.now.ports }
     requires first { pair.first.tasks.items ≡ [] }
     requires second { pair.second.tasks.items ≡ [] }
-    ensures { IfOk result (NextIs compared (world_of (forwarding_of first.now)) (world_of (forwarding_of second.now)) pair) }
+    ensures { IfOk result (NextIs compared (world_of (forwarding_of first.now)) (world_of (forwarding_of second.now)) pair.entry) }
 {
     first.known_world();
     second.known_world();
@@ -54,7 +54,7 @@ fn step_pair<'a, L: Lookup>(
     steps: usize,
 ) -> Result<Next<'a>, AllocError>
     requires { SamePorts first.now.ports second.now.ports }
-    ensures { IfOk result (NextIs compared (world_of (forwarding_of first.now)) (world_of (forwarding_of second.now)) pair) }
+    ensures { IfOk result (NextIs compared (world_of (forwarding_of first.now)) (world_of (forwarding_of second.now)) pair.entry) }
 {
     if !pair.first.tasks.is_empty() {
         return step_first(alloc, first, pair);
@@ -82,7 +82,7 @@ fn put<'a>(
     pairs: &mut Vec<Pair<'a>>,
     so_far: &mut Differences,
 ) -> Result<(), AllocError>
-    ensures { OnOk result ((c : WhatIsCompared) (w v : TheWorld) (pair : ThePair) → NextIs c w v pair next →
+    ensures { OnOk result ((c : WhatIsCompared) (w v : TheWorld) (pair : ThePair) → NextIs c w v pair next.entry →
         IsSoFar c w v (pairs.old.items ++ pair ∷ []) so_far.old → IsSoFar c w v pairs.new.items so_far.new) }
 {
     match next {
@@ -104,7 +104,7 @@ fn put<'a>(
 
 // The runs took as many steps as they may.
 fn give_up<'a>(pairs: Vec<Pair<'a>>, so_far: &mut Differences) -> Result<(), AllocError>
-    ensures { OnOk result ((c : WhatIsCompared) (w v : TheWorld) → IsSoFar c w v pairs.items so_far.old → AreDifferences c w v so_far.new) }
+    ensures { OnOk result ((c : WhatIsCompared) (w v : TheWorld) → IsSoFar c w v pairs.entry.items so_far.old → AreDifferences c w v so_far.new) }
 {
     for pair in pairs {
         so_far.undecided.push(Undecided {
