@@ -2,23 +2,11 @@
 ghost use Rattle.std.specs.Prelude.{◌≡◌, ◌++◌, ◌∷◌, [], OnOk};
 ghost use Rattle.std.specs.List.{flat_map};
 ghost use Rattle.of_json.specs.Parts.{key, listed};
-ghost use Rattle.of_import.specs.Notes.{shown};
-ghost use Rattle.of_import_report.specs.Json.{import_truth_member};
-ghost use Rattle.of_import_report.specs.Strings.{escaped, string, string_of};
+ghost use Rattle.of_json.specs.Strings.{escaped, string, string_member, string_of};
 
-use of_json::{push_key, push_truth};
+use crate::parts::push_key;
+use of_values::printable;
 use std::alloc::AllocError;
-
-// A byte that is no printable character of ASCII is a question mark.
-fn printable(byte: u8) -> u8
-    ensures { result ≡ shown byte }
-{
-    if (32..=126).contains(&byte) {
-        byte
-    } else {
-        b'?'
-    }
-}
 
 fn push_escaped(out: &mut Vec<u8>, byte: u8) -> Result<(), AllocError>
     ensures { OnOk result (out.new.items ≡ out.old.items ++ escaped byte) }
@@ -85,12 +73,12 @@ pub fn begin_array(out: &mut Vec<u8>, name: &[u8]) -> Result<(), AllocError>
     Ok(())
 }
 
-/// Appends a further member: true or false.
-#[tactic(auto, unfolding(crate::specs::Json::import_truth_member))]
-pub fn push_flag_member(out: &mut Vec<u8>, name: &[u8], flag: bool) -> Result<(), AllocError>
-    ensures { OnOk result (out.new.items ≡ out.old.items ++ import_truth_member name.now flag) }
+/// Appends a further member: a string with any bytes.
+#[tactic(auto, unfolding(crate::specs::Strings::string_member))]
+pub fn push_string_member(out: &mut Vec<u8>, name: &[u8], text: &[u8]) -> Result<(), AllocError>
+    ensures { OnOk result (out.new.items ≡ out.old.items ++ string_member name.now text.now) }
 {
     out.push(b',')?;
     push_key(out, name)?;
-    push_truth(out, flag)
+    push_string(out, text)
 }
