@@ -3,6 +3,7 @@ ghost use Rattle.std.specs.Prelude.{◌≡◌, ◌≤◌, IfOk};
 ghost use Rattle.of_check.specs.Files.{tables_in};
 ghost use Rattle.of_replay.specs.FileRuns.{Runs, ended_as, flow_text};
 ghost use Rattle.of_replay.specs.WholeFiles.{Faults};
+ghost use Rattle.of_values.specs.Origins.{view_origins};
 ghost use Rattle.of_report.specs.Files.{report_in};
 
 use crate::reporting::{Form, write_report};

@@ -1,6 +1,7 @@
 //! The report on the flow tables of a switch.
 ghost use Rattle.std.specs.Prelude.{◌≡◌, ◌<◌, ◌↔◌, IfOk};
 ghost use Rattle.of_replay.specs.FileRuns.{Writes, ended_as};
+ghost use Rattle.of_values.specs.Origins.{view_origins};
 ghost use Rattle.of_report.specs.Files.{IsCheckReport, check_report_text};
 
 use crate::counting::is_found;
