@@ -1,6 +1,7 @@
 -- The cases of a lookup.
 use Rattle.std.proofs.Common.{◌≡◌, ◌<◌, ◌≤◌, ◌+◌, ℕ, zero, suc, Bool, true, false, Bor, List, [], ◌∷◌, ◌++◌, length, get_or, set, drop, Option, Some, None, refl, sym, ap, subst, ◌∙◌, arith, add-one, append_assoc, drop-cons}
-use Rattle.std.specs.Prelude.{IsTrue, map, slice_get}
+use Rattle.std.specs.Prelude.{IfSome, IsTrue, map, slice_get}
+use Rattle.std.specs.Global.{Vec}
 use Rattle.std.specs.List.{Contains}
 use Rattle.std.specs.Option.{option_map}
 use Rattle.std.proofs.lemmas.List.{append-nil, drop_all, map-append}
@@ -19,7 +20,9 @@ use Rattle.of_machine.specs.TheWorld.{TheWorld}
 use Rattle.of_machine.specs.Rows.{Row, Task, at_entry, entry_row, lookup_row, task, works}
 use Rattle.of_machine.specs.Rows as rows
 use Rattle.of_symbolic.specs.declared.branching.Branch.{Branch}
-use Rattle.of_symbolic.specs.Branches.{AreBranches, flows_listed, rewritten_fields}
+use Rattle.of_symbolic.specs.declared.overlay.Overlay.{Overlay}
+use Rattle.of_symbolic.specs.Overlays.{IsOverlay}
+use Rattle.of_symbolic.specs.Branches.{AreBranches, AsksUnknown, flows_listed, rewritten_fields}
 use Rattle.of_symbolic.specs.Parts.{InPart, received_fields}
 use Rattle.of_symbolic_run.specs.declared.advance.Advance.TheVariants as advances
 use Rattle.of_symbolic_run.specs.declared.dividing.Case.{Case}
@@ -30,7 +33,7 @@ use Rattle.of_symbolic_run.specs.declared.state.SymbolicState.{SymbolicState}
 use Rattle.of_symbolic_run.specs.declared.state.SymbolicTask.{SymbolicTask}
 use Rattle.of_symbolic_run.specs.declared.state.Work.{Work}
 use Rattle.of_symbolic_run.specs.declared.state.Work.TheVariants.{Do, Lookup, RunSet}
-use Rattle.of_symbolic_run.specs.Cases.{AreCases, AreCasesOf, IsAtEntry, IsCaseOf, IsEntered, IsTableOf, first_key, flow_found, flow_named, flow_of, goes_to_table}
+use Rattle.of_symbolic_run.specs.Cases.{AreCases, AreCasesOf, AsksUnknownOf, IsAtEntry, IsCaseOf, IsEntered, IsTableOf, first_key, flow_found, flow_named, flow_of, goes_to_table}
 use Rattle.of_symbolic_run.specs.FrameSets.{InFrames}
 use Rattle.of_symbolic_run.specs.States.{IsAt, IsStateCopy, answer_to_tasks, items_for, packet_for, row_for, task_for, work_for}
 use Rattle.of_symbolic_run.proofs.FirstLemmas.{Firsts, copy_stepped, first_item, firsts, is_lookup, some_lookup}
@@ -41,6 +44,10 @@ works_at : (l : List Instruction) (k : ℕ) (i : Instruction) → slice_get l k 
 works_at l k i at lt =
     let same : get_or l k i ≡ i = (let there = slice_get-get_or l k i lt in cc) in
     rw (add-one) (drop-cons l k i lt ∙ ap (λ (x : Instruction). x ∷ drop (suc k) l) same)
+
+-- the item at a place, as two calls give it
+pub at_place : (l : List Instruction) (k : ℕ) (i j : Instruction) → slice_get l k ≡ Some i → k < length l → j ≡ get_or l k j → i ≡ j
+at_place l k i j at lt is = let there : slice_get l k ≡ Some j = slice_get-get_or l k j lt ∙ ap Some (sym is) in cc
 
 on_works : (i : Instruction) (rest : List Instruction) → goes_to_table i ≡ false → works (i ∷ rest) ≡ rows.Do i ∷ works rest
 on_works (Apply l) rest h = refl
@@ -186,3 +193,24 @@ module _ (table : ℕ) (flows : List FlowEntry) (frames : FrameSet) (state : Sym
         let won : w.winner table (first_key state.tasks.items frame port) ≡ o.b.entry = is.winner (first_key state.tasks.items frame port) ∙ ap (λ (k : Field → Option ℕ). winner_place k flows) (key frame port) ∙ are.wins o.b o.there frame port is_frame (o.own.within frame port h).1 in
         o.own.entered w frame port (ap (flow_found w table) won ∙ found_named w is o.b.entry) at;
   }
+
+-- ---- the first packet
+
+pub key_is : (ts : List SymbolicTask) (x : SymbolicTask) (table : ℕ) → answer_to_tasks ts ≡ advances.Lookup table → x ≡ get_or ts 0 x → (frame : List ℕ) (port : ℕ) → first_key ts frame port ≡ rewritten_fields x.packet.rewrites x.packet.metadata frame port
+key_is [] x table answer is frame port = absurd cc
+key_is (t ∷ ts) x table answer is frame port = ap (λ (y : SymbolicTask). rewritten_fields y.packet.rewrites y.packet.metadata frame port) (sym (first_item (t ∷ ts) x t ts is refl))
+
+pub unknown_first : (ts : List SymbolicTask) (x : SymbolicTask) (table : ℕ) (o : Overlay) (flows : List FlowEntry) → answer_to_tasks ts ≡ advances.Lookup table → x ≡ get_or ts 0 x → IsOverlay o x.packet.rewrites → AsksUnknown o flows → AsksUnknownOf ts flows
+unknown_first [] x table o flows answer is over unknown = absurd cc
+unknown_first (t ∷ ts) x table o flows answer is over unknown = (o, subst (λ (y : SymbolicTask). IsOverlay o y.packet.rewrites) (first_item (t ∷ ts) x t ts is refl) over, unknown)
+
+-- what branches are
+pub own_branches : (P : Vec Branch → Type 0) (found : Option (Vec Branch)) (made : Vec Branch) → found ≡ Some made → IfSome found P → P made
+own_branches P found made is h = subst (λ (o : Option (Vec Branch)). IfSome o P) is h
+
+-- each branch that is left
+pub left_branches : (P : Branch → Type 0) (left others : List Branch) (b : Branch) → left ≡ b ∷ others → ((x : Branch) → Contains left x → P x) → P b × ((x : Branch) → Contains others x → P x)
+left_branches P left others b is each = (
+  each b (subst (λ (l : List Branch). Contains l b) (sym is) (0, omega arith, refl)),
+  λ x there. each x (subst (λ (l : List Branch). Contains l x) (sym is) (suc there.0, omega (arith, there.1), there.2)),
+)

@@ -29,12 +29,13 @@ use Rattle.of_symbolic_run.specs.declared.state.SymbolicTask.{SymbolicTask}
 use Rattle.of_symbolic_run.specs.declared.state.Work.{Work}
 use Rattle.of_symbolic_run.specs.declared.state.Work.TheVariants.{Act}
 use Rattle.of_symbolic_run.specs.Cases.{AreCases}
-use Rattle.of_symbolic_run.specs.Decrementing.{AddsExpired, IsDecremented, IsExpiredCase, IsOneMoreRewrite, first_ttl, limit_of_first}
+use Rattle.of_symbolic_run.specs.Decrementing.{AddsExpired, IsDecremented, IsExpiredCase, IsLimit, IsOneMoreRewrite, first_ttl}
 use Rattle.of_symbolic_run.specs.FrameSets.{AreFramesOrNone, AreFramesThat, InFrames}
 use Rattle.of_symbolic_run.specs.States.{IsAt, IsStateCopy, answer_to_tasks, items_for, packet_for, row_for, task_for, work_for}
-use Rattle.of_symbolic_run.specs.TimesToLive.{expires, is_last}
+use Rattle.of_symbolic_run.specs.TimesToLive.{expires, is_last, known_ttl, limit_of}
 use Rattle.of_symbolic_run.proofs.FirstLemmas.{Firsts, copy_stepped, first_item, firsts, is_decrement, some_decrement}
 use Rattle.of_symbolic_run.proofs.HeaderLemmas.{none_decremented}
+use Rattle.of_symbolic_run.proofs.TtlLemmas.{last_is}
 use Rattle.of_symbolic_run.proofs.StepLemmas.{frames_more, items_more}
 
 -- ---- rows
@@ -53,15 +54,16 @@ alive_row p rest (Some t) h stays = rw h (refl, refl)
 first_work : (t : SymbolicTask) (rest ts : List SymbolicTask) → ts ≡ t ∷ rest → answer_to_tasks ts ≡ advances.DecNwTtl → t.work.items ≡ Act actions.DecNwTtl ∷ drop 1 t.work.items
 first_work t rest ts first answer = is_decrement t.work.items (ap answer_to_tasks (sym first) ∙ answer)
 
-pub expired_is : (old copy new : SymbolicState) (x : SymbolicTask) (packet : SymbolicPacket) (t' : SymbolicTask) → answer_to_tasks old.tasks.items ≡ advances.DecNwTtl → IsStateCopy old copy → x ≡ get_or copy.tasks.items 0 x → packet ≡ x.packet →
-    t'.packet ≡ x.packet → t'.work.items ≡ [] → new.tasks.items ≡ set copy.tasks.items 0 t' → new.emitted.items ≡ copy.emitted.items ++ InvalidTtl packet ∷ [] → IsDecremented true old new
-expired_is old copy new x packet t' answer copied is own kept none tasks emitted w frame port is_frame last at =
+pub expired_is : (old copy new : SymbolicState) (x y : SymbolicTask) (packet : SymbolicPacket) (t' : SymbolicTask) → answer_to_tasks old.tasks.items ≡ advances.DecNwTtl → IsStateCopy old copy → x ≡ get_or copy.tasks.items 0 x → y ≡ get_or copy.tasks.items 0 y → packet ≡ x.packet →
+    t'.packet ≡ y.packet → t'.work.items ≡ [] → new.tasks.items ≡ set copy.tasks.items 0 t' → new.emitted.items ≡ copy.emitted.items ++ InvalidTtl packet ∷ [] → IsDecremented true old new
+expired_is old copy new x y packet t' answer copied is again own kept none tasks emitted w frame port is_frame last at =
     let f = firsts old.tasks.items copy.tasks.items copied.0 (some_decrement old.tasks.items answer) in
     let p = packet_for f.t.packet frame port in
-    let same : x.packet ≡ f.t.packet = ap (λ (y : SymbolicTask). y.packet) (first_item copy.tasks.items x f.copy f.others is f.copied) ∙ f.same.0 in
+    let same : x.packet ≡ f.t.packet = ap (λ (z : SymbolicTask). z.packet) (first_item copy.tasks.items x f.copy f.others is f.copied) ∙ f.same.0 in
+    let same_again : y.packet ≡ f.t.packet = ap (λ (z : SymbolicTask). z.packet) (first_item copy.tasks.items y f.copy f.others again f.copied) ∙ f.same.0 in
     let work = first_work f.t f.rest old.tasks.items f.first answer in
     let row_is = last_row p (map work_for (drop 1 f.t.work.items)) (ttl_of (layers_of p.frame)) (ap (λ (ts : List SymbolicTask). is_last (first_ttl ts frame)) (sym f.first) ∙ last) in
-    let left : (row_for w frame port f.t).left ≡ task_for frame port t' ∷ [] = rw (work, kept ∙ same, none) row_is.0 in
+    let left : (row_for w frame port f.t).left ≡ task_for frame port t' ∷ [] = rw (work, kept ∙ same_again, none) row_is.0 in
     let sent : (row_for w frame port f.t).items ≡ (packet_in_emitted reasons.InvalidTtl None p).items = rw work row_is.1 in
     let more : items_for w.ports new.emitted.items frame port ≡ items_for w.ports old.emitted.items frame port ++ (row_for w frame port f.t).items =
     ap (λ (es : List Emission). items_for w.ports es frame port) (emitted ∙ ap (λ (es : List Emission). es ++ InvalidTtl packet ∷ []) copied.1 ∙ ap (λ (q : SymbolicPacket). old.emitted.items ++ InvalidTtl q ∷ []) (own ∙ same))
@@ -91,9 +93,10 @@ decremented_is old copy new x t' answer copied is one tasks emitted w frame port
 
 -- ---- cases
 
--- the limit says for which frames it expires
-abbrev pub IsLimit : List SymbolicTask → Option ℕ → Type 0
-IsLimit ts limit = (frame : List ℕ) → IsFrame frame → is_last (first_ttl ts frame) ≡ expires limit frame
+pub limit_is : (ts : List SymbolicTask) (x : SymbolicTask) (limit : Option ℕ) → answer_to_tasks ts ≡ advances.DecNwTtl → x ≡ get_or ts 0 x → AreRewriting x.packet.rewrites → limit ≡ limit_of (known_ttl x.packet.rewrites) → IsLimit ts limit
+limit_is [] x limit answer is rewriting own frame is_frame = absurd cc
+limit_is (t ∷ ts) x limit answer is rewriting own frame is_frame =
+    subst (λ (y : SymbolicTask). is_last (first_ttl (y ∷ ts) frame) ≡ expires limit frame) (first_item (t ∷ ts) x t ts is refl) (last_is x.packet.rewrites frame is_frame rewriting ∙ ap (λ (o : Option ℕ). expires o frame) (sym own))
 
 module _ (w : TheWorld) (frames : FrameSet) (state : SymbolicState) (limit : Option ℕ) (is_limit : IsLimit state.tasks.items limit) (alive : Case) (living : AreFramesThat (λ frame. not (expires limit frame)) frames alive.frames) (kept : IsDecremented false state alive.state) where
   not_last : (b : Bool) → not b ≡ true → b ≡ false

@@ -7,3 +7,4 @@ pub mod HeaderLemmas
 pub mod TtlFrameLemmas
 pub mod DecrementLemmas
 pub mod CaseLemmas
+pub mod GroupLemmas

@@ -1,5 +1,5 @@
 -- WHAT A STATE BECOMES FOR PARTS OF ITS FRAMES (OpenFlow 1.3.5, 5.3, 5.6 and 5.12).
-use Rattle.std.specs.Prelude.{◌≡◌, ℕ, Bool, true, false, List, [], ◌∷◌, Option, None, Some, map, unwrap_or, ⊤}
+use Rattle.std.specs.Prelude.{◌≡◌, ℕ, Bool, true, false, List, [], ◌∷◌, Option, None, Some, map, ⊤}
 use Rattle.std.specs.Borrow.{Bor}
 use Rattle.std.specs.List.{Contains}
 use Rattle.std.specs.Option.{option_map}
@@ -92,9 +92,3 @@ AreCasesOf table flows frames state [] [] = ⊤
 AreCasesOf table flows frames state [] (c ∷ cases) = ⊥
 AreCasesOf table flows frames state (b ∷ branches) [] = ⊥
 AreCasesOf table flows frames state (b ∷ branches) (c ∷ cases) = IsCaseOf table flows frames state b c × AreCasesOf table flows frames state branches cases
-
--- ---- groups
-
--- the actions of the buckets of a group of the world that run, where the group exists
-abbrev pub IsGroupOf : TheWorld → ℕ → Option (List (List Action)) → Type 0
-IsGroupOf w group buckets = option_map (map (λ place. unwrap_or (w.bucket group place) [])) (w.chosen group) ≡ buckets

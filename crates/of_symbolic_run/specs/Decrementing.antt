@@ -12,16 +12,16 @@ use Rattle.of_symbolic_run.specs.declared.state.SymbolicState.{SymbolicState}
 use Rattle.of_symbolic_run.specs.declared.state.SymbolicTask.{SymbolicTask}
 use Rattle.of_symbolic_run.specs.FrameSets.{AreFramesOrNone, AreFramesThat}
 use Rattle.of_symbolic_run.specs.States.{IsAt}
-use Rattle.of_symbolic_run.specs.TimesToLive.{is_last, known_ttl, limit_of}
+use Rattle.of_symbolic_run.specs.TimesToLive.{expires, is_last}
 
 -- the TTL of the first packet, for a frame
 abbrev pub first_ttl : List SymbolicTask → List ℕ → Option ℕ
 first_ttl [] frame = None
 first_ttl (t ∷ rest) frame = ttl_of (layers_of (frame_of_actions t.packet.rewrites frame))
 
-abbrev pub limit_of_first : List SymbolicTask → Option ℕ
-limit_of_first [] = None
-limit_of_first (t ∷ rest) = limit_of (known_ttl t.packet.rewrites)
+-- the limit says for which frames it expires
+abbrev pub IsLimit : List SymbolicTask → Option ℕ → Type 0
+IsLimit tasks limit = (frame : List ℕ) → IsFrame frame → is_last (first_ttl tasks frame) ≡ expires limit frame
 
 -- for the frames for which it expires, or for which it does not, one state follows the other
 abbrev pub IsDecremented : Bool → SymbolicState → SymbolicState → Type 0

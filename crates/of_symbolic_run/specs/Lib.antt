@@ -5,3 +5,4 @@ pub mod FrameSets
 pub mod Cases
 pub mod TimesToLive
 pub mod Decrementing
+pub mod Groups

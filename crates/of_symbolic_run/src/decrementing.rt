@@ -4,7 +4,7 @@ ghost use Rattle.of_actions.specs.declared.action.Action.TheVariants.{DecNwTtl a
 ghost use Rattle.of_machine.specs.TheWorld.{TheWorld};
 ghost use Rattle.of_symbolic_run.specs.declared.advance.Advance.TheVariants.{DecNwTtl};
 ghost use Rattle.of_symbolic_run.specs.Cases.{AreCases};
-ghost use Rattle.of_symbolic_run.specs.Decrementing.{AddsExpired, IsDecremented, IsOneMoreRewrite, limit_of_first};
+ghost use Rattle.of_symbolic_run.specs.Decrementing.{AddsExpired, IsDecremented, IsLimit, IsOneMoreRewrite};
 ghost use Rattle.of_symbolic_run.specs.States.{answer_to_tasks};
 ghost use Rattle.of_symbolic_run.specs.TimesToLive.{expires};
 
@@ -35,7 +35,7 @@ impl<'a> SymbolicState<'a> {
     // The greatest TTL of a frame for which the DEC_NW_TTL of the first packet expires.
     fn ttl_limit(&self) -> Option<u8>
         requires { answer_to_tasks self.now.tasks.items ≡ DecNwTtl }
-        ensures { result ≡ limit_of_first self.now.tasks.items }
+        ensures { IsLimit self.now.tasks.items result }
     {
         ttl_after_all(self.tasks[0].packet.rewrites.as_slice()).limit()
     }

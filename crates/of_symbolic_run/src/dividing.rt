@@ -102,6 +102,7 @@ pub fn look_up<'a>(
 {
     let listed = listed_entries(alloc, entries)?;
     let packet = &state.tasks[0].packet;
+    packet.rewrites.known();
     let overlay = packet.rewrites.overlay(alloc)?;
     match branches(alloc, &listed, &overlay, packet.metadata, &frames.part)? {
         None => Ok(None),
