@@ -1,13 +1,12 @@
 -- The cases of a lookup.
-use Rattle.std.proofs.Common.{◌≡◌, ◌<◌, ◌≤◌, ◌+◌, ℕ, zero, suc, Bool, true, false, Bor, List, [], ◌∷◌, ◌++◌, length, get_or, set, drop, Option, Some, None, refl, sym, ap, subst, ◌∙◌, arith, add-one, append_assoc, drop-cons}
-use Rattle.std.specs.Prelude.{IfSome, IsTrue, map, slice_get}
+use Rattle.std.proofs.Common.{◌≡◌, ◌<◌, ◌≤◌, ◌+◌, ℕ, zero, suc, true, false, Bor, List, [], ◌∷◌, ◌++◌, length, get_or, set, drop, Option, Some, None, refl, sym, ap, subst, ◌∙◌, arith, add-one, append_assoc, drop-cons}
+use Rattle.std.specs.Prelude.{IfSome, map, slice_get}
 use Rattle.std.specs.Global.{Vec}
 use Rattle.std.specs.List.{Contains}
 use Rattle.std.specs.Option.{option_map}
 use Rattle.std.proofs.lemmas.List.{append-nil, drop_all, map-append}
-use Rattle.std.proofs.lemmas.Option.{slice_get-get_or, slice_get_past}
+use Rattle.std.proofs.lemmas.Option.{slice_get-get_or}
 use Rattle.of_layers.specs.declared.field.Field.{Field}
-use Rattle.of_rewrite.specs.Frames.{IsFrame}
 use Rattle.of_actions.specs.declared.action.Action.{Action}
 use Rattle.of_actions.specs.declared.instruction.Instruction.{Instruction}
 use Rattle.of_actions.specs.declared.instruction.Instruction.TheVariants.{Apply, Clear, Goto, Metadata, Write}
@@ -33,10 +32,9 @@ use Rattle.of_symbolic_run.specs.declared.state.SymbolicState.{SymbolicState}
 use Rattle.of_symbolic_run.specs.declared.state.SymbolicTask.{SymbolicTask}
 use Rattle.of_symbolic_run.specs.declared.state.Work.{Work}
 use Rattle.of_symbolic_run.specs.declared.state.Work.TheVariants.{Do, Lookup, RunSet}
-use Rattle.of_symbolic_run.specs.Cases.{AreCases, AreCasesOf, AsksUnknownOf, IsAtEntry, IsCaseOf, IsEntered, IsTableOf, first_key, flow_found, flow_named, flow_of, goes_to_table}
-use Rattle.of_symbolic_run.specs.FrameSets.{InFrames}
-use Rattle.of_symbolic_run.specs.States.{IsAt, IsStateCopy, answer_to_tasks, items_for, packet_for, row_for, task_for, work_for}
-use Rattle.of_symbolic_run.proofs.FirstLemmas.{Firsts, copy_stepped, first_item, firsts, is_lookup, some_lookup}
+use Rattle.of_symbolic_run.specs.Cases.{AreCases, AreCasesOf, AsksUnknownOf, IsAtEntry, IsCaseOf, IsEntered, IsTableOf, first_key, flow_found, flow_named, goes_to_table}
+use Rattle.of_symbolic_run.specs.States.{IsStateCopy, answer_to_tasks, items_for, packet_for, row_for, task_for, work_for}
+use Rattle.of_symbolic_run.proofs.FirstLemmas.{copy_stepped, first_item, firsts, is_lookup, some_lookup}
 
 -- ---- instructions as work
 

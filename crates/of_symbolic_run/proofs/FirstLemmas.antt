@@ -1,18 +1,15 @@
 -- The first packet of a state, and of a copy.
-use Rattle.std.proofs.Common.{◌≡◌, ◌<◌, ℕ, zero, suc, List, [], ◌∷◌, ◌++◌, length, get_or, set, drop, refl, sym, ◌∙◌, ap, subst, arith}
+use Rattle.std.proofs.Common.{◌≡◌, ◌<◌, ℕ, suc, List, [], ◌∷◌, ◌++◌, length, get_or, drop, refl, sym, ◌∙◌, ap, arith}
 use Rattle.std.specs.Prelude.{map}
 use Rattle.of_actions.specs.declared.action.Action.TheVariants as actions
-use Rattle.of_machine.specs.declared.data.Packet.{Packet}
-use Rattle.of_machine.specs.declared.data.Item.{Item}
 use Rattle.of_machine.specs.TheWorld.{TheWorld}
-use Rattle.of_machine.specs.Rows.{Task, task, row}
-use Rattle.of_machine.specs.Rows as rows
+use Rattle.of_machine.specs.Rows.{Task}
 use Rattle.of_symbolic_run.specs.declared.advance.Advance.TheVariants as advances
 use Rattle.of_symbolic_run.specs.declared.state.SymbolicTask.{SymbolicTask}
 use Rattle.of_symbolic_run.specs.declared.state.SymbolicState.{SymbolicState}
 use Rattle.of_symbolic_run.specs.declared.state.Work.{Work}
 use Rattle.of_symbolic_run.specs.declared.state.Work.TheVariants.{Lookup, Do, RunSet, Act}
-use Rattle.of_symbolic_run.specs.States.{AreTaskCopies, IsAt, IsStateCopy, IsTaskCopy, answer_to_tasks, answer_to_works, items_for, packet_for, row_for, task_for, work_for}
+use Rattle.of_symbolic_run.specs.States.{AreTaskCopies, IsAt, IsTaskCopy, answer_to_tasks, answer_to_works, items_for, row_for, task_for}
 use Rattle.of_symbolic_run.proofs.RunLemmas.{same_tasks, taken_at}
 
 -- ---- the first work

@@ -1,7 +1,6 @@
 -- Sets of frames.
 use Rattle.std.proofs.Common.{◌≡◌, ◌≤◌, ◌<◌, ◌%◌, ◌^◌, ℕ, List, length, Option, Some, None, refl, sym, ap, subst, ◌∙◌, arith, inl, inr}
-use Rattle.std.specs.Prelude.{true, false, IfSome}
-use Rattle.std.specs.Option.{option_map}
+use Rattle.std.specs.Prelude.{IfSome}
 use Rattle.std.proofs.Math.Nat.{mod-eq_of_lt}
 use Rattle.std.proofs.Math.Path.{fun_ext}
 use Rattle.of_layers.specs.declared.field.Field.{Field}
@@ -10,7 +9,6 @@ use Rattle.of_layers.specs.Layers.{cells, ttl}
 use Rattle.of_layers.specs.Reading.{layers_of}
 use Rattle.of_headers.specs.FieldMap.{field_map}
 use Rattle.of_oxm.specs.declared.match_field.MatchField.{MatchField}
-use Rattle.of_oxm.specs.Relations.{matches_map}
 use Rattle.of_rewrite.specs.Calls.{SetTtl}
 use Rattle.of_rewrite.specs.Frames.{IsFrame, frame_ttl}
 use Rattle.of_rewrite.specs.TimeToLive.{ttl_of}

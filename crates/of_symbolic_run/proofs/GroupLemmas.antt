@@ -1,5 +1,5 @@
 -- A GROUP of the first packet.
-use Rattle.std.proofs.Common.{◌≡◌, ◌<◌, ◌+◌, ℕ, zero, suc, Bor, List, [], ◌∷◌, ◌++◌, length, get_or, drop, take, Option, Some, None, refl, sym, ap, subst, ◌∙◌, arith, append_assoc}
+use Rattle.std.proofs.Common.{◌≡◌, ◌<◌, ◌+◌, ℕ, zero, suc, Bor, List, [], ◌∷◌, ◌++◌, length, get_or, drop, take, Option, Some, None, refl, sym, ap, subst, ◌∙◌, arith}
 use Rattle.std.specs.Prelude.{IsTrue, false, map, unwrap_or}
 use Rattle.std.specs.List.{list_all}
 use Rattle.std.specs.Option.{option_map}
@@ -7,7 +7,6 @@ use Rattle.std.proofs.lemmas.List.{append-nil, map-append, take_more}
 use Rattle.of_actions.specs.declared.action.Action.{Action}
 use Rattle.of_actions.specs.declared.action.Action.TheVariants as actions
 use Rattle.of_actions.specs.Supported.{is_supported}
-use Rattle.of_machine.specs.declared.data.Packet.{Packet}
 use Rattle.of_machine.specs.declared.data.Item.{Item}
 use Rattle.of_machine.specs.TheWorld.{TheWorld}
 use Rattle.of_machine.specs.Rows.{Task, copies, group_action_row, task}
@@ -17,7 +16,6 @@ use Rattle.of_symbolic_run.specs.declared.state.Emission.{Emission}
 use Rattle.of_symbolic_run.specs.declared.state.SymbolicPacket.{SymbolicPacket}
 use Rattle.of_symbolic_run.specs.declared.state.SymbolicState.{SymbolicState}
 use Rattle.of_symbolic_run.specs.declared.state.SymbolicTask.{SymbolicTask}
-use Rattle.of_symbolic_run.specs.declared.state.Work.{Work}
 use Rattle.of_symbolic_run.specs.declared.state.Work.TheVariants.{Act}
 use Rattle.of_symbolic_run.specs.Groups.{AreBucketTasks, AreGroupTasks, AreServedLists, IsBucketTask, IsGroupOf, lists_of}
 use Rattle.of_symbolic_run.specs.States.{IsAt, answer_to_tasks, items_for, packet_for, row_for, task_for, work_for}

@@ -1,6 +1,6 @@
 -- A frame has a TTL exactly if it has IP_DSCP.
-use Rattle.std.proofs.Common.{◌≡◌, ℕ, Bool, true, false, cond, List, [], ◌∷◌, ◌++◌, Option, Some, None, refl, sym, ap, subst, ◌∙◌}
-use Rattle.std.specs.Prelude.{◌||◌, ◌&&◌, is_some}
+use Rattle.std.proofs.Common.{◌≡◌, ℕ, Bool, true, false, cond, List, [], ◌∷◌, ◌++◌, Option, Some, None, refl, sym, ap, ◌∙◌}
+use Rattle.std.specs.Prelude.{◌||◌, is_some}
 use Rattle.std.specs.Option.{option_or}
 use Rattle.of_layers.specs.declared.field.Field.TheVariants.{IpDscp}
 use Rattle.of_layers.specs.Fields.{row_of, number_of}
@@ -10,7 +10,7 @@ use Rattle.of_layers.specs.Reading.{layers_of}
 use Rattle.of_layers.specs.WellFormed.{FitsItems, IsBody, IsLayers}
 use Rattle.of_layers.proofs.FrameLemmas.{are_layers, frame_encoded}
 use Rattle.of_headers.proofs.LookLemmas.{lacks, look-append, look_bytes, look_front, no_name}
-use Rattle.of_rewrite.specs.Frames.{IsFrame, bytes_in, frame_ttl_decremented}
+use Rattle.of_rewrite.specs.Frames.{IsFrame, frame_ttl_decremented}
 use Rattle.of_rewrite.specs.TimeToLive.{ttl_of}
 use Rattle.of_rewrite.proofs.Framing.{bytes_are, is_aged}
 

@@ -1,21 +1,21 @@
 -- The frames of a set for which DEC_NW_TTL expires, and the others.
-use Rattle.std.proofs.Common.{◌≡◌, ◌≤◌, ◌<◌, ◌+◌, ℕ, Bool, true, false, cond, eqb, List, [], ◌∷◌, Option, Some, None, refl, sym, ap, subst, ◌∙◌, arith}
-use Rattle.std.specs.Prelude.{not, nat_le, is_some, IfSome, bit_and}
-use Rattle.std.proofs.lemmas.Bool.{cases_lt, le-leb, lt-leb}
+use Rattle.std.proofs.Common.{◌≡◌, ◌≤◌, ◌<◌, ◌+◌, ℕ, true, false, List, [], ◌∷◌, Option, Some, None, refl, sym, ap, subst, ◌∙◌, arith}
+use Rattle.std.specs.Prelude.{not, nat_le, is_some, IfSome}
+use Rattle.std.proofs.lemmas.Bool.{le-leb, lt-leb}
 use Rattle.std.proofs.lemmas.Bool.Decides.{nat_tests}
 use Rattle.of_layers.specs.declared.field.Field.TheVariants.{IpDscp}
 use Rattle.of_layers.specs.Layers.{cells}
 use Rattle.of_layers.specs.Looking.{look}
 use Rattle.of_layers.specs.Reading.{layers_of}
 use Rattle.of_oxm.specs.declared.match_field.MatchField.{MatchField}
-use Rattle.of_oxm.specs.Relations.{agrees, matches_map}
+use Rattle.of_oxm.specs.Relations.{matches_map}
 use Rattle.of_rewrite.specs.Frames.{IsFrame}
 use Rattle.of_rewrite.specs.TimeToLive.{ttl_of}
 use Rattle.of_symbolic.specs.declared.part.Part.{Part}
 use Rattle.of_symbolic.specs.Parts.{InPart, received_fields}
 use Rattle.of_symbolic.proofs.VidBits.{and_zero}
 use Rattle.of_symbolic_run.specs.declared.frame_set.FrameSet.{FrameSet}
-use Rattle.of_symbolic_run.specs.FrameSets.{AreFramesMatching, AreFramesThat, AreFramesWithout, HasTtlIn, InFrames}
+use Rattle.of_symbolic_run.specs.FrameSets.{AreFramesMatching, AreFramesThat, AreFramesWithout, InFrames}
 use Rattle.of_symbolic_run.specs.TimesToLive.{expires, higher_of, is_up_to, lower_of}
 use Rattle.of_symbolic_run.proofs.HeaderLemmas.{ttl_or_none}
 

@@ -5,7 +5,6 @@ use Rattle.std.specs.List.{Contains}
 use Rattle.std.specs.Option.{option_map}
 use Rattle.of_layers.specs.declared.field.Field.{Field}
 use Rattle.of_rewrite.specs.Frames.{IsFrame}
-use Rattle.of_actions.specs.declared.action.Action.{Action}
 use Rattle.of_actions.specs.declared.instruction.Instruction.{Instruction}
 use Rattle.of_actions.specs.declared.instruction.Instruction.TheVariants.{Goto}
 use Rattle.of_table.specs.declared.entry.Entry.{Entry}

@@ -1,5 +1,5 @@
 -- DEC_NW_TTL of the first packet, for each frame (OpenFlow 1.3.5, 5.12).
-use Rattle.std.specs.Prelude.{◌≡◌, ◌⊎◌, ◌<◌, ◌+◌, ◌^◌, ◌++◌, ℕ, Bool, true, List, [], ◌∷◌, drop, Option, None, ⊤}
+use Rattle.std.specs.Prelude.{◌≡◌, ◌⊎◌, ◌++◌, ℕ, Bool, true, List, [], ◌∷◌, drop, Option, None}
 use Rattle.of_layers.specs.Reading.{layers_of}
 use Rattle.of_rewrite.specs.Frames.{IsFrame}
 use Rattle.of_rewrite.specs.TimeToLive.{ttl_of}

@@ -1,4 +1,4 @@
-use Rattle.std.proofs.Common.{◌≡◌, ◌∷◌, ◌++◌, [], List, subst}
+use Rattle.std.proofs.Common.{List, subst}
 use Rattle.of_symbolic_run.specs.declared.dividing.Case.{Case}
 use Rattle.of_symbolic_run.specs.Decrementing.{AddsExpired}
 use Rattle.of_symbolic_run.specs.TimesToLive.{expires}

@@ -1,5 +1,4 @@
-use Rattle.std.proofs.Common.{◌≡◌, refl, sym, subst, inr, Option}
-use Rattle.of_symbolic_run.specs.declared.frame_set.FrameSet.{FrameSet}
+use Rattle.std.proofs.Common.{subst, inr}
 use Rattle.of_symbolic_run.specs.FrameSets.{AreFramesOrNone}
 use Rattle.of_symbolic_run.specs.TimesToLive.{expires}
 use Rattle.of_symbolic_run.proofs.decrementing.push_expired.Goals as goal

@@ -1,9 +1,8 @@
-use Rattle.std.proofs.Common.{◌≡◌, ◌∷◌, List, [], sym, subst}
+use Rattle.std.proofs.Common.{List, [], sym, subst}
 use Rattle.std.specs.List.{Contains}
 use Rattle.std.specs.Vec.Iter.{into_iter_items}
 use Rattle.of_symbolic.specs.declared.branching.Branch.{Branch}
 use Rattle.of_symbolic.specs.Branches.{flows_listed}
-use Rattle.of_symbolic_run.specs.declared.dividing.Case.{Case}
 use Rattle.of_symbolic_run.specs.Cases.{AreCasesOf, IsBranchOf}
 use Rattle.of_symbolic_run.proofs.CaseLemmas.{left_branches, one_case}
 use Rattle.of_symbolic_run.proofs.dividing.cases_of.Goals as goal

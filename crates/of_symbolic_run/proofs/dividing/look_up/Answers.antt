@@ -1,15 +1,10 @@
-use Rattle.std.proofs.Common.{◌≡◌, ◌∙◌, List, Option, ap, sym, subst}
-use Rattle.std.specs.Prelude.{IfNone, IfSome}
+use Rattle.std.proofs.Common.{◌≡◌, ◌∙◌, List, Option, ap, subst}
+use Rattle.std.specs.Prelude.{IfNone}
 use Rattle.std.specs.Global.{Vec}
-use Rattle.std.specs.List.{Contains}
-use Rattle.of_actions.specs.declared.action.Action.{Action}
 use Rattle.of_table.specs.Entries.{flows_of}
 use Rattle.of_table.specs.Table.{FlowEntry}
 use Rattle.of_symbolic.specs.declared.branching.Branch.{Branch}
-use Rattle.of_symbolic.specs.Actions.{AreRewriting}
 use Rattle.of_symbolic.specs.Branches.{AreBranches, AsksUnknown, flows_listed}
-use Rattle.of_symbolic.specs.Overlays.{IsOverlay}
-use Rattle.of_symbolic.specs.Parts.{AreListsOfConditions}
 use Rattle.of_symbolic_run.specs.Cases.{AreCasesOf}
 use Rattle.of_symbolic_run.proofs.CaseLemmas.{cases_are, key_is, own_branches, unknown_first}
 use Rattle.of_symbolic_run.proofs.dividing.look_up.Goals as goal

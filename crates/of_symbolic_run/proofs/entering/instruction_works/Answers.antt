@@ -1,7 +1,6 @@
-use Rattle.std.proofs.Common.{◌≡◌, ◌∙◌, true, false, get_or, sym, ap}
-use Rattle.of_actions.specs.declared.instruction.Instruction.{Instruction}
+use Rattle.std.proofs.Common.{◌≡◌, ◌∙◌, true, false, sym, ap}
 use Rattle.of_symbolic_run.specs.Cases.{goes_to_table}
-use Rattle.of_symbolic_run.proofs.CaseLemmas.{at_place, instruction_last, instruction_more, instructions_done}
+use Rattle.of_symbolic_run.proofs.CaseLemmas.{at_place, instruction_last, instruction_more}
 use Rattle.of_symbolic_run.proofs.entering.instruction_works.Goals as goal
 
 pub returns-then-is_goto : goal.returns-then-is_goto

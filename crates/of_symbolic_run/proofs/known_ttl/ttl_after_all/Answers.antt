@@ -1,6 +1,5 @@
-use Rattle.std.proofs.Common.{arith, rules, ◌≡◌, ◌<◌, ◌+◌, ◌^◌, ◌∙◌, length, get_or, sym, subst}
+use Rattle.std.proofs.Common.{rules, ◌+◌, ◌∙◌, sym, subst}
 use Rattle.of_actions.specs.declared.action.Action.TheVariants.{Output}
-use Rattle.of_symbolic_run.specs.declared.known_ttl.KnownTtl.{KnownTtl}
 use Rattle.of_symbolic_run.proofs.TtlLemmas.{IsWithin, below_most, known_more, within_more}
 use Rattle.of_symbolic_run.proofs.known_ttl.ttl_after_all.Goals as goal
 

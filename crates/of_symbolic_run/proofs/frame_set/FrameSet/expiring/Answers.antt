@@ -1,4 +1,4 @@
-use Rattle.std.proofs.Common.{◌≡◌, ◌∷◌, [], List, Option, sym, subst, arith}
+use Rattle.std.proofs.Common.{◌∷◌, [], Option, sym, subst}
 use Rattle.of_oxm.specs.declared.match_field.MatchField.{MatchField}
 use Rattle.of_symbolic_run.specs.FrameSets.{AreFramesMatching, AreFramesThat}
 use Rattle.of_symbolic_run.specs.TimesToLive.{expires}

@@ -1,5 +1,4 @@
-use Rattle.std.proofs.Common.{subst, inl, inr}
-use Rattle.of_regions.specs.declared.searching.Found.{Found}
+use Rattle.std.proofs.Common.{subst}
 use Rattle.of_symbolic_run.proofs.FrameLemmas.{IsSetFound, finds_in}
 use Rattle.of_symbolic_run.proofs.frame_set.FrameSet.find.Goals as goal
 

@@ -1,5 +1,4 @@
-use Rattle.std.proofs.Common.{◌≡◌, List, ℕ, sym, ap, ◌∙◌, length, rules}
-use Rattle.of_rewrite.specs.Frames.{IsFrame}
+use Rattle.std.proofs.Common.{◌≡◌, List, ℕ, ap, ◌∙◌, length, rules}
 use Rattle.of_symbolic.specs.Parts.{received_fields}
 use Rattle.of_symbolic_run.proofs.FrameLemmas.{made_frame}
 use Rattle.of_symbolic_run.proofs.frame_set.FrameSet.frame_of_packet.Goals as goal

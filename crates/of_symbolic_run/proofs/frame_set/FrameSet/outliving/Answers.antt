@@ -2,8 +2,7 @@ use Rattle.std.proofs.Common.{◌≡◌, ◌∷◌, ◌++◌, ◌∙◌, [], Lis
 use Rattle.std.specs.Prelude.{not, IfOk, Some}
 use Rattle.std.proofs.lemmas.Result.{IfOk-weaker}
 use Rattle.of_oxm.specs.declared.match_field.MatchField.{MatchField}
-use Rattle.of_symbolic_run.specs.declared.frame_set.FrameSet.{FrameSet}
-use Rattle.of_symbolic_run.specs.FrameSets.{AreFramesMatching, AreFramesThat, AreFramesWithout}
+use Rattle.of_symbolic_run.specs.FrameSets.{AreFramesThat, AreFramesWithout}
 use Rattle.of_symbolic_run.specs.TimesToLive.{expires}
 use Rattle.of_symbolic_run.proofs.TtlFrameLemmas.{has_ttl, outliving_above, outliving_all, outliving_without}
 use Rattle.of_symbolic_run.proofs.frame_set.FrameSet.outliving.Goals as goal

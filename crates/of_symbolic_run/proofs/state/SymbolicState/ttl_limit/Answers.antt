@@ -1,6 +1,4 @@
-use Rattle.std.proofs.Common.{◌≡◌, List, ap, ◌∙◌}
-use Rattle.of_actions.specs.declared.action.Action.{Action}
-use Rattle.of_symbolic_run.specs.declared.known_ttl.KnownTtl.{KnownTtl}
+use Rattle.std.proofs.Common.{ap, ◌∙◌}
 use Rattle.of_symbolic_run.specs.TimesToLive.{known_ttl, limit_of}
 use Rattle.of_symbolic_run.proofs.DecrementLemmas.{limit_is}
 use Rattle.of_symbolic_run.proofs.state.SymbolicState.ttl_limit.Goals as goal
