@@ -29,7 +29,7 @@ use Rattle.of_symbolic_run.specs.Cases.{AreCases}
 use Rattle.of_symbolic_run.specs.Decrementing.{AddsExpired, IsDecremented, IsExpiredCase, IsLimit, IsOneMoreRewrite, first_ttl}
 use Rattle.of_symbolic_run.specs.FrameSets.{AreFramesOrNone, AreFramesThat, InFrames}
 use Rattle.of_symbolic_run.specs.States.{IsAt, IsStateCopy, answer_to_tasks, items_for, packet_for, row_for, task_for, work_for}
-use Rattle.of_symbolic_run.specs.TimesToLive.{expires, is_last, known_ttl, limit_of}
+use Rattle.of_symbolic_run.specs.TimesToLive.{expires, is_last, known_ttl, ttl_limit_of}
 use Rattle.of_symbolic_run.proofs.FirstLemmas.{copy_stepped, first_item, firsts, is_decrement, some_decrement}
 use Rattle.of_symbolic_run.proofs.HeaderLemmas.{none_decremented}
 use Rattle.of_symbolic_run.proofs.TtlLemmas.{last_is}
@@ -90,7 +90,7 @@ decremented_is old copy new x t' answer copied is one tasks emitted w frame port
 
 -- ---- cases
 
-pub limit_is : (ts : List SymbolicTask) (x : SymbolicTask) (limit : Option ℕ) → answer_to_tasks ts ≡ advances.DecNwTtl → x ≡ get_or ts 0 x → AreRewriting x.packet.rewrites → limit ≡ limit_of (known_ttl x.packet.rewrites) → IsLimit ts limit
+pub limit_is : (ts : List SymbolicTask) (x : SymbolicTask) (limit : Option ℕ) → answer_to_tasks ts ≡ advances.DecNwTtl → x ≡ get_or ts 0 x → AreRewriting x.packet.rewrites → limit ≡ ttl_limit_of (known_ttl x.packet.rewrites) → IsLimit ts limit
 limit_is [] x limit answer is rewriting own frame is_frame = absurd cc
 limit_is (t ∷ ts) x limit answer is rewriting own frame is_frame =
     subst (λ (y : SymbolicTask). is_last (first_ttl (y ∷ ts) frame) ≡ expires limit frame) (first_item (t ∷ ts) x t ts is refl) (last_is x.packet.rewrites frame is_frame rewriting ∙ ap (λ (o : Option ℕ). expires o frame) (sym own))

@@ -16,7 +16,7 @@ use Rattle.of_symbolic.specs.Actions.{AreRewriting, call_of, frame_of_actions, v
 use Rattle.of_symbolic.proofs.Rewriting.{views_follow_all}
 use Rattle.of_symbolic_run.specs.declared.known_ttl.KnownTtl.{KnownTtl}
 use Rattle.of_symbolic_run.specs.declared.known_ttl.KnownTtl.TheVariants.{Less, Fixed}
-use Rattle.of_symbolic_run.specs.TimesToLive.{IsBelowMost, expires, is_last, is_up_to, known_ttl, less, limit_of, one_less, ttl_as, ttl_by, ttl_decremented}
+use Rattle.of_symbolic_run.specs.TimesToLive.{IsBelowMost, expires, is_last, is_up_to, known_ttl, less, ttl_limit_of, one_less, ttl_as, ttl_by, ttl_decremented}
 use Rattle.of_symbolic_run.proofs.FrameLemmas.{own_view, ttl_small}
 
 -- ---- numbers
@@ -76,7 +76,7 @@ fixed_last : (b : Bool) (t : ℕ) → t < 256 → b ≡ is_up_to (cond b (Some 2
 fixed_last true t fits = sym (le-leb t 255 (omega (arith, fits)))
 fixed_last false t fits = refl
 
-known_last : (k : KnownTtl) (t : ℕ) → t < 256 → nat_le (ttl_as k t) 1 ≡ is_up_to (limit_of k) (Some t)
+known_last : (k : KnownTtl) (t : ℕ) → t < 256 → nat_le (ttl_as k t) 1 ≡ is_up_to (ttl_limit_of k) (Some t)
 known_last (Less n) t fits = less_last n t fits
 known_last (Fixed c) t fits = fixed_last (nat_le c 1) t fits
 
@@ -85,11 +85,11 @@ none_up_to None = refl
 none_up_to (Some n) = refl
 
 -- DEC_NW_TTL expires for the packet exactly if the TTL of the frame is at most the limit
-pub last_is : (l : List Action) (frame : List ℕ) → IsFrame frame → AreRewriting l → is_last (ttl_of (layers_of (frame_of_actions l frame))) ≡ expires (limit_of (known_ttl l)) frame
+pub last_is : (l : List Action) (frame : List ℕ) → IsFrame frame → AreRewriting l → is_last (ttl_of (layers_of (frame_of_actions l frame))) ≡ expires (ttl_limit_of (known_ttl l)) frame
 last_is l frame h rewriting = ap is_last (ttl_known l frame h rewriting) ∙ by_ttl (ttl_of (layers_of frame)) refl
   where
-    by_ttl : (o : Option ℕ) → ttl_of (layers_of frame) ≡ o → is_last (option_map (ttl_as (known_ttl l)) o) ≡ is_up_to (limit_of (known_ttl l)) o
-    by_ttl None is = sym (none_up_to (limit_of (known_ttl l)))
+    by_ttl : (o : Option ℕ) → ttl_of (layers_of frame) ≡ o → is_last (option_map (ttl_as (known_ttl l)) o) ≡ is_up_to (ttl_limit_of (known_ttl l)) o
+    by_ttl None is = sym (none_up_to (ttl_limit_of (known_ttl l)))
     by_ttl (Some t) is = known_last (known_ttl l) t (ttl_small frame t h is)
 
 -- ---- the loop

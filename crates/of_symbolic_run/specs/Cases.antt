@@ -57,8 +57,8 @@ abbrev pub flow_named : List FlowEntry → Option ℕ → Option Flow
 flow_named flows None = None
 flow_named flows (Some place) = flow_at place flows
 
-abbrev pub flow_of : Option (Bor Entry) → Option Flow
-flow_of entry = option_map (λ (e : Bor Entry). e.now.flow) entry
+abbrev pub found_flow : Option (Bor Entry) → Option Flow
+found_flow entry = option_map (λ (e : Bor Entry). e.now.flow) entry
 
 abbrev pub goes_to_table : Instruction → Bool
 goes_to_table (Goto table) = true

@@ -17,8 +17,8 @@ IsGroupOf w group buckets = option_map (map (λ place. unwrap_or (w.bucket group
 abbrev pub lists_of : List (Bor (List Action)) → List (List Action)
 lists_of buckets = map (λ (b : Bor (List Action)). b.now) buckets
 
-abbrev pub buckets_of : Option (Bor (List (Bor (List Action)))) → Option (List (List Action))
-buckets_of buckets = option_map (λ (b : Bor (List (Bor (List Action)))). lists_of b.now) buckets
+abbrev pub bucket_lists : Option (Bor (List (Bor (List Action)))) → Option (List (List Action))
+bucket_lists buckets = option_map (λ (b : Bor (List (Bor (List Action)))). lists_of b.now) buckets
 
 -- each action is supported
 abbrev pub AreServedLists : List (List Action) → Type 0

@@ -42,9 +42,9 @@ is_last None = false
 is_last (Some t) = nat_le t 1
 
 -- the greatest TTL of a frame for which it expires, if it does for any
-abbrev pub limit_of : KnownTtl → Option ℕ
-limit_of (Less n) = Some (if nat_lt n 255 then n + 1 else 255)
-limit_of (Fixed c) = if nat_le c 1 then Some 255 else None
+abbrev pub ttl_limit_of : KnownTtl → Option ℕ
+ttl_limit_of (Less n) = Some (if nat_lt n 255 then n + 1 else 255)
+ttl_limit_of (Fixed c) = if nat_le c 1 then Some 255 else None
 
 abbrev pub is_up_to : Option ℕ → Option ℕ → Bool
 is_up_to (Some limit) (Some t) = nat_le t limit

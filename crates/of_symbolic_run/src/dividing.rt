@@ -6,7 +6,7 @@ ghost use Rattle.of_table.specs.Entries.{flows_of};
 ghost use Rattle.of_symbolic.specs.Branches.{flows_listed};
 ghost use Rattle.of_symbolic.specs.declared.branching.Branch.{Branch as ABranch};
 ghost use Rattle.of_symbolic_run.specs.declared.advance.Advance.TheVariants.{Lookup};
-ghost use Rattle.of_symbolic_run.specs.Cases.{AreCases, AreCasesOf, AsksUnknownOf, IsBranchOf, IsCaseOf, IsTableOf, flow_named, flow_of};
+ghost use Rattle.of_symbolic_run.specs.Cases.{AreCases, AreCasesOf, AsksUnknownOf, IsBranchOf, IsCaseOf, IsTableOf, flow_named, found_flow};
 ghost use Rattle.of_symbolic_run.specs.States.{answer_to_tasks};
 
 use crate::frame_set::FrameSet;
@@ -35,7 +35,7 @@ fn listed_entries<'a>(alloc: Global, entries: Entries<'a>) -> Result<Vec<&'a Ent
 
 // The entry at a place.
 fn entry_named<'a>(listed: &[&'a Entry], place: Option<usize>) -> Option<&'a Entry>
-    ensures { flow_of result ≡ flow_named (flows_listed listed.now) place }
+    ensures { found_flow result ≡ flow_named (flows_listed listed.now) place }
 {
     match place {
         None => None,
@@ -97,7 +97,8 @@ pub fn look_up<'a>(
     table: u8,
 ) -> Result<Option<Vec<Case<'a>>>, AllocError>
     requires first { answer_to_tasks state.now.tasks.items ≡ Lookup table }
-    ensures some { IfOk result (λ found. IfSome found (λ cases. (w : TheWorld) → IsTableOf w table (flows_of entries.entry) → AreCases w frames.now state.now cases.items)) }
+    ensures some { IfOk result (λ found. IfSome found (λ cases. (w : TheWorld) → IsTableOf w table (flows_of entries.entry) →
+        AreCases w frames.now state.now cases.items)) }
     ensures none { IfOk result (λ found. IfNone found (AsksUnknownOf state.now.tasks.items (flows_of entries.entry))) }
 {
     let listed = listed_entries(alloc, entries)?;

@@ -3,7 +3,7 @@ ghost use Rattle.std.specs.Prelude.{◌≡◌, ◌<◌, Some, IsTrue, IfOk, OnOk
 ghost use Rattle.of_actions.specs.InstructionLists.{are_kept};
 ghost use Rattle.of_machine.specs.Rows.{works};
 ghost use Rattle.of_symbolic_run.specs.declared.advance.Advance.TheVariants.{Lookup};
-ghost use Rattle.of_symbolic_run.specs.Cases.{IsAtEntry, IsEntered, flow_of, goes_to_table};
+ghost use Rattle.of_symbolic_run.specs.Cases.{IsAtEntry, IsEntered, found_flow, goes_to_table};
 ghost use Rattle.of_symbolic_run.specs.States.{answer_to_tasks, work_for};
 
 use crate::served::ServedInstruction;
@@ -54,7 +54,7 @@ impl<'a> SymbolicTask<'a> {
         table: u8,
         found: Option<&'a Entry>,
     ) -> Result<(), AllocError>
-        ensures { OnOk result (IsAtEntry table (flow_of found.entry) self.old self.new) }
+        ensures { OnOk result (IsAtEntry table (found_flow found.entry) self.old self.new) }
     {
         match found {
             None => {
@@ -82,7 +82,7 @@ impl<'a> SymbolicState<'a> {
         found: Option<&'a Entry>,
     ) -> Result<SymbolicState<'a>, AllocError>
         requires { answer_to_tasks self.now.tasks.items ≡ Lookup table }
-        ensures { IfOk result (IsEntered table (flow_of found.entry) self.now) }
+        ensures { IfOk result (IsEntered table (found_flow found.entry) self.now) }
     {
         let mut state = self.copy(alloc)?;
         state.tasks[0].enter(alloc, table, found)?;

@@ -4,7 +4,7 @@ ghost use Rattle.std.specs.List.{list_all};
 ghost use Rattle.of_actions.specs.Supported.{is_supported};
 ghost use Rattle.of_machine.specs.TheWorld.{TheWorld};
 ghost use Rattle.of_symbolic_run.specs.declared.advance.Advance.TheVariants.{Group};
-ghost use Rattle.of_symbolic_run.specs.Groups.{AreBucketTasks, AreGroupTasks, AreServedLists, IsBucketTask, IsGroupOf, buckets_of, lists_of};
+ghost use Rattle.of_symbolic_run.specs.Groups.{AreBucketTasks, AreGroupTasks, AreServedLists, IsBucketTask, IsGroupOf, bucket_lists, lists_of};
 ghost use Rattle.of_symbolic_run.specs.States.{IsAt, answer_to_tasks};
 
 use crate::state::{SymbolicPacket, SymbolicState, SymbolicTask, Work};
@@ -51,8 +51,8 @@ fn group_tasks<'a>(
     packet: &SymbolicPacket,
     buckets: Option<&[&[Action]]>,
 ) -> Result<Vec<SymbolicTask<'a>>, AllocError>
-    requires { IfSome (buckets_of buckets) AreServedLists }
-    ensures { IfOk result (λ tasks. AreGroupTasks packet.now (buckets_of buckets.entry) tasks.items) }
+    requires { IfSome (bucket_lists buckets) AreServedLists }
+    ensures { IfOk result (λ tasks. AreGroupTasks packet.now (bucket_lists buckets.entry) tasks.items) }
 {
     match buckets {
         None => Ok(Vec::new(alloc)),
@@ -71,8 +71,9 @@ pub fn run_group(
     buckets: Option<&[&[Action]]>,
 ) -> Result<(), AllocError>
     requires first { answer_to_tasks state.now.tasks.items ≡ Group group }
-    requires served { IfSome (buckets_of buckets) AreServedLists }
-    ensures { OnOk result ((w : TheWorld) (frame : List ℕ) (port : ℕ) → IsGroupOf w group (buckets_of buckets.entry) → IsAt w frame port state.old → IsAt w frame port state.new) }
+    requires served { IfSome (bucket_lists buckets) AreServedLists }
+    ensures { OnOk result ((w : TheWorld) (frame : List ℕ) (port : ℕ) → IsGroupOf w group (bucket_lists buckets.entry) →
+        IsAt w frame port state.old → IsAt w frame port state.new) }
 {
     let mut first = state.tasks.remove(0);
     first.work.remove(0);

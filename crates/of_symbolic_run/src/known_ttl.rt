@@ -1,6 +1,6 @@
 //! What is known of the TTL of a packet that actions rewrote.
 ghost use Rattle.std.specs.Prelude.{◌≡◌};
-ghost use Rattle.of_symbolic_run.specs.TimesToLive.{IsBelowMost, known_ttl, limit_of, ttl_by, ttl_decremented};
+ghost use Rattle.of_symbolic_run.specs.TimesToLive.{IsBelowMost, known_ttl, ttl_limit_of, ttl_by, ttl_decremented};
 
 use of_actions::Action;
 
@@ -40,7 +40,7 @@ impl KnownTtl {
 
     /// The greatest TTL of a frame that came in for which DEC_NW_TTL expires. None: it expires for no frame.
     pub fn limit(self) -> Option<u8>
-        ensures { result ≡ limit_of self }
+        ensures { result ≡ ttl_limit_of self }
     {
         match self {
             KnownTtl::Less(count) if count < 255 => Some(count as u8 + 1),

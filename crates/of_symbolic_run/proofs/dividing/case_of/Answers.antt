@@ -1,6 +1,6 @@
 use Rattle.std.proofs.Common.{refl}
 use Rattle.of_symbolic.specs.Branches.{flows_listed}
-use Rattle.of_symbolic_run.specs.Cases.{flow_of}
+use Rattle.of_symbolic_run.specs.Cases.{found_flow}
 use Rattle.of_symbolic_run.proofs.CaseLemmas.{case_is}
 use Rattle.of_symbolic_run.proofs.FrameLemmas.{no_metadata_within}
 use Rattle.of_symbolic_run.proofs.dividing.case_of.Goals as goal
@@ -13,4 +13,4 @@ invariant_of-frames c = record {
 }
 
 pub returns : goal.returns
-returns c = case_is c.args.table (flows_listed c.args.listed.now) c.args.frames.now c.args.state.now c.args.branch _ (flow_of c.entry_named.result) c.requires.own.1 refl refl refl c.entry_named.ensures c.in_ok-state.ensures
+returns c = case_is c.args.table (flows_listed c.args.listed.now) c.args.frames.now c.args.state.now c.args.branch _ (found_flow c.entry_named.result) c.requires.own.1 refl refl refl c.entry_named.ensures c.in_ok-state.ensures
