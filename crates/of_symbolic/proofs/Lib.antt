@@ -14,3 +14,4 @@ pub mod FindLemmas
 pub mod PulledLemmas
 pub mod BranchLemmas
 pub mod HitLemmas
+pub mod NearLemmas

@@ -1,6 +1,7 @@
 -- The entries of a table as conditions on the frame that came in.
-use Rattle.std.proofs.Common.{◌≡◌, ℕ, zero, suc, List, [], ◌∷◌, ◌++◌, Option, Some, None, refl, sym, ap, subst, arith, append_assoc}
-use Rattle.std.specs.Prelude.{true, IfSome}
+use Rattle.std.proofs.Common.{◌≡◌, ◌<◌, ◌≤◌, ◌+◌, ℕ, zero, suc, Bor, length, get_or, drop, List, [], ◌∷◌, ◌++◌, Option, Some, None, refl, sym, ap, subst, arith, append_assoc, drop-cons, add-one, ◌∙◌}
+use Rattle.std.specs.Prelude.{true, IfSome, map}
+use Rattle.std.proofs.lemmas.List.{drop_all}
 use Rattle.std.specs.List.{Contains}
 use Rattle.std.specs.Global.{Vec}
 use Rattle.of_oxm.specs.declared.match_field.MatchField.{MatchField}
@@ -37,6 +38,16 @@ one_unknown o metadata flows left others x out is unknown h = record {
   there = h.among (entry_of x) (subst (λ (es : List Entry). Contains (flows_of es) (entry_of x)) (sym is) (0, omega arith, refl));
   unknown = unknown;
 }
+
+-- entries that are referred to: one after the other
+pub listed_at : (entries : List (Bor Entry)) (i : ℕ) (x : Bor Entry) → x ≡ get_or entries i x → i < length entries → map (λ (e : Bor Entry). e.now) (drop i entries) ≡ x.now ∷ map (λ (e : Bor Entry). e.now) (drop (i + 1) entries)
+listed_at entries i x is lt = rw (add-one) (ap (map (λ (e : Bor Entry). e.now)) (drop-cons entries i x lt) ∙ ap (λ (e : Bor Entry). e.now ∷ map (λ (e : Bor Entry). e.now) (drop (suc i) entries)) (sym is))
+
+pub listed_end : (entries : List (Bor Entry)) (i : ℕ) → length entries ≤ i → map (λ (e : Bor Entry). e.now) (drop i entries) ≡ []
+listed_end entries i le = ap (map (λ (e : Bor Entry). e.now)) (drop_all i entries le)
+
+pub pulled_begun : (o : Overlay) (metadata : ℕ) (entries : List Entry) → IsPulledSoFar o metadata (flows_of entries) entries []
+pulled_begun o metadata entries = record { goes_on = λ rest are. are; among = λ e c. c }
 
 pub pulled_done : (o : Overlay) (metadata : ℕ) (flows : List FlowEntry) (left : List Entry) (out : List PulledEntry) → left ≡ [] → IsPulledSoFar o metadata flows left out → ArePulledEntries o metadata flows out
 pulled_done o metadata flows left out is h =

@@ -1,11 +1,14 @@
 -- WHAT A LOOKUP DOES WITH ALL PACKETS OF A PART: it divides them by the entry that wins (OpenFlow 1.3.5, 5.3).
-use Rattle.std.specs.Prelude.{◌≡◌, ℕ, List, Option, Some, slice_get, true}
+use Rattle.std.specs.Prelude.{◌≡◌, ℕ, List, Option, Some, slice_get, true, map}
+use Rattle.std.specs.Borrow.{Bor}
 use Rattle.std.specs.List.{Contains}
 use Rattle.of_layers.specs.declared.field.Field.{Field}
 use Rattle.of_layers.specs.Reading.{layers_of}
 use Rattle.of_headers.specs.FieldMap.{field_map}
 use Rattle.of_rewrite.specs.Frames.{IsFrame}
 use Rattle.of_actions.specs.declared.action.Action.{Action}
+use Rattle.of_table.specs.declared.entry.Entry.{Entry}
+use Rattle.of_table.specs.Entries.{flows_of}
 use Rattle.of_table.specs.Table.{FlowEntry, winner_place}
 use Rattle.of_symbolic.specs.declared.branching.Branch.{Branch}
 use Rattle.of_symbolic.specs.declared.overlay.Overlay.{Overlay}
@@ -32,6 +35,10 @@ pub record AreBranches (flows : List FlowEntry) (l : List Action) (metadata : �
   pub once : HaveDistinctEntries branches
   -- each packet is in a branch
   pub all : (frame : List ℕ) (port : ℕ) → IsFrame frame → InPart part (received_fields frame port) → (b : Branch) × Contains branches b × InPart b.part (received_fields frame port)
+
+-- the entries that these refer to, without their numbers
+abbrev pub flows_listed : List (Bor Entry) → List FlowEntry
+flows_listed entries = flows_of (map (λ (e : Bor Entry). e.now) entries)
 
 -- the match of one of the entries asks what is not known
 pub record AsksUnknown (o : Overlay) (flows : List FlowEntry) : Type 0 where

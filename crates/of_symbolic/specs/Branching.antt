@@ -49,6 +49,20 @@ ArePulledEntries o metadata (e ∷ es) (p ∷ ps) = IsPulledEntry o metadata e p
 abbrev pub AllHaveConditions : List PulledEntry → Type 0
 AllHaveConditions entries = (k : ℕ) (p : PulledEntry) → slice_get entries k ≡ Some p → HasConditions p
 
+-- ---- entries near a part
+
+-- it matches the same packets of the part
+pub record IsNearEntry (part : Part) (old new : PulledEntry) : Type 0 where
+  pub priority : new.priority ≡ old.priority
+  pub agreed : (fields : Field → Option ℕ) → InPart part fields → is_agreed new.fields fields ≡ is_agreed old.fields fields
+  pub conditions : HasConditions old → HasConditions new
+
+abbrev pub AreNearEntries : Part → List PulledEntry → List PulledEntry → Type 0
+AreNearEntries part [] [] = ⊤
+AreNearEntries part [] (q ∷ qs) = ⊥
+AreNearEntries part (p ∷ ps) [] = ⊥
+AreNearEntries part (p ∷ ps) (q ∷ qs) = IsNearEntry part p q × AreNearEntries part ps qs
+
 -- ---- which one wins
 
 -- an entry of this priority and place goes before one of that rank: it has a higher priority, or the same and is older; each goes before a miss

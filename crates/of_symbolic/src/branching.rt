@@ -1,21 +1,21 @@
 //! What a lookup does with all packets of a part.
-ghost use Rattle.std.specs.Prelude.{◌≡◌, ◌<◌, ◌↔◌, Some, None, List, IfNone, IfOk, IfSome, IsTrue, OnOk, length};
+ghost use Rattle.std.specs.Prelude.{◌≡◌, ◌<◌, ◌↔◌, ℕ, true, false, Option, Some, None, List, IfNone, IfOk, IfSome, IsTrue, OnOk, length};
 ghost use Rattle.std.specs.List.{Contains};
+ghost use Rattle.of_layers.specs.declared.field.Field.{Field as TheField};
 ghost use Rattle.of_actions.specs.declared.action.Action.{Action};
 ghost use Rattle.of_regions.specs.Conditions.{AreConditions};
-ghost use Rattle.of_table.specs.Entries.{flows_of};
 ghost use Rattle.of_symbolic.specs.declared.branching.Branch.{Branch as TheBranch};
 ghost use Rattle.of_symbolic.specs.Actions.{AreRewriting};
-ghost use Rattle.of_symbolic.specs.Branches.{AreBranches, AsksUnknown};
-ghost use Rattle.of_symbolic.specs.Branching.{AddsBranch, AddsHit, AllHaveConditions, HasConditions, IsAhead, IsPartBehind, IsPartBehindAll, ranked_place};
+ghost use Rattle.of_symbolic.specs.Branches.{AreBranches, AsksUnknown, flows_listed};
+ghost use Rattle.of_symbolic.specs.Branching.{AddsBranch, AddsHit, AllHaveConditions, AreNearEntries, HasConditions, IsAhead, IsNearEntry, IsPartBehind, IsPartBehindAll, is_agreed, ranked_place};
 ghost use Rattle.of_symbolic.specs.Overlays.{IsOverlay};
-ghost use Rattle.of_symbolic.specs.Parts.{AreListsOfConditions};
+ghost use Rattle.of_symbolic.specs.Parts.{AreListsOfConditions, InPart};
 
 use crate::overlay::Overlay;
-use crate::part::Part;
+use crate::part::{Part, are_apart};
 use crate::pulled_entry::{PulledEntry, pulled_entries};
 use of_oxm::MatchField;
-use of_table::Entries;
+use of_table::Entry;
 use std::alloc::{AllocError, Global};
 
 /// The packets of a part that hit one entry of a flow table, or none. There may be no such packet: `Part::find` tells.
@@ -154,25 +154,64 @@ fn push_miss(
     push_branch(alloc, out, part, entries, &[], None)
 }
 
+// An entry that matches no packet of the regions of a part, as far as they tell.
+fn is_far(part: &Part, entry: &PulledEntry) -> bool
+    ensures { result ≡ true → (map : TheField → Option ℕ) → InPart part.now map → is_agreed entry.now.fields map ≡ false }
+{
+    match &entry.fields {
+        Some(fields) => are_apart(&part.regions, fields),
+        None => true,
+    }
+}
+
+// Such an entry is as one that never matches.
+fn near_entry(part: &Part, entry: PulledEntry) -> PulledEntry
+    ensures { IsNearEntry part.now entry result }
+{
+    if is_far(part, &entry) {
+        return PulledEntry {
+            priority: entry.priority,
+            fields: None,
+        };
+    }
+    entry
+}
+
+// The entries, so that the others need not be compared with those that match no packet of the part.
+fn near_entries(
+    alloc: Global,
+    part: &Part,
+    entries: Vec<PulledEntry>,
+) -> Result<Vec<PulledEntry>, AllocError>
+    ensures { IfOk result (λ near. AreNearEntries part.now entries.items near.items) }
+{
+    let mut near = Vec::new(alloc);
+    for entry in entries {
+        near.push(near_entry(part, entry))?;
+    }
+    Ok(near)
+}
+
 /// The packets of a part, by the entry of a flow table that they hit after actions, with this metadata (OpenFlow 1.3.5, 5.3).
 ///
 /// None if the match of an entry asks what is not known of the packet.
 pub fn branches(
     alloc: Global,
-    entries: Entries<'_>,
+    entries: &[&Entry],
     overlay: &Overlay,
     metadata: u64,
     part: &Part,
 ) -> Result<Option<Vec<Branch>>, AllocError>
     requires { AreListsOfConditions part.now.lacks.items }
     ensures some { IfOk result (λ found. IfSome found (λ made. (l : List Action) → IsOverlay overlay.now l → AreRewriting l →
-        AreBranches (flows_of entries.entry) l metadata part.now made.items)) }
+        AreBranches (flows_listed entries.now) l metadata part.now made.items)) }
     ensures conditions { IfOk result (λ found. IfSome found (λ made. (b : TheBranch) → Contains made.items b → AreListsOfConditions b.part.lacks.items)) }
-    ensures none { IfOk result (λ found. IfNone found (AsksUnknown overlay.now (flows_of entries.entry))) }
+    ensures none { IfOk result (λ found. IfNone found (AsksUnknown overlay.now (flows_listed entries.now))) }
 {
     let Some(pulled) = pulled_entries(alloc, entries, overlay, metadata)? else {
         return Ok(None);
     };
+    let pulled = near_entries(alloc, part, pulled)?;
     let mut out = Vec::new(alloc);
     for place in 0..pulled.len() {
         push_hit(alloc, &mut out, part, &pulled, place)?;

@@ -35,8 +35,8 @@ fn is_whole_in(region: &Region, fields: &[MatchField]) -> bool
     matches!(region.meet(fields), Meeting::Whole)
 }
 
-// Whether a match matches no packet of regions.
-fn are_apart(regions: &[Region], fields: &[MatchField]) -> bool
+/// Whether a match matches no packet of regions.
+pub(crate) fn are_apart(regions: &[Region], fields: &[MatchField]) -> bool
     ensures { result ≡ true → (map : TheField → Option ℕ) → InSome regions.now map → matches_map fields.now map ≡ false }
 {
     for region in regions {

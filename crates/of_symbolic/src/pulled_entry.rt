@@ -1,14 +1,14 @@
 //! The entries of a flow table as conditions on the frame that came in.
 ghost use Rattle.std.specs.Prelude.{◌≡◌, true, IfNone, IfOk, IfSome};
-ghost use Rattle.of_table.specs.Entries.{entry_of, flows_of};
-ghost use Rattle.of_symbolic.specs.Branches.{AsksUnknown};
+ghost use Rattle.of_table.specs.Entries.{entry_of};
+ghost use Rattle.of_symbolic.specs.Branches.{AsksUnknown, flows_listed};
 ghost use Rattle.of_symbolic.specs.Branching.{ArePulledEntries, IsPulledEntry};
 ghost use Rattle.of_symbolic.specs.Pulling.{is_unknown_in};
 
 use crate::overlay::Overlay;
 use crate::pulling::{Pulled, pull};
 use of_oxm::MatchField;
-use of_table::{Entries, Entry};
+use of_table::Entry;
 use std::alloc::{AllocError, Global};
 
 /// An entry of a flow table, in terms of the frame that came in.
@@ -46,12 +46,12 @@ fn pulled_entry(
 /// None if it is not known which frames one of them matches.
 pub fn pulled_entries(
     alloc: Global,
-    entries: Entries<'_>,
+    entries: &[&Entry],
     overlay: &Overlay,
     metadata: u64,
 ) -> Result<Option<Vec<PulledEntry>>, AllocError>
-    ensures some { IfOk result (λ found. IfSome found (λ pulled. ArePulledEntries overlay.now metadata (flows_of entries.entry) pulled.items)) }
-    ensures none { IfOk result (λ found. IfNone found (AsksUnknown overlay.now (flows_of entries.entry))) }
+    ensures some { IfOk result (λ found. IfSome found (λ pulled. ArePulledEntries overlay.now metadata (flows_listed entries.now) pulled.items)) }
+    ensures none { IfOk result (λ found. IfNone found (AsksUnknown overlay.now (flows_listed entries.now))) }
 {
     let mut pulled = Vec::new(alloc);
     for entry in entries {

@@ -1,17 +1,20 @@
 -- The run of each frame after one more step.
-use Rattle.std.proofs.Common.{◌≡◌, ℕ, suc, List, [], ◌∷◌, ◌++◌, refl, sym, ◌∙◌, ap}
+use Rattle.std.proofs.Common.{◌≡◌, ◌<◌, ◌+◌, ℕ, suc, List, [], ◌∷◌, ◌++◌, length, get_or, take, refl, sym, ◌∙◌, ap, subst}
 use Rattle.std.specs.Prelude.{map}
+use Rattle.std.proofs.lemmas.List.{take_more}
 use Rattle.of_machine.specs.declared.data.Packet.{Packet}
 use Rattle.of_machine.specs.declared.data.Item.{Item}
 use Rattle.of_machine.specs.TheWorld.{TheWorld}
 use Rattle.of_machine.specs.Rows.{Work, Lookup, Task, task, row, entering}
-use Rattle.of_machine.specs.Runs.{Machine, after, step, starting}
+use Rattle.of_machine.specs.Runs.{Machine, after, run_of, step, starting}
+use Rattle.of_machine.specs.Sound.{IsSound}
+use Rattle.of_machine.proofs.Whole.{frame_fits, run_is}
 use Rattle.of_symbolic_run.specs.declared.advance.Advance.{Advance}
-use Rattle.of_symbolic_run.specs.declared.advance.Advance.TheVariants.{Done, Divides, Unsupported}
+use Rattle.of_symbolic_run.specs.declared.advance.Advance.TheVariants as advances
 use Rattle.of_symbolic_run.specs.declared.state.SymbolicTask.{SymbolicTask}
 use Rattle.of_symbolic_run.specs.declared.state.SymbolicState.{SymbolicState}
 use Rattle.of_symbolic_run.specs.declared.state.Emission.{Emission}
-use Rattle.of_symbolic_run.specs.States.{Advances, IsAt, TakesStep, items_for, packet_for, row_for, task_for, work_for}
+use Rattle.of_symbolic_run.specs.States.{Advances, AreTaskCopies, IsAt, IsTaskCopy, TakesStep, items_for, packet_for, row_for, task_for, work_for}
 
 after_next : (w : TheWorld) (n : ℕ) (m : Machine) → after w (suc n) m ≡ step w (after w n m)
 unfolding after
@@ -36,6 +39,56 @@ step_at w frame port (t ∷ ts) e new h n tasks items =
     }
 
 pub advances_at : (a : Advance) (w : TheWorld) (frame : List ℕ) (port : ℕ) (old new : SymbolicState) → Advances a old.tasks.items old.emitted.items new.tasks.items new.emitted.items → IsAt w frame port old → IsAt w frame port new
-advances_at Done w frame port old new h at = step_at w frame port old.tasks.items old.emitted.items new h at.steps at.tasks at.items
-advances_at Divides w frame port old new h at = record { steps = at.steps; tasks = rw h.0 at.tasks; items = rw h.1 at.items }
-advances_at Unsupported w frame port old new h at = record { steps = at.steps; tasks = rw h.0 at.tasks; items = rw h.1 at.items }
+advances_at advances.Done w frame port old new h at = step_at w frame port old.tasks.items old.emitted.items new h at.steps at.tasks at.items
+advances_at (advances.Lookup t) w frame port old new h at = record { steps = at.steps; tasks = rw h.0 at.tasks; items = rw h.1 at.items }
+advances_at advances.DecNwTtl w frame port old new h at = record { steps = at.steps; tasks = rw h.0 at.tasks; items = rw h.1 at.items }
+advances_at (advances.Group group) w frame port old new h at = record { steps = at.steps; tasks = rw h.0 at.tasks; items = rw h.1 at.items }
+
+-- one step takes the row of the first packet
+pub taken_at : (w : TheWorld) (frame : List ℕ) (port : ℕ) (old new : SymbolicState) (t : SymbolicTask) (rest : List SymbolicTask) → old.tasks.items ≡ t ∷ rest → map (task_for frame port) new.tasks.items ≡ (row_for w frame port t).left ++ map (task_for frame port) rest →
+    items_for w.ports new.emitted.items frame port ≡ items_for w.ports old.emitted.items frame port ++ (row_for w frame port t).items → IsAt w frame port old → IsAt w frame port new
+taken_at w frame port old new t rest first left items at =
+    let start = starting (entering frame port) (Lookup 0 ∷ []) in
+    let m = after w at.steps start in
+    let one = one_step w m (packet_for t.packet frame port) (map work_for t.work.items) (map (task_for frame port) rest) (at.tasks ∙ ap (map (task_for frame port)) first) in
+    record {
+      steps = suc at.steps;
+      tasks = ap (λ (x : Machine). x.tasks) (after_next w at.steps start) ∙ one.0 ∙ sym left;
+      items = ap (λ (x : Machine). x.items) (after_next w at.steps start) ∙ one.1 ∙ ap (λ (l : List Item). l ++ (row_for w frame port t).items) at.items ∙ sym items;
+    }
+
+-- ---- copies
+
+copied_more : (ts copies : List SymbolicTask) (t copy : SymbolicTask) → AreTaskCopies ts copies → IsTaskCopy t copy → AreTaskCopies (ts ++ t ∷ []) (copies ++ copy ∷ [])
+copied_more [] [] t copy are one = (one, tt)
+copied_more [] (c ∷ copies) t copy are one = absurd are
+copied_more (x ∷ ts) [] t copy are one = absurd are
+copied_more (x ∷ ts) (c ∷ copies) t copy are one = (are.0, copied_more ts copies t copy are.1 one)
+
+pub one_copied : (ts : List SymbolicTask) (i : ℕ) (t : SymbolicTask) (copies : List SymbolicTask) (copy : SymbolicTask) → t ≡ get_or ts i t → i < length ts → AreTaskCopies (take i ts) copies → IsTaskCopy t copy → AreTaskCopies (take (i + 1) ts) (copies ++ copy ∷ [])
+one_copied ts i t copies copy is lt are one =
+    let more : take (i + 1) ts ≡ take i ts ++ t ∷ [] = take_more ts i t lt ∙ ap (λ (z : SymbolicTask). take i ts ++ z ∷ []) (sym is) in
+    subst (λ (xs : List SymbolicTask). AreTaskCopies xs (copies ++ copy ∷ [])) (sym more) (copied_more (take i ts) copies t copy are one)
+
+-- a copy says the same about each frame
+pub same_tasks : (frame : List ℕ) (port : ℕ) (ts copies : List SymbolicTask) → AreTaskCopies ts copies → map (task_for frame port) copies ≡ map (task_for frame port) ts
+same_tasks frame port [] [] are = refl
+same_tasks frame port [] (c ∷ copies) are = absurd are
+same_tasks frame port (t ∷ ts) [] are = absurd are
+same_tasks frame port (t ∷ ts) (c ∷ copies) are =
+    let first : task_for frame port c ≡ task_for frame port t = rw (are.0.0, are.0.1) refl in
+    ap (λ (x : Task). x ∷ map (task_for frame port) copies) first ∙ ap (λ (xs : List Task). task_for frame port t ∷ xs) (same_tasks frame port ts copies are.1)
+
+-- ---- the first state
+
+pub begins_at : (w : TheWorld) (frame : List ℕ) (port : ℕ) (new : SymbolicState) → map (task_for frame port) new.tasks.items ≡ task (entering frame port) (Lookup 0 ∷ []) ∷ [] → new.emitted.items ≡ [] → IsAt w frame port new
+unfolding after
+begins_at w frame port new tasks emitted = record { steps = 0; tasks = sym tasks; items = rw emitted refl }
+
+-- ---- the last state
+
+pub ended : (w : TheWorld) (frame : List ℕ) (port : ℕ) (s : SymbolicState) → IsSound w → IsAt w frame port s → s.tasks.items ≡ [] → (run_of w (entering frame port) (Lookup 0 ∷ [])).items ≡ items_for w.ports s.emitted.items frame port
+ended w frame port s sound at none =
+    let p = entering frame port in
+    let over : (after w at.steps (starting p (Lookup 0 ∷ []))).tasks ≡ [] = at.tasks ∙ ap (map (task_for frame port)) none in
+    ap (λ (m : Machine). m.items) (run_is w sound p (Lookup 0 ∷ []) at.steps (frame_fits w sound p refl) over) ∙ at.items

@@ -1,26 +1,28 @@
 -- What each kind of work leaves of a packet.
-use Rattle.std.proofs.Common.{◌≡◌, ◌==◌, ℕ, false, List, [], ◌∷◌, ◌++◌, refl, sym, ◌∙◌, ap, drop, Some, length, get_or, ◌<◌, ◌≤◌, ◌+◌, append_assoc}
+use Rattle.std.proofs.Common.{◌≡◌, ℕ, false, List, [], ◌∷◌, ◌++◌, refl, sym, ◌∙◌, ap, drop, Some, length, get_or, ◌<◌, ◌≤◌, ◌+◌, append_assoc}
 use Rattle.std.specs.Prelude.{map, IsTrue, slice_get}
 use Rattle.std.proofs.lemmas.List.{append-nil, map-append, drop_all}
+use Rattle.std.proofs.lemmas.Option.{slice_get-get_or}
 use Rattle.of_actions.specs.declared.action.Action.{Action}
 use Rattle.of_actions.specs.declared.action.Action.TheVariants as actions
 use Rattle.of_action_set.specs.Sets.{with_action, with_actions}
-use Rattle.of_wire.specs.declared.limits.TheConstants.{OFPP_TABLE}
 use Rattle.of_actions.specs.declared.instruction.Instruction.TheVariants.{Apply, Write, Goto}
 use Rattle.of_action_set.specs.Sets.{in_order}
 use Rattle.of_ports.specs.declared.port.Port.{Port}
-use Rattle.of_machine.specs.declared.data.Packet.{Packet}
 use Rattle.of_machine.specs.Rows.{acts, emission, no_cookie}
 use Rattle.of_machine.specs.Rows as rows
 use Rattle.of_machine.proofs.Moving.{acts_at}
-use Rattle.of_symbolic.specs.Actions.{call_of, frame_by, frame_of_actions}
+use Rattle.of_actions.specs.Supported.{is_supported}
+use Rattle.of_machine.proofs.Promises.{out_of_tables, settable, tag_type}
+use Rattle.of_symbolic.specs.Actions.{AreRewriting, IsRewriting, call_of, frame_by, frame_of_actions}
 use Rattle.of_symbolic_run.specs.declared.advance.Advance.TheVariants.{Done}
-use Rattle.of_symbolic_run.specs.declared.state.SymbolicPacket.{SymbolicPacket}
 use Rattle.of_symbolic_run.specs.declared.state.SymbolicTask.{SymbolicTask}
 use Rattle.of_symbolic_run.specs.declared.state.Emission.{Emission}
+use Rattle.of_symbolic_run.specs.declared.state.Emission.TheVariants as emissions
 use Rattle.of_symbolic_run.specs.declared.state.Work.{Work}
 use Rattle.of_symbolic_run.specs.declared.state.Work.TheVariants.{Lookup, Do, RunSet, Act}
-use Rattle.of_symbolic_run.specs.States.{IsCopyOf, TakesRow, answer_to, is_rewrite, items_for, packet_for, row_for, work_for}
+use Rattle.of_symbolic_run.specs.Rewriting.{rewrites_alike, rewrites_frames}
+use Rattle.of_symbolic_run.specs.States.{TakesRow, answer_to, items_for, items_of_emission, packet_for, row_for, work_for}
 
 pub first_is : (l : List Work) (x : Work) → slice_get l 0 ≡ Some x → l ≡ x ∷ drop 1 l
 first_is [] x h = cc
@@ -30,30 +32,51 @@ pub frames_more : (l : List Action) (a : Action) (frame : List ℕ) → frame_of
 frames_more [] a frame = refl
 frames_more (b ∷ l) a frame = frames_more l a (frame_by (call_of b) frame)
 
-pub is_done : (a : Action) → IsTrue (is_rewrite a) → answer_to (Act a) ≡ Done
+pub is_done : (a : Action) → IsTrue (rewrites_alike a) → answer_to (Act a) ≡ Done
 is_done (actions.PushVlan type) h = refl
 is_done actions.PopVlan h = refl
 is_done (actions.SetNwTtl ttl) h = refl
 is_done (actions.SetField f v) h = refl
 is_done other h = cc
 
+pub alike_rewrites : (a : Action) → IsTrue (rewrites_alike a) → IsTrue (rewrites_frames a)
+alike_rewrites (actions.PushVlan type) h = refl
+alike_rewrites actions.PopVlan h = refl
+alike_rewrites (actions.SetNwTtl ttl) h = refl
+alike_rewrites (actions.SetField f v) h = refl
+alike_rewrites other h = cc
+
+-- a supported action that rewrites frames
+pub is_rewriting : (a : Action) → IsTrue (is_supported false a) → IsTrue (rewrites_frames a) → IsRewriting a
+is_rewriting (actions.Output port max_len) served h = cc
+is_rewriting (actions.PushVlan type) served h = tag_type type served
+is_rewriting actions.PopVlan served h = tt
+is_rewriting (actions.Group group) served h = cc
+is_rewriting (actions.SetNwTtl ttl) served h = tt
+is_rewriting actions.DecNwTtl served h = tt
+is_rewriting (actions.SetField f v) served h = settable f v served
+
+pub rewriting_more : (l : List Action) (a : Action) → AreRewriting l → IsRewriting a → AreRewriting (l ++ a ∷ [])
+rewriting_more [] a h one = (one, tt)
+rewriting_more (b ∷ l) a h one = (h.0, rewriting_more l a h.1 one)
+
 pub sets_more : (set l m : List Action) → with_actions set (l ++ m) ≡ with_actions (with_actions set l) m
 sets_more set [] m = refl
 sets_more set (a ∷ l) m = sets_more (with_action set a) l m
 
 module _ (t t' : SymbolicTask) (e : List Emission) (written : t'.packet.written ≡ t.packet.written) (metadata : t'.packet.metadata ≡ t.packet.metadata) (cookie : t'.packet.cookie ≡ t.packet.cookie) (table : t'.packet.table ≡ t.packet.table) (miss : t'.packet.miss ≡ t.packet.miss) (left : t'.work.items ≡ drop 1 t.work.items) where
-  pub rewrites : (a : Action) → IsTrue (is_rewrite a) → slice_get t.work.items 0 ≡ Some (Act a) → t'.packet.rewrites.items ≡ t.packet.rewrites.items ++ a ∷ [] → TakesRow t e t' e
-  rewrites (actions.PushVlan type) is first more w frame port = rw (first_is t.work.items (Act (actions.PushVlan type)) first, written, metadata, cookie, table, miss, left, more, frames_more t.packet.rewrites.items (actions.PushVlan type) frame) (refl, sym (append-nil _))
-  rewrites actions.PopVlan is first more w frame port = rw (first_is t.work.items (Act actions.PopVlan) first, written, metadata, cookie, table, miss, left, more, frames_more t.packet.rewrites.items actions.PopVlan frame) (refl, sym (append-nil _))
-  rewrites (actions.SetNwTtl ttl) is first more w frame port = rw (first_is t.work.items (Act (actions.SetNwTtl ttl)) first, written, metadata, cookie, table, miss, left, more, frames_more t.packet.rewrites.items (actions.SetNwTtl ttl) frame) (refl, sym (append-nil _))
-  rewrites (actions.SetField f v) is first more w frame port = rw (first_is t.work.items (Act (actions.SetField f v)) first, written, metadata, cookie, table, miss, left, more, frames_more t.packet.rewrites.items (actions.SetField f v) frame) (refl, sym (append-nil _))
+  pub rewrites : (a : Action) → IsTrue (rewrites_alike a) → slice_get t.work.items 0 ≡ Some (Act a) → t'.packet.rewrites ≡ t.packet.rewrites ++ a ∷ [] → TakesRow t e t' e
+  rewrites (actions.PushVlan type) is first more w frame port = rw (first_is t.work.items (Act (actions.PushVlan type)) first, written, metadata, cookie, table, miss, left, more, frames_more t.packet.rewrites (actions.PushVlan type) frame) (refl, sym (append-nil _))
+  rewrites actions.PopVlan is first more w frame port = rw (first_is t.work.items (Act actions.PopVlan) first, written, metadata, cookie, table, miss, left, more, frames_more t.packet.rewrites actions.PopVlan frame) (refl, sym (append-nil _))
+  rewrites (actions.SetNwTtl ttl) is first more w frame port = rw (first_is t.work.items (Act (actions.SetNwTtl ttl)) first, written, metadata, cookie, table, miss, left, more, frames_more t.packet.rewrites (actions.SetNwTtl ttl) frame) (refl, sym (append-nil _))
+  rewrites (actions.SetField f v) is first more w frame port = rw (first_is t.work.items (Act (actions.SetField f v)) first, written, metadata, cookie, table, miss, left, more, frames_more t.packet.rewrites (actions.SetField f v) frame) (refl, sym (append-nil _))
   rewrites other is first more w frame port = let no : ⊥ = cc in absurd no
 
 module _ (t t' : SymbolicTask) (e : List Emission) where
   pub goes : (table : ℕ) → slice_get t.work.items 0 ≡ Some (Do (Goto table)) → t'.packet ≡ t.packet → t'.work.items ≡ Lookup table ∷ [] → TakesRow t e t' e
   goes table first same work w frame port = rw (first_is t.work.items (Do (Goto table)) first, same, work) (refl, sym (append-nil _))
 
-  pub writes : (l : List Action) → slice_get t.work.items 0 ≡ Some (Do (Write l)) → t'.packet.rewrites.items ≡ t.packet.rewrites.items → t'.packet.written ≡ t.packet.written ++ l →
+  pub writes : (l : List Action) → slice_get t.work.items 0 ≡ Some (Do (Write l)) → t'.packet.rewrites ≡ t.packet.rewrites → t'.packet.written ≡ t.packet.written ++ l →
       t'.packet.metadata ≡ t.packet.metadata → t'.packet.cookie ≡ t.packet.cookie → t'.packet.table ≡ t.packet.table → t'.packet.miss ≡ t.packet.miss → t'.work.items ≡ drop 1 t.work.items → TakesRow t e t' e
   writes l first rewrites written metadata cookie table miss left w frame port =
       rw (first_is t.work.items (Do (Write l)) first, rewrites, written, metadata, cookie, table, miss, left, sets_more [] t.packet.written l) (refl, sym (append-nil _))
@@ -63,32 +86,31 @@ module _ (t t' : SymbolicTask) (e : List Emission) where
       rw (first_is t.work.items (Do (Apply l)) first, same, work, map-append work_for works (drop 1 t.work.items), are) (refl, sym (append-nil _))
 
   pub runs_set : (set : List Action) (works : List Work) → slice_get t.work.items 0 ≡ Some RunSet → set ≡ with_actions [] t.packet.written → map work_for works ≡ acts (in_order set) → t'.work.items ≡ works ++ drop 1 t.work.items →
-      t'.packet.rewrites.items ≡ t.packet.rewrites.items → t'.packet.written ≡ [] → t'.packet.metadata ≡ t.packet.metadata → t'.packet.cookie ≡ no_cookie → t'.packet.table ≡ t.packet.table → t'.packet.miss ≡ false → TakesRow t e t' e
+      t'.packet.rewrites ≡ t.packet.rewrites → t'.packet.written ≡ [] → t'.packet.metadata ≡ t.packet.metadata → t'.packet.cookie ≡ no_cookie → t'.packet.table ≡ t.packet.table → t'.packet.miss ≡ false → TakesRow t e t' e
   runs_set set works first is are work rewrites written metadata cookie table miss w frame port =
       rw (first_is t.work.items RunSet first, work, map-append work_for works (drop 1 t.work.items), are, is, rewrites, written, metadata, cookie, table, miss) (refl, sym (append-nil _))
 
-  pub items_more : (ports : List Port) (l : List Emission) (x : Emission) (frame : List ℕ) (port : ℕ) → items_for ports (l ++ x ∷ []) frame port ≡ items_for ports l frame port ++ (emission ports (packet_for x.packet frame port) x.port x.max_len).items
-  items_more ports [] x frame port = append-nil (emission ports (packet_for x.packet frame port) x.port x.max_len).items
-  items_more ports (y ∷ l) x frame port = ap (λ r. (emission ports (packet_for y.packet frame port) y.port y.max_len).items ++ r) (items_more ports l x frame port) ∙ sym (append_assoc (emission ports (packet_for y.packet frame port) y.port y.max_len).items (items_for ports l frame port) (emission ports (packet_for x.packet frame port) x.port x.max_len).items)
+  pub items_more : (ports : List Port) (l : List Emission) (x : Emission) (frame : List ℕ) (port : ℕ) → items_for ports (l ++ x ∷ []) frame port ≡ items_for ports l frame port ++ items_of_emission ports x frame port
+  items_more ports [] x frame port = append-nil (items_of_emission ports x frame port)
+  items_more ports (y ∷ l) x frame port = ap (λ r. items_of_emission ports y frame port ++ r) (items_more ports l x frame port) ∙ sym (append_assoc (items_of_emission ports y frame port) (items_for ports l frame port) (items_of_emission ports x frame port))
 
-  pub same_for : (p q : SymbolicPacket) → IsCopyOf p q → (frame : List ℕ) (port : ℕ) → packet_for q frame port ≡ packet_for p frame port
-  same_for p q h frame port = rw (h.0, h.1, h.2, h.3, h.4, h.5) refl
-
-  pub outputs : (e' : List Emission) (x : Emission) → slice_get t.work.items 0 ≡ Some (Act (actions.Output x.port x.max_len)) → (x.port == OFPP_TABLE) ≡ false → IsCopyOf t.packet x.packet → e' ≡ e ++ x ∷ [] →
+  pub outputs : (e' : List Emission) (port max_len : ℕ) → slice_get t.work.items 0 ≡ Some (Act (actions.Output port max_len)) → IsTrue (is_supported false (actions.Output port max_len)) → e' ≡ e ++ emissions.Output t.packet port max_len ∷ [] →
       t'.packet ≡ t.packet → t'.work.items ≡ drop 1 t.work.items → TakesRow t e t' e'
-  outputs e' x first out copied more same left w frame port =
-      let is = first_is t.work.items (Act (actions.Output x.port x.max_len)) first in
-      let before = items_for w.ports e frame port in
-      let sent : before ++ (emission w.ports (packet_for t.packet frame port) x.port x.max_len).items ≡ before ++ (row_for w frame port t).items = rw (is, out) refl in (
+  outputs e' port max_len first served more same left w frame ingress =
+      let is = first_is t.work.items (Act (actions.Output port max_len)) first in
+      let out = out_of_tables port max_len served in
+      let before = items_for w.ports e frame ingress in
+      let sent : before ++ (emission w.ports (packet_for t.packet frame ingress) port max_len).items ≡ before ++ (row_for w frame ingress t).items = rw (is, out) refl in (
         rw (is, out, same, left) refl,
-        rw more (items_more w.ports e x frame port) ∙ ap (λ (p : Packet). before ++ (emission w.ports p x.port x.max_len).items) (same_for t.packet x.packet copied frame port) ∙ sent,
+        rw more (items_more w.ports e (emissions.Output t.packet port max_len) frame ingress) ∙ sent,
       )
 
 -- ---- actions as work
 
-pub works_more : (l : List Action) (i : ℕ) (d : Action) (old new : List Work) → i < length l → new ≡ old ++ Act (get_or l i d) ∷ [] → map work_for old ++ acts (drop i l) ≡ acts l → map work_for new ++ acts (drop (i + 1) l) ≡ acts l
-works_more l i d old new lt e h =
-    rw (e, map-append work_for old (Act (get_or l i d) ∷ [])) (append_assoc (map work_for old) (rows.Act (get_or l i d) ∷ []) (acts (drop (i + 1) l)) ∙ rw (acts_at l i d lt) at h)
+pub works_more : (l : List Action) (i : ℕ) (a : Action) (old new : List Work) → slice_get l i ≡ Some a → i < length l → new ≡ old ++ Act a ∷ [] → map work_for old ++ acts (drop i l) ≡ acts l → map work_for new ++ acts (drop (i + 1) l) ≡ acts l
+works_more l i a old new at lt e h =
+    let same : get_or l i a ≡ a = (let there = slice_get-get_or l i a lt in cc) in
+    rw (e, map-append work_for old (Act a ∷ [])) (append_assoc (map work_for old) (rows.Act a ∷ []) (acts (drop (i + 1) l)) ∙ ap (λ (b : Action). map work_for old ++ rows.Act b ∷ acts (drop (i + 1) l)) (sym same) ∙ rw (acts_at l i a lt) at h)
 
 pub works_done : (l : List Action) (i : ℕ) (works : List Work) → length l ≤ i → map work_for works ++ acts (drop i l) ≡ acts l → map work_for works ≡ acts l
 works_done l i works le h = sym (append-nil (map work_for works)) ∙ rw (drop_all i l le) at h

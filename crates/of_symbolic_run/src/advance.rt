@@ -6,9 +6,9 @@ ghost use Rattle.of_symbolic_run.specs.declared.state.Emission.{Emission as AnEm
 ghost use Rattle.of_symbolic_run.specs.declared.state.Work.TheVariants.{Act, Do};
 ghost use Rattle.of_symbolic_run.specs.States.{Advances, IsAt, TakesRow, WorkEnds, answer_to, answer_to_tasks, answer_to_works};
 
+use crate::served::ServedAction;
 use crate::state::{Emission, SymbolicState, SymbolicTask, Work};
 use of_actions::{Action, Instruction};
-use of_wire::limits::OFPP_TABLE;
 use std::alloc::{AllocError, Global};
 
 /// What came of the first work of the first packet.
@@ -16,10 +16,12 @@ use std::alloc::{AllocError, Global};
 pub enum Advance {
     /// It is done. If there was no work, the packet is removed.
     Done,
-    /// It is not the same for each frame: a lookup, or DEC_NW_TTL. Nothing changed.
-    Divides,
-    /// A GROUP, or an OUTPUT to the port TABLE. Nothing changed.
-    Unsupported,
+    /// A lookup in this table divides the frames. Nothing changed.
+    Lookup(u8),
+    /// DEC_NW_TTL divides the frames. Nothing changed.
+    DecNwTtl,
+    /// The group's buckets are wanted. Nothing changed.
+    Group(u32),
 }
 
 // An instruction.
@@ -50,25 +52,22 @@ fn follow_instruction(
 // An action.
 fn do_action(
     task: &mut SymbolicTask<'_>,
-    action: Action,
+    served: ServedAction,
     emitted: &mut Vec<Emission>,
 ) -> Result<Advance, AllocError>
-    requires { slice_get task.now.work.items 0 ≡ Some (Act action) }
-    ensures answer { IfOk result (λ a. a ≡ answer_to (Act action)) }
+    requires { slice_get task.now.work.items 0 ≡ Some (Act served) }
+    ensures answer { IfOk result (λ a. a ≡ answer_to (Act served)) }
     ensures ends { IfOk result (λ a. WorkEnds a task.old emitted.old.items task.new emitted.new.items) }
 {
-    match action {
-        Action::Group(_) => Ok(Advance::Unsupported),
-        Action::DecNwTtl => Ok(Advance::Divides),
+    match served.get() {
+        Action::Group(group) => Ok(Advance::Group(group)),
+        Action::DecNwTtl => Ok(Advance::DecNwTtl),
         Action::Output { port, max_len } => {
-            if port == OFPP_TABLE {
-                return Ok(Advance::Unsupported);
-            }
             task.output(port, max_len, emitted)?;
             Ok(Advance::Done)
         }
         Action::PushVlan(_) | Action::PopVlan | Action::SetNwTtl(_) | Action::SetField { .. } => {
-            task.rewrite_frame_by(action)?;
+            task.rewrite_frame_by(served)?;
             Ok(Advance::Done)
         }
     }
@@ -85,10 +84,10 @@ fn do_first_work(
     ensures ends { IfOk result (λ a. WorkEnds a task.old emitted.old.items task.new emitted.new.items) }
 {
     match &task.work[0] {
-        Work::Lookup(_) => Ok(Advance::Divides),
-        Work::Act(action) => {
-            let action = *action;
-            do_action(task, action, emitted)
+        Work::Lookup(table) => Ok(Advance::Lookup(*table)),
+        Work::Act(served) => {
+            let served = *served;
+            do_action(task, served, emitted)
         }
         Work::Do(served) => {
             let instruction = served.get();

@@ -1,16 +1,17 @@
 //! States of a symbolic run.
-ghost use Rattle.std.specs.Prelude.{IfOk};
-ghost use Rattle.of_symbolic_run.specs.States.{IsCopyOf};
+ghost use Rattle.std.specs.Prelude.{◌≡◌, IfOk};
+ghost use Rattle.of_symbolic_run.specs.States.{IsStateCopy, IsTaskCopy};
 
-use crate::written::{ServedInstruction, Written};
-use of_actions::Action;
-use std::alloc::AllocError;
+use crate::copying::{copied_emissions, copied_tasks, copied_works};
+use crate::rewrites::Rewrites;
+use crate::served::{ServedAction, ServedInstruction};
+use crate::written::Written;
+use std::alloc::{AllocError, Global};
 
 /// A packet, for each frame that came in: all except its frame and its ingress port is the same for each (OpenFlow 1.3.5, 5.1).
 #[derive(Debug, Drop)]
 pub struct SymbolicPacket {
-    /// The rewriting actions that were applied to the frame, the first one first.
-    pub rewrites: Vec<Action>,
+    pub rewrites: Rewrites,
     pub metadata: u64,
     /// What was written into its action set, which was empty before.
     pub written: Written,
@@ -30,7 +31,7 @@ pub enum Work<'a> {
     Do(ServedInstruction<'a>),
     /// The action set runs.
     RunSet,
-    Act(Action),
+    Act(ServedAction),
 }
 
 /// A packet with its work, the first work first.
@@ -40,15 +41,19 @@ pub struct SymbolicTask<'a> {
     pub work: Vec<Work<'a>>,
 }
 
-/// An OUTPUT. What it sends depends on the frame's ingress port, and on the ports of the switch.
+/// What a packet emits. What an OUTPUT sends depends on the frame's ingress port, and on the ports of the switch.
 #[derive(Debug, Drop)]
-pub struct Emission {
-    pub packet: SymbolicPacket,
-    pub port: u32,
-    pub max_len: u16,
+pub enum Emission {
+    Output {
+        packet: SymbolicPacket,
+        port: u32,
+        max_len: u16,
+    },
+    /// A packet to the controller with the reason INVALID_TTL (OpenFlow 1.3.5, 5.12).
+    InvalidTtl(SymbolicPacket),
 }
 
-/// A state of a symbolic run: the packets with their work, the first one first, and the outputs so far, in order.
+/// A state of a symbolic run: the packets with their work, the first one first, and what they emitted so far, in order.
 #[derive(Drop)]
 pub struct SymbolicState<'a> {
     pub tasks: Vec<SymbolicTask<'a>>,
@@ -57,15 +62,39 @@ pub struct SymbolicState<'a> {
 
 impl SymbolicPacket {
     pub fn copy(&self) -> Result<SymbolicPacket, AllocError>
-        ensures { IfOk result (IsCopyOf self.now) }
+        ensures { IfOk result (λ copy. copy ≡ self.now) }
     {
         Ok(SymbolicPacket {
-            rewrites: self.rewrites.clone()?,
+            rewrites: self.rewrites.copy()?,
             metadata: self.metadata,
             written: self.written.copy()?,
             cookie: self.cookie,
             table: self.table,
             miss: self.miss,
+        })
+    }
+}
+
+impl<'a> SymbolicTask<'a> {
+    /// A task with the same packet and the same work.
+    pub fn copy(&self, alloc: Global) -> Result<SymbolicTask<'a>, AllocError>
+        ensures { IfOk result (IsTaskCopy self.now) }
+    {
+        Ok(SymbolicTask {
+            packet: self.packet.copy()?,
+            work: copied_works(alloc, &self.work)?,
+        })
+    }
+}
+
+impl<'a> SymbolicState<'a> {
+    /// A state with the same packets, which emitted the same: so it says the same about the run of each frame.
+    pub fn copy(&self, alloc: Global) -> Result<SymbolicState<'a>, AllocError>
+        ensures { IfOk result (IsStateCopy self.now) }
+    {
+        Ok(SymbolicState {
+            tasks: copied_tasks(alloc, &self.tasks)?,
+            emitted: copied_emissions(alloc, &self.emitted)?,
         })
     }
 }

@@ -1,5 +1,5 @@
 //! What each kind of work does to a packet, for each frame.
-ghost use Rattle.std.specs.Prelude.{◌≡◌, ◌==◌, ◌++◌, Some, List, false, drop, length, map, ◌<◌, IfOk, OnOk, IsTrue, slice_get};
+ghost use Rattle.std.specs.Prelude.{◌≡◌, ◌++◌, Some, List, false, drop, length, map, ◌<◌, IfOk, OnOk, IsTrue, slice_get};
 ghost use Rattle.std.specs.List.{list_all};
 ghost use Rattle.of_actions.specs.Supported.{is_supported};
 ghost use Rattle.of_actions.specs.declared.action.Action.TheVariants.{Output};
@@ -8,21 +8,31 @@ ghost use Rattle.of_machine.specs.Rows.{acts};
 ghost use Rattle.of_symbolic_run.specs.declared.advance.Advance.TheVariants.{Done};
 ghost use Rattle.of_symbolic_run.specs.declared.state.Emission.{Emission as AnEmission};
 ghost use Rattle.of_symbolic_run.specs.declared.state.Work.TheVariants.{Act, Do, RunSet};
-ghost use Rattle.of_symbolic_run.specs.States.{TakesRow, answer_to, is_rewrite, work_for};
-ghost use Rattle.of_wire.specs.declared.limits.TheConstants.{OFPP_TABLE};
+ghost use Rattle.of_symbolic_run.specs.Rewriting.{rewrites_alike};
+ghost use Rattle.of_symbolic_run.specs.States.{TakesRow, answer_to, work_for};
 
+use crate::served::ServedAction;
 use crate::state::{Emission, SymbolicTask, Work};
 use of_action_set::ActionSet;
 use of_actions::{Action, ActionList};
 use std::alloc::{AllocError, Global};
 
+fn served_at(actions: &[Action], index: usize) -> ServedAction
+    requires inside { index < length actions.now }
+    requires served { IsTrue (list_all (is_supported false) actions.now) }
+    ensures { slice_get actions.now index ≡ Some result }
+{
+    ServedAction::new(actions[index])
+}
+
 // Actions as work.
 fn works_of<'a>(alloc: Global, actions: &[Action]) -> Result<Vec<Work<'a>>, AllocError>
+    requires { IsTrue (list_all (is_supported false) actions.now) }
     ensures { IfOk result (λ works. map work_for works.items ≡ acts actions.now) }
 {
     let mut works = Vec::new(alloc);
-    for action in actions {
-        works.push(Work::Act(*action))?;
+    for index in 0..actions.len() {
+        works.push(Work::Act(served_at(actions, index)))?;
     }
     Ok(works)
 }
@@ -42,9 +52,9 @@ impl<'a> SymbolicTask<'a> {
     }
 
     // PUSH_VLAN, POP_VLAN, SET_NW_TTL and SET_FIELD.
-    pub(crate) fn rewrite_frame_by(&mut self, action: Action) -> Result<(), AllocError>
+    pub(crate) fn rewrite_frame_by(&mut self, action: ServedAction) -> Result<(), AllocError>
         requires first { slice_get self.now.work.items 0 ≡ Some (Act action) }
-        requires rewrites { IsTrue (is_rewrite action) }
+        requires alike { IsTrue (rewrites_alike action) }
         ensures answer { answer_to (Act action) ≡ Done }
         ensures takes { OnOk result ((emitted : List AnEmission) → TakesRow self.old emitted self.new emitted) }
     {
@@ -53,7 +63,7 @@ impl<'a> SymbolicTask<'a> {
         Ok(())
     }
 
-    // OUTPUT, except to the port TABLE.
+    // OUTPUT. No instruction has one to the port TABLE.
     pub(crate) fn output(
         &mut self,
         port: u32,
@@ -61,11 +71,11 @@ impl<'a> SymbolicTask<'a> {
         emitted: &mut Vec<Emission>,
     ) -> Result<(), AllocError>
         requires first { slice_get self.now.work.items 0 ≡ Some (Act (Output port max_len)) }
-        requires out { (port == OFPP_TABLE) ≡ false }
+        requires served { IsTrue (is_supported false (Output port max_len)) }
         ensures { OnOk result (TakesRow self.old emitted.old.items self.new emitted.new.items) }
     {
         let packet = self.packet.copy()?;
-        emitted.push(Emission {
+        emitted.push(Emission::Output {
             packet,
             port,
             max_len,
@@ -80,7 +90,8 @@ impl<'a> SymbolicTask<'a> {
         alloc: Global,
         actions: &ActionList,
     ) -> Result<(), AllocError>
-        requires { slice_get self.now.work.items 0 ≡ Some (Do (Apply actions.now)) }
+        requires first { slice_get self.now.work.items 0 ≡ Some (Do (Apply actions.now)) }
+        requires served { IsTrue (list_all (is_supported false) actions.now) }
         ensures { OnOk result ((emitted : List AnEmission) → TakesRow self.old emitted self.new emitted) }
     {
         self.replace_first(works_of(alloc, actions.as_slice())?)

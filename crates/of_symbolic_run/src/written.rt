@@ -1,10 +1,9 @@
-//! Supported actions that were written into an action set, and supported instructions.
+//! Supported actions that were written into an action set.
 ghost use Rattle.std.specs.Prelude.{◌≡◌, ◌++◌, [], false, IsTrue, IfOk, OnOk, OnErr};
 ghost use Rattle.std.specs.List.{list_all};
-ghost use Rattle.of_actions.specs.InstructionLists.{is_served_body};
 ghost use Rattle.of_actions.specs.Supported.{is_supported};
 
-use of_actions::{Action, Instruction};
+use of_actions::Action;
 use std::alloc::{AllocError, Global};
 use std::marker::Model;
 
@@ -66,39 +65,5 @@ impl Written {
         Ok(Written {
             actions: self.actions.clone()?,
         })
-    }
-}
-
-/// An instruction of an entry. It is supported.
-#[derive(Drop)]
-pub struct ServedInstruction<'a> {
-    instruction: &'a Instruction,
-}
-
-impl<'a> Model for ServedInstruction<'a> {
-    ghost use Rattle.std.specs.Prelude.{IsTrue};
-    ghost use Rattle.of_actions.specs.declared.instruction.Instruction.{Instruction};
-    ghost use Rattle.of_actions.specs.InstructionLists.{is_served_body};
-
-    ghost Value = { Instruction };
-
-    ghost view = { λ s. s.instruction.now };
-
-    ghost invariant = { λ s. IsTrue (is_served_body s.instruction.now) };
-}
-
-impl<'a> ServedInstruction<'a> {
-    pub fn new(instruction: &'a Instruction) -> Self
-        requires { IsTrue (is_served_body instruction.now) }
-        ensures { result ≡ instruction.now }
-    {
-        ServedInstruction { instruction }
-    }
-
-    pub fn get(&self) -> &'a Instruction
-        ensures is { result.now ≡ self.now }
-        ensures served { IsTrue (is_served_body result.now) }
-    {
-        self.instruction
     }
 }

@@ -1,13 +1,14 @@
 use Rattle.std.proofs.Common.{◌≡◌, ◌≤◌, ℕ, List, length, Option, None, Some, sym, subst, arith}
 use Rattle.std.specs.Prelude.{IfSome}
 use Rattle.std.specs.Global.{Vec}
-use Rattle.of_table.specs.Entries.{flows_of}
 use Rattle.of_symbolic.specs.declared.overlay.Overlay.{Overlay}
 use Rattle.of_symbolic.specs.declared.pulled_entry.PulledEntry.{PulledEntry}
+use Rattle.of_symbolic.specs.Branches.{flows_listed}
 use Rattle.of_symbolic.specs.Branching.{AddsHit, ArePulledEntries}
 use Rattle.of_table.specs.Table.{FlowEntry}
 use Rattle.of_symbolic.proofs.BranchLemmas.{branches_done, branches_more}
 use Rattle.of_symbolic.proofs.HitLemmas.{branches_are}
+use Rattle.of_symbolic.proofs.NearLemmas.{near_branches, near_kept}
 use Rattle.of_symbolic.proofs.PulledLemmas.{pulled_kept}
 use Rattle.of_symbolic.proofs.branching.branches.Goals as goal
 
@@ -17,34 +18,39 @@ own o metadata flows found pulled is h = subst (λ (x : Option (Vec PulledEntry)
 
 pub push_hit-requires-clause-each : goal.push_hit-requires-clause-each
 push_hit-requires-clause-each c =
-    let flows = flows_of c.args.entries in
+    let flows = flows_listed c.args.entries.now in
+    let part = c.args.part.now in
     let are = own c.args.overlay.now c.args.metadata flows c.in_ok-pulled.field-0 c.in-Some.pulled c.in-Some.is c.in_ok-pulled.ensures.some in
-    rw c.deref.ensures.value (pulled_kept c.args.overlay.now c.args.metadata flows c.in-Some.pulled.items are)
+    rw c.deref.ensures.value (near_kept part c.in-Some.pulled.items c.in_ok-pulled-2.pulled.items c.in_ok-pulled-2.ensures (pulled_kept c.args.overlay.now c.args.metadata flows c.in-Some.pulled.items are))
 
 pub loop-place-preserved : goal.loop-place-preserved
 loop-place-preserved c =
-    branches_more c.args.part.now c.in-Some.pulled.items c.loop-place.place c.loop-place.out.items c.push_hit.new.out.items c.loop-place.invariant (rw (sym c.deref.ensures.value) c.in_ok-push_hit.ensures)
+    branches_more c.args.part.now c.in_ok-pulled-2.pulled.items c.loop-place.place c.loop-place.out.items c.push_hit.new.out.items c.loop-place.invariant (rw (sym c.deref.ensures.value) c.in_ok-push_hit.ensures)
 
 pub push_miss-requires-clause-each : goal.push_miss-requires-clause-each
 push_miss-requires-clause-each c =
-    let flows = flows_of c.args.entries in
+    let flows = flows_listed c.args.entries.now in
+    let part = c.args.part.now in
     let are = own c.args.overlay.now c.args.metadata flows c.in_ok-pulled.field-0 c.in-Some.pulled c.in-Some.is c.in_ok-pulled.ensures.some in
-    rw c.deref-2.ensures.value (pulled_kept c.args.overlay.now c.args.metadata flows c.in-Some.pulled.items are)
+    rw c.deref-2.ensures.value (near_kept part c.in-Some.pulled.items c.in_ok-pulled-2.pulled.items c.in_ok-pulled-2.ensures (pulled_kept c.args.overlay.now c.args.metadata flows c.in-Some.pulled.items are))
 
 pub returns-clause-some : goal.returns-clause-some
 returns-clause-some c =
-    let flows = flows_of c.args.entries in
+    let flows = flows_listed c.args.entries.now in
+    let part = c.args.part.now in
     let pulled = c.in-Some.pulled in
+    let near = c.in_ok-pulled-2.pulled in
     let are = own c.args.overlay.now c.args.metadata flows c.in_ok-pulled.field-0 pulled c.in-Some.is c.in_ok-pulled.ensures.some in
-    let most : length pulled.items ≤ c.loop-place.place = omega (arith, c.loop-place-test.false, c.len-place-end.ensures, pulled.ok.0) in
-    let adds : AddsHit c.args.part.now pulled.items None c.loop-place.out.items c.push_miss.new.out.items = rw (sym c.deref-2.ensures.value) c.in_ok-push_miss.ensures in
-    branches_are c.args.overlay.now c.args.metadata flows pulled.items c.args.part.now c.push_miss.new.out.items are
-    (branches_done c.args.part.now pulled.items c.loop-place.place c.loop-place.out.items c.push_miss.new.out.items most c.loop-place.invariant adds)
+    let most : length near.items ≤ c.loop-place.place = omega (arith, c.loop-place-test.false, c.len-place-end.ensures, near.ok.0) in
+    let adds : AddsHit part near.items None c.loop-place.out.items c.push_miss.new.out.items = rw (sym c.deref-2.ensures.value) c.in_ok-push_miss.ensures in
+    branches_are c.args.overlay.now c.args.metadata flows pulled.items part c.push_miss.new.out.items are
+    (near_branches part pulled.items near.items c.push_miss.new.out.items c.in_ok-pulled-2.ensures
+    (branches_done part near.items c.loop-place.place c.loop-place.out.items c.push_miss.new.out.items most c.loop-place.invariant adds))
 
 pub returns-clause-conditions : goal.returns-clause-conditions
 returns-clause-conditions c =
-    let pulled = c.in-Some.pulled in
-    let most : length pulled.items ≤ c.loop-place.place = omega (arith, c.loop-place-test.false, c.len-place-end.ensures, pulled.ok.0) in
-    let adds : AddsHit c.args.part.now pulled.items None c.loop-place.out.items c.push_miss.new.out.items = rw (sym c.deref-2.ensures.value) c.in_ok-push_miss.ensures in
-    let are = branches_done c.args.part.now pulled.items c.loop-place.place c.loop-place.out.items c.push_miss.new.out.items most c.loop-place.invariant adds in
+    let near = c.in_ok-pulled-2.pulled in
+    let most : length near.items ≤ c.loop-place.place = omega (arith, c.loop-place-test.false, c.len-place-end.ensures, near.ok.0) in
+    let adds : AddsHit c.args.part.now near.items None c.loop-place.out.items c.push_miss.new.out.items = rw (sym c.deref-2.ensures.value) c.in_ok-push_miss.ensures in
+    let are = branches_done c.args.part.now near.items c.loop-place.place c.loop-place.out.items c.push_miss.new.out.items most c.loop-place.invariant adds in
     λ b there. (are.each b there).conditions

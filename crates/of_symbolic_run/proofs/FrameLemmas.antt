@@ -1,0 +1,114 @@
+-- Sets of frames.
+use Rattle.std.proofs.Common.{◌≡◌, ◌≤◌, ◌<◌, ◌%◌, ◌^◌, ℕ, List, length, Option, Some, None, refl, sym, ap, subst, ◌∙◌, arith, inl, inr}
+use Rattle.std.specs.Prelude.{IfSome}
+use Rattle.std.proofs.Math.Nat.{mod-eq_of_lt}
+use Rattle.std.proofs.Math.Path.{fun_ext}
+use Rattle.of_layers.specs.declared.field.Field.{Field}
+use Rattle.of_layers.specs.declared.field.Field.TheVariants.{InPort, Metadata, VlanVid, VlanPcp}
+use Rattle.of_layers.specs.Layers.{cells, ttl}
+use Rattle.of_layers.specs.Reading.{layers_of}
+use Rattle.of_headers.specs.FieldMap.{field_map}
+use Rattle.of_oxm.specs.declared.match_field.MatchField.{MatchField}
+use Rattle.of_rewrite.specs.Calls.{SetTtl}
+use Rattle.of_rewrite.specs.Frames.{IsFrame, frame_ttl}
+use Rattle.of_rewrite.specs.TimeToLive.{ttl_of}
+use Rattle.of_rewrite.specs.Views.{IsView, View, fields_seen, replaced_if_there, view_of, view_ttl}
+use Rattle.of_rewrite.proofs.Calling.{still_frame}
+use Rattle.of_rewrite.proofs.Unset.{frame_stands}
+use Rattle.of_rewrite.proofs.Viewing.{seen, view_follows}
+use Rattle.of_rewrite.proofs.Widths.{found_small, layers_wide, ttl_wide}
+use Rattle.of_regions.specs.declared.searching.Found.{Found}
+use Rattle.of_regions.specs.declared.searching.Found.TheVariants as found
+use Rattle.of_regions.specs.Witness.{IsIngressPort}
+use Rattle.of_symbolic.specs.declared.part.Part.{Part}
+use Rattle.of_symbolic.specs.Parts.{FindsInPart, InPart, IsMatchedPart, IsUnmatchedPart, IsWholePart, received_fields}
+use Rattle.of_symbolic.proofs.PartLemmas.{some_tagging}
+use Rattle.of_symbolic_run.specs.declared.frame_set.FrameSet.{FrameSet}
+use Rattle.of_symbolic_run.specs.declared.finding.FrameFound.TheVariants.{Empty, Undecided}
+use Rattle.of_symbolic_run.specs.FrameParts.{HasNoMetadata}
+use Rattle.of_symbolic_run.specs.FrameSets.{AreFramesMatching, AreFramesWithout, FindsFrame, HasTtlIn, InFrames}
+
+-- ---- the TTL
+
+pub ttl_small : (frame : List ℕ) (t : ℕ) → IsFrame frame → ttl_of (layers_of frame) ≡ Some t → t < 2 ^ 8
+ttl_small frame t h is = found_small ttl 8 t (cells (layers_of frame)) (layers_wide ttl 8 ttl_wide (layers_of frame)) (frame_stands frame h.1 h.0).is_sound is
+
+pub any_ttl : (frame : List ℕ) → IsFrame frame → HasTtlIn 0 255 frame
+any_ttl frame h = by_ttl (ttl_of (layers_of frame)) refl
+  where
+    by_ttl : (o : Option ℕ) → ttl_of (layers_of frame) ≡ o → IfSome o (λ t. (0 ≤ t) × (t ≤ 255))
+    by_ttl None is = tt
+    by_ttl (Some t) is = let small = ttl_small frame t h is in (omega arith, omega (arith, small))
+
+-- ---- a TTL that is set
+
+pub own_view : (frame : List ℕ) → IsView (view_of frame) frame
+own_view frame = record { fields = λ f. refl; tags = refl; ttl = refl }
+
+seen_alike : (v : View) (value port metadata : ℕ) (f : Field) → fields_seen (view_ttl value v) port metadata f ≡ fields_seen v port metadata f
+seen_alike v value port metadata InPort = refl
+seen_alike v value port metadata Metadata = refl
+seen_alike v value port metadata VlanVid = refl
+seen_alike v value port metadata VlanPcp = refl
+seen_alike v value port metadata f = refl
+
+pub ttl_fields : (frame : List ℕ) (value port : ℕ) → IsFrame frame → IsFrame (frame_ttl value frame) → received_fields (frame_ttl value frame) port ≡ received_fields frame port
+ttl_fields frame value port h after = fun_ext (λ f. seen (frame_ttl value frame) (view_ttl value (view_of frame)) port 0 f after (view_follows (SetTtl value) frame (view_of frame) h tt tt (own_view frame))
+    ∙ seen_alike (view_of frame) value port 0 f ∙ sym (seen frame (view_of frame) port 0 f h (own_view frame)))
+
+pub ttl_fits : (frame : List ℕ) (t low high : ℕ) → IsFrame frame → ttl_of (layers_of frame) ≡ Some t → low ≤ high → low < 2 ^ 8 → HasTtlIn low high (frame_ttl low frame)
+ttl_fits frame t low high h is le fits =
+    let v = view_follows (SetTtl low) frame (view_of frame) h tt tt (own_view frame) in
+    let cut : low % 2 ^ 8 ≡ low = mod-eq_of_lt fits in
+    let after : ttl_of (layers_of (frame_ttl low frame)) ≡ Some low = sym v.ttl ∙ ap (replaced_if_there 8 low) is ∙ ap (λ (x : ℕ). Some x) cut in
+    subst (λ (o : Option ℕ). IfSome o (λ x. (low ≤ x) × (x ≤ high))) (sym after) (omega arith, le)
+
+pub ttl_is_frame : (frame : List ℕ) (value : ℕ) → IsFrame frame → IsFrame (frame_ttl value frame)
+ttl_is_frame frame value h = still_frame (SetTtl value) frame h tt
+
+-- ---- sets
+
+pub in_whole : (s : FrameSet) → IsWholePart s.part → s.ttl_from ≡ 0 → s.ttl_to ≡ 255 → (frame : List ℕ) (port : ℕ) → IsFrame frame → InFrames s frame port
+in_whole s whole from to frame port h = record { part = whole.all frame port h; ttl = rw (from, to) (any_ttl frame h) }
+
+pub without_is : (m : List MatchField) (old new : FrameSet) → IsUnmatchedPart m old.part new.part → new.ttl_from ≡ old.ttl_from → new.ttl_to ≡ old.ttl_to → AreFramesWithout m old new
+without_is m old new less from to = record {
+  within = λ frame port h. (let w = less.within (received_fields frame port) h.part in (record { part = w.0; ttl = rw (sym from, sym to) h.ttl }, w.1));
+  all = λ frame port h no. record { part = less.all (received_fields frame port) h.part no; ttl = rw (from, to) h.ttl };
+}
+
+pub matching_is : (m : List MatchField) (old new : FrameSet) → IsMatchedPart m old.part new.part → new.ttl_from ≡ old.ttl_from → new.ttl_to ≡ old.ttl_to → AreFramesMatching m old new
+matching_is m old new less from to = record {
+  least = from;
+  most = to;
+  within = λ frame port h. (let w = less.within (received_fields frame port) h.part in (record { part = w.0; ttl = rw (sym from, sym to) h.ttl }, w.1));
+  all = λ frame port is h yes_it_is. record { part = less.all (received_fields frame port) (some_tagging frame port 0 is) h.part yes_it_is; ttl = rw (from, to) h.ttl };
+}
+
+-- a part of a part without metadata
+pub no_metadata_within : (old new : Part) → ((fields : Field → Option ℕ) → InPart new fields → InPart old fields) → HasNoMetadata old → HasNoMetadata new
+no_metadata_within old new within none frame port metadata fits h = none frame port metadata fits (within (field_map (layers_of frame) port metadata) h)
+
+-- ---- a packet of a part
+
+pub packet_fields : (part : Part) (frame : List ℕ) (port metadata : ℕ) → HasNoMetadata part → metadata < 2 ^ 64 → InPart part (field_map (layers_of frame) port metadata) → InPart part (received_fields frame port)
+packet_fields part frame port metadata none fits h = subst (λ (m : ℕ). InPart part (field_map (layers_of frame) port m)) (none frame port metadata fits h) h
+
+-- a packet of a part, with its TTL in the range
+pub made_frame : (s : FrameSet) (frame : List ℕ) (port metadata : ℕ) (fitted made : List ℕ) → metadata < 2 ^ 64 → InPart s.part (field_map (layers_of frame) port metadata) → IsFrame fitted → length fitted ≡ length frame → length frame ≤ 9216 → IsIngressPort port
+    → HasTtlIn s.ttl_from s.ttl_to fitted → received_fields fitted port ≡ received_fields frame port → made ≡ fitted → IsFrame made × (length made ≤ 9216) × InFrames s made port × IsIngressPort port
+made_frame s frame port metadata fitted made fits h is long short ingress in_range same copied =
+    let within : InPart s.part (received_fields fitted port) = subst (InPart s.part) (sym same) (packet_fields s.part frame port metadata s.received fits h) in
+    rw copied (is, omega (arith, long, short), record { part = within; ttl = in_range }, ingress)
+
+-- what a search finds in a set
+abbrev pub IsSetFound : FrameSet → ℕ → Found → Type 0
+IsSetFound s steps (found.Free p) = FindsInPart s.part steps (found.Free p)
+IsSetFound s steps (found.Taken names) = FindsFrame s steps Empty
+IsSetFound s steps other = FindsFrame s steps Undecided
+
+pub finds_in : (s : FrameSet) (steps : ℕ) (f : Found) → FindsInPart s.part steps f → IsSetFound s steps f
+finds_in s steps (found.Free p) h = h
+finds_in s steps (found.Taken names) h = λ frame port is i. h frame port 0 is i.part
+finds_in s steps (found.Unreceived r) h = inr (r, h)
+finds_in s steps found.Undecided h = inl h

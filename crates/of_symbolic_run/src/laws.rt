@@ -1,0 +1,14 @@
+//! What a state says about runs.
+ghost use Rattle.std.specs.Prelude.{◌≡◌, ◌∷◌, ℕ, List, []};
+ghost use Rattle.of_machine.specs.TheWorld.{TheWorld};
+ghost use Rattle.of_machine.specs.Sound.{IsSound};
+ghost use Rattle.of_machine.specs.Rows.{Lookup, entering};
+ghost use Rattle.of_machine.specs.Runs.{run_of};
+ghost use Rattle.of_symbolic_run.specs.declared.state.SymbolicState.{SymbolicState};
+ghost use Rattle.of_symbolic_run.specs.States.{IsAt, items_for};
+
+/// A state without packets gives what the run of each of its frames gives.
+pub fn ended_states_give_runs()
+    ensures { (w : TheWorld) (frame : List ℕ) (port : ℕ) (s : SymbolicState) → IsSound w → IsAt w frame port s → s.tasks.items ≡ [] →
+        (run_of w (entering frame port) (Lookup 0 ∷ [])).items ≡ items_for w.ports s.emitted.items frame port }
+{}
