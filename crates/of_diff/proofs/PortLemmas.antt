@@ -1,5 +1,5 @@
 -- Ports that are the same, and numbers that are not there.
-use Rattle.std.proofs.Common.{◌≡◌, ℕ, ◌∷◌, ◌++◌, ◌^◌, ◌<◌, Bool, true, false, List, [], Some, Result, Ok, Err, refl, ap, subst, ◌∙◌, inl, inr, arith}
+use Rattle.std.proofs.Common.{◌≡◌, ℕ, ◌∷◌, ◌++◌, ◌^◌, ◌<◌, Bool, true, false, List, [], Some, Result, Ok, Err, refl, sym, ap, subst, ◌∙◌, inl, inr, arith}
 use Rattle.std.specs.Prelude.{bit_and, ◌&&◌}
 use Rattle.std.specs.List.{Contains, list_any}
 use Rattle.std.specs.Result.{OnOk}
@@ -12,6 +12,7 @@ use Rattle.of_layers.specs.declared.field.Field.TheVariants.{InPort}
 use Rattle.of_oxm.proofs.Normal.{under_ones}
 use Rattle.of_oxm.specs.declared.match_field.MatchField.{MatchField}
 use Rattle.of_oxm.specs.Relations.{agrees, matches_map}
+use Rattle.of_regions.specs.Conditions.{AreConditions}
 use Rattle.of_ports.specs.declared.port.Port.{Port}
 use Rattle.of_diff.specs.SamePorts.{AreAbsences, IsAbsence, IsConditionOf, agrees_under}
 
@@ -39,7 +40,8 @@ pub one_absence : (ports : List Port) (number mask : ℕ) (e : MatchField) → m
 one_absence ports number mask e fits is none fields alone = record {
   condition = e;
   alone = alone;
-  is = record { ingress = is.ingress; within = rw is.looks (within_ones mask fits); value = rw (is.value, is.looks) (twice number mask) };
+  ingress = is.ingress;
+  conditions = subst AreConditions (sym alone) (record { within = rw (is.looks, is.ingress) (within_ones mask fits); value = rw (is.value, is.looks) (twice number mask) }, tt);
   absent = λ q c packet at.
       let differs : agrees_under mask number q.number ≡ false = any_false (λ q. agrees_under mask number q.number) ports none q c in
       let asked : agrees e (Some q.number) ≡ false = rw (is.looks, is.value) differs in

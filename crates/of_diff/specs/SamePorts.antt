@@ -4,9 +4,9 @@ use Rattle.std.specs.List.{Contains}
 use Rattle.std.specs.Global.{Vec}
 use Rattle.of_layers.specs.declared.field.Field.{Field}
 use Rattle.of_layers.specs.declared.field.Field.TheVariants.{InPort}
-use Rattle.of_layers.specs.Fields.{ones_of}
 use Rattle.of_oxm.specs.declared.match_field.MatchField.{MatchField}
 use Rattle.of_oxm.specs.Relations.{bits_looked_at, matches_map}
+use Rattle.of_regions.specs.Conditions.{AreConditions}
 use Rattle.of_ports.specs.declared.port.Port.{Port}
 use Rattle.of_ports.specs.Ports.{is_live, may_receive, may_send, port_at}
 
@@ -32,17 +32,12 @@ pub record IsReceivingPort (ports : List Port) (number : ℕ) : Type 0 where
 
 -- ---- numbers that are not there
 
--- IN_PORT has some bits under a mask
-pub record IsIngressCondition (e : MatchField) : Type 0 where
-  pub ingress : e.field ≡ InPort
-  pub within : bit_and (bits_looked_at e) (ones_of InPort) ≡ bits_looked_at e
-  pub value : bit_and e.value (bits_looked_at e) ≡ e.value
-
--- one such condition, which no packet meets that comes in by one of the ports
+-- one condition on IN_PORT, which no packet meets that comes in by one of the ports
 pub record IsAbsence (ports : List Port) (fields : List MatchField) : Type 0 where
   pub condition : MatchField
   pub alone : fields ≡ condition ∷ []
-  pub is : IsIngressCondition condition
+  pub ingress : condition.field ≡ InPort
+  pub conditions : AreConditions fields
   pub absent : (q : Port) → Contains ports q → (packet : Field → Option ℕ) → packet InPort ≡ Some q.number → matches_map fields packet ≡ false
 
 abbrev pub AreAbsences : List Port → List (Vec MatchField) → Type 0

@@ -1,7 +1,6 @@
 -- Sets of frames.
-use Rattle.std.proofs.Common.{◌≡◌, ◌≤◌, ◌<◌, ◌%◌, ◌^◌, ℕ, List, Option, Some, None, refl, sym, ap, subst, ◌∙◌, arith}
-use Rattle.std.specs.Prelude.{true, false, IfSome}
-use Rattle.std.specs.Option.{option_map}
+use Rattle.std.proofs.Common.{◌≡◌, ◌≤◌, ◌<◌, ◌%◌, ◌^◌, ℕ, List, length, Option, Some, None, refl, sym, ap, subst, ◌∙◌, arith, inl, inr}
+use Rattle.std.specs.Prelude.{IfSome}
 use Rattle.std.proofs.Math.Nat.{mod-eq_of_lt}
 use Rattle.std.proofs.Math.Path.{fun_ext}
 use Rattle.of_layers.specs.declared.field.Field.{Field}
@@ -10,21 +9,24 @@ use Rattle.of_layers.specs.Layers.{cells, ttl}
 use Rattle.of_layers.specs.Reading.{layers_of}
 use Rattle.of_headers.specs.FieldMap.{field_map}
 use Rattle.of_oxm.specs.declared.match_field.MatchField.{MatchField}
-use Rattle.of_oxm.specs.Relations.{matches_map}
 use Rattle.of_rewrite.specs.Calls.{SetTtl}
 use Rattle.of_rewrite.specs.Frames.{IsFrame, frame_ttl}
 use Rattle.of_rewrite.specs.TimeToLive.{ttl_of}
 use Rattle.of_rewrite.specs.Views.{IsView, View, fields_seen, replaced_if_there, view_of, view_ttl}
-use Rattle.of_rewrite.proofs.Framing.{still_frame}
+use Rattle.of_rewrite.proofs.Calling.{still_frame}
 use Rattle.of_rewrite.proofs.Unset.{frame_stands}
 use Rattle.of_rewrite.proofs.Viewing.{seen, view_follows}
 use Rattle.of_rewrite.proofs.Widths.{found_small, layers_wide, ttl_wide}
+use Rattle.of_regions.specs.declared.searching.Found.{Found}
+use Rattle.of_regions.specs.declared.searching.Found.TheVariants as found
+use Rattle.of_regions.specs.Witness.{IsIngressPort}
 use Rattle.of_symbolic.specs.declared.part.Part.{Part}
-use Rattle.of_symbolic.specs.Parts.{InPart, IsMatchedPart, IsUnmatchedPart, IsWholePart, received_fields}
+use Rattle.of_symbolic.specs.Parts.{FindsInPart, InPart, IsMatchedPart, IsUnmatchedPart, IsWholePart, received_fields}
 use Rattle.of_symbolic.proofs.PartLemmas.{some_tagging}
 use Rattle.of_symbolic_run.specs.declared.frame_set.FrameSet.{FrameSet}
+use Rattle.of_symbolic_run.specs.declared.finding.FrameFound.TheVariants.{Empty, Undecided}
 use Rattle.of_symbolic_run.specs.FrameParts.{HasNoMetadata}
-use Rattle.of_symbolic_run.specs.FrameSets.{AreFramesMatching, AreFramesWithout, HasTtlIn, InFrames}
+use Rattle.of_symbolic_run.specs.FrameSets.{AreFramesMatching, AreFramesWithout, FindsFrame, HasTtlIn, InFrames}
 
 -- ---- the TTL
 
@@ -54,10 +56,10 @@ pub ttl_fields : (frame : List ℕ) (value port : ℕ) → IsFrame frame → IsF
 ttl_fields frame value port h after = fun_ext (λ f. seen (frame_ttl value frame) (view_ttl value (view_of frame)) port 0 f after (view_follows (SetTtl value) frame (view_of frame) h tt tt (own_view frame))
     ∙ seen_alike (view_of frame) value port 0 f ∙ sym (seen frame (view_of frame) port 0 f h (own_view frame)))
 
-pub ttl_fits : (frame : List ℕ) (t low high : ℕ) → IsFrame frame → ttl_of (layers_of frame) ≡ Some t → low ≤ high → high < 2 ^ 8 → HasTtlIn low high (frame_ttl low frame)
+pub ttl_fits : (frame : List ℕ) (t low high : ℕ) → IsFrame frame → ttl_of (layers_of frame) ≡ Some t → low ≤ high → low < 2 ^ 8 → HasTtlIn low high (frame_ttl low frame)
 ttl_fits frame t low high h is le fits =
     let v = view_follows (SetTtl low) frame (view_of frame) h tt tt (own_view frame) in
-    let cut : low % 2 ^ 8 ≡ low = mod-eq_of_lt (omega (arith, le, fits)) in
+    let cut : low % 2 ^ 8 ≡ low = mod-eq_of_lt fits in
     let after : ttl_of (layers_of (frame_ttl low frame)) ≡ Some low = sym v.ttl ∙ ap (replaced_if_there 8 low) is ∙ ap (λ (x : ℕ). Some x) cut in
     subst (λ (o : Option ℕ). IfSome o (λ x. (low ≤ x) × (x ≤ high))) (sym after) (omega arith, le)
 
@@ -77,6 +79,8 @@ without_is m old new less from to = record {
 
 pub matching_is : (m : List MatchField) (old new : FrameSet) → IsMatchedPart m old.part new.part → new.ttl_from ≡ old.ttl_from → new.ttl_to ≡ old.ttl_to → AreFramesMatching m old new
 matching_is m old new less from to = record {
+  least = from;
+  most = to;
   within = λ frame port h. (let w = less.within (received_fields frame port) h.part in (record { part = w.0; ttl = rw (sym from, sym to) h.ttl }, w.1));
   all = λ frame port is h yes_it_is. record { part = less.all (received_fields frame port) (some_tagging frame port 0 is) h.part yes_it_is; ttl = rw (from, to) h.ttl };
 }
@@ -91,5 +95,20 @@ pub packet_fields : (part : Part) (frame : List ℕ) (port metadata : ℕ) → H
 packet_fields part frame port metadata none fits h = subst (λ (m : ℕ). InPart part (field_map (layers_of frame) port m)) (none frame port metadata fits h) h
 
 -- a packet of a part, with its TTL in the range
-pub found_frame : (s : FrameSet) (frame made : List ℕ) (port : ℕ) → InPart s.part (received_fields frame port) → HasTtlIn s.ttl_from s.ttl_to made → received_fields made port ≡ received_fields frame port → InFrames s made port
-found_frame s frame made port h in_range same = record { part = subst (InPart s.part) (sym same) h; ttl = in_range }
+pub made_frame : (s : FrameSet) (frame : List ℕ) (port metadata : ℕ) (fitted made : List ℕ) → metadata < 2 ^ 64 → InPart s.part (field_map (layers_of frame) port metadata) → IsFrame fitted → length fitted ≡ length frame → length frame ≤ 9216 → IsIngressPort port
+    → HasTtlIn s.ttl_from s.ttl_to fitted → received_fields fitted port ≡ received_fields frame port → made ≡ fitted → IsFrame made × (length made ≤ 9216) × InFrames s made port × IsIngressPort port
+made_frame s frame port metadata fitted made fits h is long short ingress in_range same copied =
+    let within : InPart s.part (received_fields fitted port) = subst (InPart s.part) (sym same) (packet_fields s.part frame port metadata s.received fits h) in
+    rw copied (is, omega (arith, long, short), record { part = within; ttl = in_range }, ingress)
+
+-- what a search finds in a set
+abbrev pub IsSetFound : FrameSet → ℕ → Found → Type 0
+IsSetFound s steps (found.Free p) = FindsInPart s.part steps (found.Free p)
+IsSetFound s steps (found.Taken names) = FindsFrame s steps Empty
+IsSetFound s steps other = FindsFrame s steps Undecided
+
+pub finds_in : (s : FrameSet) (steps : ℕ) (f : Found) → FindsInPart s.part steps f → IsSetFound s steps f
+finds_in s steps (found.Free p) h = h
+finds_in s steps (found.Taken names) h = λ frame port is i. h frame port 0 is i.part
+finds_in s steps (found.Unreceived r) h = inr (r, h)
+finds_in s steps found.Undecided h = inl h

@@ -1,3 +1,10 @@
 pub mod StepLemmas
 pub mod RunLemmas
 pub mod FrameLemmas
+pub mod FirstLemmas
+pub mod TtlLemmas
+pub mod HeaderLemmas
+pub mod TtlFrameLemmas
+pub mod DecrementLemmas
+pub mod CaseLemmas
+pub mod GroupLemmas

@@ -44,6 +44,19 @@ advances_at (advances.Lookup t) w frame port old new h at = record { steps = at.
 advances_at advances.DecNwTtl w frame port old new h at = record { steps = at.steps; tasks = rw h.0 at.tasks; items = rw h.1 at.items }
 advances_at (advances.Group group) w frame port old new h at = record { steps = at.steps; tasks = rw h.0 at.tasks; items = rw h.1 at.items }
 
+-- one step takes the row of the first packet
+pub taken_at : (w : TheWorld) (frame : List ℕ) (port : ℕ) (old new : SymbolicState) (t : SymbolicTask) (rest : List SymbolicTask) → old.tasks.items ≡ t ∷ rest → map (task_for frame port) new.tasks.items ≡ (row_for w frame port t).left ++ map (task_for frame port) rest →
+    items_for w.ports new.emitted.items frame port ≡ items_for w.ports old.emitted.items frame port ++ (row_for w frame port t).items → IsAt w frame port old → IsAt w frame port new
+taken_at w frame port old new t rest first left items at =
+    let start = starting (entering frame port) (Lookup 0 ∷ []) in
+    let m = after w at.steps start in
+    let one = one_step w m (packet_for t.packet frame port) (map work_for t.work.items) (map (task_for frame port) rest) (at.tasks ∙ ap (map (task_for frame port)) first) in
+    record {
+      steps = suc at.steps;
+      tasks = ap (λ (x : Machine). x.tasks) (after_next w at.steps start) ∙ one.0 ∙ sym left;
+      items = ap (λ (x : Machine). x.items) (after_next w at.steps start) ∙ one.1 ∙ ap (λ (l : List Item). l ++ (row_for w frame port t).items) at.items ∙ sym items;
+    }
+
 -- ---- copies
 
 copied_more : (ts copies : List SymbolicTask) (t copy : SymbolicTask) → AreTaskCopies ts copies → IsTaskCopy t copy → AreTaskCopies (ts ++ t ∷ []) (copies ++ copy ∷ [])

@@ -1,16 +1,14 @@
 -- What each kind of work leaves of a packet.
-use Rattle.std.proofs.Common.{◌≡◌, ◌==◌, ℕ, false, List, [], ◌∷◌, ◌++◌, refl, sym, ◌∙◌, ap, drop, Some, length, get_or, ◌<◌, ◌≤◌, ◌+◌, append_assoc}
+use Rattle.std.proofs.Common.{◌≡◌, ℕ, false, List, [], ◌∷◌, ◌++◌, refl, sym, ◌∙◌, ap, drop, Some, length, get_or, ◌<◌, ◌≤◌, ◌+◌, append_assoc}
 use Rattle.std.specs.Prelude.{map, IsTrue, slice_get}
 use Rattle.std.proofs.lemmas.List.{append-nil, map-append, drop_all}
 use Rattle.std.proofs.lemmas.Option.{slice_get-get_or}
 use Rattle.of_actions.specs.declared.action.Action.{Action}
 use Rattle.of_actions.specs.declared.action.Action.TheVariants as actions
 use Rattle.of_action_set.specs.Sets.{with_action, with_actions}
-use Rattle.of_wire.specs.declared.limits.TheConstants.{OFPP_TABLE}
 use Rattle.of_actions.specs.declared.instruction.Instruction.TheVariants.{Apply, Write, Goto}
 use Rattle.of_action_set.specs.Sets.{in_order}
 use Rattle.of_ports.specs.declared.port.Port.{Port}
-use Rattle.of_machine.specs.declared.data.Packet.{Packet}
 use Rattle.of_machine.specs.Rows.{acts, emission, no_cookie}
 use Rattle.of_machine.specs.Rows as rows
 use Rattle.of_machine.proofs.Moving.{acts_at}
@@ -18,7 +16,6 @@ use Rattle.of_actions.specs.Supported.{is_supported}
 use Rattle.of_machine.proofs.Promises.{out_of_tables, settable, tag_type}
 use Rattle.of_symbolic.specs.Actions.{AreRewriting, IsRewriting, call_of, frame_by, frame_of_actions}
 use Rattle.of_symbolic_run.specs.declared.advance.Advance.TheVariants.{Done}
-use Rattle.of_symbolic_run.specs.declared.state.SymbolicPacket.{SymbolicPacket}
 use Rattle.of_symbolic_run.specs.declared.state.SymbolicTask.{SymbolicTask}
 use Rattle.of_symbolic_run.specs.declared.state.Emission.{Emission}
 use Rattle.of_symbolic_run.specs.declared.state.Emission.TheVariants as emissions

@@ -27,8 +27,10 @@ pub record AreFramesWithout (m : List MatchField) (old new : FrameSet) : Type 0 
   pub within : (frame : List ℕ) (port : ℕ) → InFrames new frame port → InFrames old frame port × (matches_map m (received_fields frame port) ≡ false)
   pub all : (frame : List ℕ) (port : ℕ) → InFrames old frame port → matches_map m (received_fields frame port) ≡ false → InFrames new frame port
 
--- those that they match
+-- those that they match; the range is as before
 pub record AreFramesMatching (m : List MatchField) (old new : FrameSet) : Type 0 where
+  pub least : new.ttl_from ≡ old.ttl_from
+  pub most : new.ttl_to ≡ old.ttl_to
   pub within : (frame : List ℕ) (port : ℕ) → InFrames new frame port → InFrames old frame port × (matches_map m (received_fields frame port) ≡ true)
   pub all : (frame : List ℕ) (port : ℕ) → IsFrame frame → InFrames old frame port → matches_map m (received_fields frame port) ≡ true → InFrames new frame port
 

@@ -30,8 +30,9 @@ impl FrameSet {
         ensures ttl { HasTtlIn self.now.ttl_from self.now.ttl_to frame.new }
         ensures same { (port : ℕ) → received_fields frame.new port ≡ received_fields frame.old port }
     {
+        let least = self.ttl_from;
         match frame.ttl() {
-            Some(ttl) if ttl < self.ttl_from || self.ttl_to < ttl => frame.set_ttl(self.ttl_from),
+            Some(ttl) if ttl < least || self.ttl_to < ttl => frame.set_ttl(least),
             _ => {}
         }
     }
@@ -44,8 +45,9 @@ impl FrameSet {
     {
         let mut frame = Frame::new(packet.frame);
         self.fit_ttl(&mut frame);
+        let frame = frame.bytes().to_vec(alloc)?;
         Ok(FrameFound::Frame {
-            frame: frame.bytes().to_vec(alloc)?,
+            frame,
             in_port: packet.in_port,
         })
     }
@@ -54,10 +56,12 @@ impl FrameSet {
     pub fn find(&self, alloc: Global, steps: usize) -> Result<FrameFound, AllocError>
         ensures { IfOk result (FindsFrame self.now steps) }
     {
-        match self.part.find(alloc, steps)? {
+        let found = self.part.find(alloc, steps)?;
+        match found {
             Found::Free(packet) => self.frame_of_packet(alloc, packet),
             Found::Taken(_) => Ok(FrameFound::Empty),
-            Found::Unreceived(_) | Found::Undecided => Ok(FrameFound::Undecided),
+            Found::Unreceived(_) => Ok(FrameFound::Undecided),
+            Found::Undecided => Ok(FrameFound::Undecided),
         }
     }
 }

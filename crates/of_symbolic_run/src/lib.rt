@@ -3,20 +3,30 @@
 
 mod advance;
 mod copying;
+mod decrementing;
+mod dividing;
+mod entering;
 mod finding;
 mod frame_set;
 mod frames;
+mod grouping;
+mod known_ttl;
 mod laws;
 mod received;
 mod rewrites;
 mod served;
 mod state;
 mod stepping;
+mod ttl_frames;
 mod written;
 
 pub use advance::{Advance, advance_state};
+pub use decrementing::divide_by_ttl;
+pub use dividing::{Case, look_up};
 pub use finding::FrameFound;
 pub use frame_set::FrameSet;
+pub use grouping::run_group;
+pub use known_ttl::KnownTtl;
 pub use laws::ended_states_give_runs;
 pub use received::received_state;
 pub use rewrites::Rewrites;

@@ -64,6 +64,13 @@ impl Rewrites {
         })
     }
 
+    /// The invariant.
+    pub fn known(&self)
+        ensures { AreRewriting self.now }
+    {
+        let _ = &self.actions;
+    }
+
     /// What is known of the packet after them.
     pub fn overlay(&self, alloc: Global) -> Result<Overlay, AllocError>
         ensures { IfOk result (λ overlay. IsOverlay overlay self.now) }

@@ -1,6 +1,3 @@
-use Rattle.std.proofs.Common.{List, take, take_all, subst}
-use Rattle.of_symbolic_run.specs.declared.state.SymbolicTask.{SymbolicTask}
-use Rattle.of_symbolic_run.specs.States.{AreTaskCopies}
 use Rattle.of_symbolic_run.proofs.RunLemmas.{one_copied}
 use Rattle.of_symbolic_run.proofs.copying.copied_tasks.Goals as goal
 

@@ -1,4 +1,3 @@
-use Rattle.std.proofs.Common.{refl}
 use Rattle.of_symbolic_run.proofs.StepLemmas.{works_done, works_more}
 use Rattle.of_symbolic_run.proofs.stepping.works_of.Goals as goal
 

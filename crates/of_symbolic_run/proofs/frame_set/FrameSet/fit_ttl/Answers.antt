@@ -1,4 +1,4 @@
-use Rattle.std.proofs.Common.{sym, ◌∙◌, ap, ℕ, List, ◌<◌, ◌^◌, ◌≡◌, Some, rules}
+use Rattle.std.proofs.Common.{sym, ◌∙◌, ◌≡◌, Some, rules}
 use Rattle.of_layers.specs.Reading.{layers_of}
 use Rattle.of_rewrite.specs.TimeToLive.{ttl_of}
 use Rattle.of_symbolic_run.proofs.FrameLemmas.{ttl_fields, ttl_fits, ttl_is_frame}

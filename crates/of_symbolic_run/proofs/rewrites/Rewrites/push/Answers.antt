@@ -1,7 +1,6 @@
-use Rattle.std.proofs.Common.{sym, ◌∙◌, subst}
-use Rattle.std.specs.Prelude.{IsTrue, false}
+use Rattle.std.proofs.Common.{sym, subst}
+use Rattle.std.specs.Prelude.{IsTrue}
 use Rattle.of_actions.specs.declared.action.Action.{Action}
-use Rattle.of_actions.specs.Supported.{is_supported}
 use Rattle.of_symbolic_run.specs.Rewriting.{rewrites_frames}
 use Rattle.of_symbolic_run.proofs.StepLemmas.{is_rewriting, rewriting_more}
 use Rattle.of_symbolic_run.proofs.rewrites.Rewrites.push.Goals as goal

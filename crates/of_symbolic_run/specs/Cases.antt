@@ -1,0 +1,93 @@
+-- WHAT A STATE BECOMES FOR PARTS OF ITS FRAMES (OpenFlow 1.3.5, 5.3, 5.6 and 5.12).
+use Rattle.std.specs.Prelude.{◌≡◌, ℕ, Bool, true, false, List, [], ◌∷◌, Option, None, Some, map, ⊤}
+use Rattle.std.specs.Borrow.{Bor}
+use Rattle.std.specs.List.{Contains}
+use Rattle.std.specs.Option.{option_map}
+use Rattle.of_layers.specs.declared.field.Field.{Field}
+use Rattle.of_rewrite.specs.Frames.{IsFrame}
+use Rattle.of_actions.specs.declared.instruction.Instruction.{Instruction}
+use Rattle.of_actions.specs.declared.instruction.Instruction.TheVariants.{Goto}
+use Rattle.of_table.specs.declared.entry.Entry.{Entry}
+use Rattle.of_table.specs.declared.flow.Flow.{Flow}
+use Rattle.of_table.specs.Table.{FlowEntry, flow_at, winner_place}
+use Rattle.of_machine.specs.Rows.{is_miss, key_of, works}
+use Rattle.of_machine.specs.TheWorld.{TheWorld}
+use Rattle.of_symbolic.specs.declared.branching.Branch.{Branch}
+use Rattle.of_symbolic.specs.declared.overlay.Overlay.{Overlay}
+use Rattle.of_symbolic.specs.declared.part.Part.{Part}
+use Rattle.of_symbolic.specs.Branches.{AsksUnknown}
+use Rattle.of_symbolic.specs.Overlays.{IsOverlay}
+use Rattle.of_symbolic.specs.Parts.{AreListsOfConditions, InPart, received_fields}
+use Rattle.of_symbolic_run.specs.declared.dividing.Case.{Case}
+use Rattle.of_symbolic_run.specs.declared.frame_set.FrameSet.{FrameSet}
+use Rattle.of_symbolic_run.specs.declared.state.SymbolicState.{SymbolicState}
+use Rattle.of_symbolic_run.specs.declared.state.SymbolicTask.{SymbolicTask}
+use Rattle.of_symbolic_run.specs.FrameSets.{InFrames}
+use Rattle.of_symbolic_run.specs.States.{IsAt, packet_for, work_for}
+
+-- THE CASES of a state for some frames: no case has other frames, each frame is in a case, and the state of a case is one of the run of each of its frames
+pub record AreCases (w : TheWorld) (frames : FrameSet) (state : SymbolicState) (cases : List Case) : Type 0 where
+  pub within : (c : Case) → Contains cases c → (frame : List ℕ) (port : ℕ) → InFrames c.frames frame port → InFrames frames frame port
+  pub all : (frame : List ℕ) (port : ℕ) → IsFrame frame → InFrames frames frame port → (c : Case) × Contains cases c × InFrames c.frames frame port
+  pub at : (c : Case) → Contains cases c → (frame : List ℕ) (port : ℕ) → IsFrame frame → InFrames c.frames frame port → IsAt w frame port state → IsAt w frame port c.state
+
+-- ---- lookups
+
+-- the table of a world has these entries; they are named by their place by age, from 0
+pub record IsTableOf (w : TheWorld) (table : ℕ) (flows : List FlowEntry) : Type 0 where
+  pub winner : (fields : Field → Option ℕ) → w.winner table fields ≡ winner_place fields flows
+  pub flow : (place : ℕ) → w.flow table place ≡ flow_at place flows
+
+-- the match of an entry asks what is not known of the first packet
+abbrev pub AsksUnknownOf : List SymbolicTask → List FlowEntry → Type 0
+AsksUnknownOf [] flows = ⊥
+AsksUnknownOf (t ∷ rest) flows = (o : Overlay) × IsOverlay o t.packet.rewrites × AsksUnknown o flows
+
+-- the fields of the first packet, for a frame
+abbrev pub first_key : List SymbolicTask → List ℕ → ℕ → Field → Option ℕ
+first_key [] frame port = λ f. None
+first_key (t ∷ rest) frame port = key_of (packet_for t.packet frame port)
+
+-- the flow of the entry that was found, if one was
+abbrev pub flow_found : TheWorld → ℕ → Option ℕ → Option Flow
+flow_found w table None = None
+flow_found w table (Some n) = w.flow table n
+
+abbrev pub flow_named : List FlowEntry → Option ℕ → Option Flow
+flow_named flows None = None
+flow_named flows (Some place) = flow_at place flows
+
+abbrev pub found_flow : Option (Bor Entry) → Option Flow
+found_flow entry = option_map (λ (e : Bor Entry). e.now.flow) entry
+
+abbrev pub goes_to_table : Instruction → Bool
+goes_to_table (Goto table) = true
+goes_to_table other = false
+
+-- the packet is at the entry of a flow, with its instructions; or it has no work left
+abbrev pub IsAtEntry : ℕ → Option Flow → SymbolicTask → SymbolicTask → Type 0
+IsAtEntry table None old new = (new.packet ≡ old.packet) × (new.work.items ≡ [])
+IsAtEntry table (Some f) old new = (new.packet ≡ record old.packet { cookie = f.cookie; table = table; miss = is_miss f }) × (map work_for new.work.items ≡ works f.instructions)
+
+-- for the frames whose first packet hits this flow, or none, one state follows the other
+abbrev pub IsEntered : ℕ → Option Flow → SymbolicState → SymbolicState → Type 0
+IsEntered table found old new =
+    (w : TheWorld) (frame : List ℕ) (port : ℕ) →
+    flow_found w table (w.winner table (first_key old.tasks.items frame port)) ≡ found → IsAt w frame port old → IsAt w frame port new
+
+-- a branch of a part, with conditions
+abbrev pub IsBranchOf : Part → Branch → Type 0
+IsBranchOf part b = AreListsOfConditions b.part.lacks.items × ((fields : Field → Option ℕ) → InPart b.part fields → InPart part fields)
+
+-- the case of a branch
+pub record IsCaseOf (table : ℕ) (flows : List FlowEntry) (frames : FrameSet) (state : SymbolicState) (b : Branch) (c : Case) : Type 0 where
+  pub within : (frame : List ℕ) (port : ℕ) → InFrames c.frames frame port → InFrames frames frame port × InPart b.part (received_fields frame port)
+  pub all : (frame : List ℕ) (port : ℕ) → InFrames frames frame port → InPart b.part (received_fields frame port) → InFrames c.frames frame port
+  pub entered : IsEntered table (flow_named flows b.entry) state c.state
+
+-- those of branches, one after the other
+abbrev pub AreCasesOf : ℕ → List FlowEntry → FrameSet → SymbolicState → List Branch → List Case → Type 0
+AreCasesOf table flows frames state [] [] = ⊤
+AreCasesOf table flows frames state [] (c ∷ cases) = ⊥
+AreCasesOf table flows frames state (b ∷ branches) [] = ⊥
+AreCasesOf table flows frames state (b ∷ branches) (c ∷ cases) = IsCaseOf table flows frames state b c × AreCasesOf table flows frames state branches cases
