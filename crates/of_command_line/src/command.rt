@@ -7,7 +7,8 @@ const STATUSES: &str =
     "Exit status: 0 done; 1 bad arguments; 2 a bad FILE: standard error has `line N: bad row` for an event file, \
 `line N: syntax` or `line N: type T code C` for a flow text, and `line N: WORD: ...` for each line that `import` refuses \
 (`replay` has printed the effects of the rows before that line, the other commands print nothing); 3 `read fault`, `write fault` or \
-`no memory`; 4 `check` found something, or `import --skip` left lines out.";
+`no memory`; 4 `check` found something, `diff` found a difference, or `import --skip` left lines out; 5 `diff` found no difference, \
+but frames are undecided.";
 
 const EVENT_FILES: &str = "An event file has one event per line. Words are separated by one space:
 
@@ -126,6 +127,30 @@ Exit status: 4 if the report has a line before its summary, or, without a report
   ofswitch check --all examples/router.flows
   ofswitch check --all --words examples/router.flows
   ofswitch check --flows examples/router.flows";
+
+const DIFFS: &str =
+    "A and B are flow texts (`ofswitch asm --help`), event files (`ofswitch replay --help`), or what ovs-ofctl prints (`ofswitch import
+--help`); the first word that is not in a comment says which. One of them may be -, standard input. Of a flow text or a table of
+ovs-ofctl the switch has the groups and flows, and ports 1 to 64, all of whose links are up; of an event file it is the switch
+after the rows. It prints frames that make something else leave the two switches, each of which it ran on both:
+
+  differs by port 3: in_port 1, eth 00:00:00:00:00:00 > 02:00:00:00:00:a1, eth_type 0x0800, ipv4 0.0.0.0 > 10.2.128.0, ip_proto 0, ttl 64
+      frame: --port 1 0200000000a1...   the frame, as `trace` takes it
+      first: out by port 3: 0200...     what leaves the switch of A: a frame, a packet to the controller, or nothing
+      second: to the controller: action, table 1, the first 128 bytes: 0200...
+  undecided: 2 sets of frames: ...      why it is not known whether frames are treated alike
+  1 difference, 2 undecided             or `same: all frames are treated alike`
+
+Each difference is of a set of frames, of which one is printed. If there is neither a difference nor a line `undecided`, the two
+switches treat each frame alike: by each port the same frames leave in the same order, and the controller gets the same packets,
+with the same reason, table, cookie and metadata. With --frames, packets to the controller are not compared. Counters, timeouts
+and the time are not compared. Switches with other ports are not compared: `the switches have other ports`.
+
+Exit status: 0 all frames are treated alike; 4 there is a difference, or the ports differ; 5 no difference was found, but frames
+are undecided. If a file is at fault, the status is 1, 2 or 3, and the name of the file is before the fault.
+
+  ofswitch diff examples/router.flows examples/router2.flows
+  ovs-ofctl -O OpenFlow13 --no-names dump-flows br0 | ofswitch diff br0.flows -";
 
 const IMPORTS: &str =
     "FILE has flows and groups, one per line, as `ovs-ofctl -O OpenFlow13 --no-names dump-flows` and `dump-groups` print them, or
@@ -405,6 +430,34 @@ const CHECK: [Argument; 8] = [
     },
 ];
 
+const DIFF: [Argument; 5] = [
+    Argument {
+        name: "A",
+        kind: Kind::Positional,
+        help: "The file of the first switch; - is standard input",
+    },
+    Argument {
+        name: "B",
+        kind: Kind::Positional,
+        help: "The file of the second switch; - is standard input",
+    },
+    Argument {
+        name: "frames",
+        kind: Kind::Flag("frames"),
+        help: "Compare the frames that leave by ports only, and not the packets to the controller",
+    },
+    Argument {
+        name: "json",
+        kind: Kind::Flag("json"),
+        help: "Print the differences as JSON (docs/JSON.md)",
+    },
+    Argument {
+        name: "steps",
+        kind: Kind::Optional("steps", "N"),
+        help: "Leave frames undecided after N steps (by default 100000)",
+    },
+];
+
 const SERVE: [Argument; 6] = [
     Argument {
         name: "listen",
@@ -504,7 +557,7 @@ struct Subcommand {
     arguments: &'static [Argument],
 }
 
-const SUBCOMMANDS: [Subcommand; 9] = [
+const SUBCOMMANDS: [Subcommand; 10] = [
     Subcommand {
         name: "replay",
         about: "Runs an event file on a new switch and prints the effects",
@@ -546,6 +599,12 @@ const SUBCOMMANDS: [Subcommand; 9] = [
         about: "Finds flow entries that can never win, and other likely mistakes",
         text: CHECKS,
         arguments: &CHECK,
+    },
+    Subcommand {
+        name: "diff",
+        about: "Finds frames that two switches treat otherwise",
+        text: DIFFS,
+        arguments: &DIFF,
     },
     Subcommand {
         name: "serve",

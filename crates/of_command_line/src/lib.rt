@@ -88,6 +88,8 @@ pub enum Request {
     Trace(Trace),
     /// To print which flows of the switch of a file can win, and which never do; `-` is standard input.
     Check(Check),
+    /// To print which frames the switches of two files treat otherwise.
+    Diff(Diff),
     /// To serve controllers.
     Serve(Serve),
     /// To forward the frames of a network.
@@ -133,6 +135,20 @@ pub struct Check {
     /// After how many of them a flow is given up.
     pub steps: u32,
     pub output: CheckOutput,
+}
+
+/// Which switches are compared, and how.
+#[derive(Debug, PartialEq, Eq, Drop)]
+pub struct Diff {
+    /// The files of the switches, of which at most one is `-`, standard input.
+    pub first: String,
+    pub second: String,
+    /// Whether packets to the controller are left out.
+    pub frames: bool,
+    /// After how many of them frames are given up.
+    pub steps: u32,
+    /// Whether it is one JSON document.
+    pub json: bool,
 }
 
 /// What is printed of a check.
@@ -273,6 +289,7 @@ fn request_of<N: Net>(
         "live" => Ok(Request::Live(live_of(alloc, net, matches)?)),
         "trace" => Ok(Request::Trace(trace_of(alloc, matches)?)),
         "check" => check_of(alloc, matches),
+        "diff" => Ok(Request::Diff(diff_of(alloc, matches)?)),
         _ => file_request_of(alloc, name, matches),
     }
 }
@@ -359,6 +376,24 @@ fn check_of(alloc: Global, matches: &ArgMatches<'_>) -> Result<Request, NoReques
         steps: steps_of(alloc, matches.get_str("steps"))?,
         output: output_of(kind, matches),
     }))
+}
+
+// Standard input is one of the files at most.
+fn diff_of(alloc: Global, matches: &ArgMatches<'_>) -> Result<Diff, NoRequest> {
+    let (first, second) = (
+        matches.get_str("A").unwrap_or("-"),
+        matches.get_str("B").unwrap_or("-"),
+    );
+    if first == "-" && second == "-" {
+        return Err(refused(alloc, "bad files: A and B cannot both be standard input\n")?);
+    }
+    Ok(Diff {
+        first: first.to_string(alloc)?,
+        second: second.to_string(alloc)?,
+        frames: matches.get_flag("frames"),
+        steps: steps_of(alloc, matches.get_str("steps"))?,
+        json: matches.get_flag("json"),
+    })
 }
 
 // The file of a switch, and what it is: one of these is there.

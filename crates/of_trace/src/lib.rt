@@ -34,5 +34,6 @@ pub use sight::Sight;
 pub use traces::Trace;
 pub use tracing::trace;
 pub use tracing_events::trace_events;
-pub use tracing_file::trace_file;
+pub use tracing_file::{switch_of_text, trace_file};
+pub use words::push_heading;
 pub use writing::{trace_text, write_trace};

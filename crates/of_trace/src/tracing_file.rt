@@ -41,8 +41,8 @@ fn ports_up(alloc: Global) -> Result<Vec<Event>, AllocError>
     Ok(events)
 }
 
-// A new switch with these ports and flows.
-fn switch_with<L: Lookup>(alloc: Global, config: &Config) -> Result<Switch<L>, SwitchError>
+/// A new switch with ports 1 to 64, whose links are up, and with the groups and flows of a flow text.
+pub fn switch_of_text<L: Lookup>(alloc: Global, config: &Config) -> Result<Switch<L>, SwitchError>
     ensures { IfOk result (λ s. s ≡ traced_switch config.now) }
 {
     let mut switch = Switch::new(alloc, DPID)?;
@@ -76,7 +76,7 @@ pub fn trace_file<L: Lookup, S: Source, W: Sink>(
         Ok(config) => config,
         Err(ended) => return ended,
     };
-    match switch_with::<L>(alloc, &config) {
+    match switch_of_text::<L>(alloc, &config) {
         Ok(switch) => write_trace(alloc, &switch, port, frame, output, writer),
         Err(_) => Ended::NoMemory,
     }

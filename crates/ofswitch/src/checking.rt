@@ -15,7 +15,7 @@ use std::fs::File;
 use std::io;
 
 /// A file of ovs-ofctl is read without leaving anything out.
-const WHOLE: Mode = Mode {
+pub const WHOLE: Mode = Mode {
     skip: false,
     renumber: false,
 };

@@ -99,7 +99,8 @@ pub fn import_of(rt: &HostRuntime, bytes: &[u8], mode: Mode) -> Result<Import, N
     }
 }
 
-fn say_no_import(rt: &HostRuntime, bytes: &[u8], error: &ImportError) -> NotImported {
+/// Says on standard error why there is no import.
+pub fn say_no_import(rt: &HostRuntime, bytes: &[u8], error: &ImportError) -> NotImported {
     say_import_hint(rt, bytes);
     say_error(rt, error)
 }

@@ -4,6 +4,7 @@
 ghost use Rattle.std.specs.Prelude.{◌≡◌};
 
 mod checking;
+mod diffing;
 mod drawing;
 mod hinting;
 mod importing;
@@ -17,6 +18,7 @@ mod standard_input;
 mod tracing;
 
 use crate::checking::{NoReport, reported};
+use crate::diffing::{NoDiff, diffed};
 use crate::lookups::Lookups;
 use hinting::{Seen, Watched, bytes_of, say_hint, say_refusal, say_unread};
 use importing::{NotImported, imported, imported_as_json, read_whole};
@@ -25,9 +27,10 @@ use of_asking::Answering;
 use of_check::{check_events, check_file};
 use of_classifier::Scan;
 use of_command_line::{
-    Check, CheckOutput, FileKind, Live, NoRequest, ReplayOutput, Request, Serve, Trace,
+    Check, CheckOutput, Diff, FileKind, Live, NoRequest, ReplayOutput, Request, Serve, Trace,
     read_request,
 };
+use of_diff_report::DiffVerdict;
 use of_explain::{Explaining, ExplainingJson};
 use of_import::Mode;
 use of_replay::streams::{ReaderSource, WriterSink};
@@ -57,8 +60,11 @@ const FAILED: u8 = 3;
 /// The exit status if some of its lines are left out.
 const LEFT_OUT: u8 = 4;
 
-/// The exit status if `check` found something.
+/// The exit status if `check` found something, or `diff` a difference.
 const FOUND: u8 = 4;
+
+/// The exit status if `diff` found no difference, but frames are undecided.
+const UNDECIDED: u8 = 5;
 
 // Failures to write to standard error are ignored and do not change the exit status.
 fn main(rt: HostRuntime) -> ExitCode {
@@ -100,6 +106,7 @@ fn carry_out(rt: &HostRuntime, request: &Request) -> ExitCode {
             run_file(rt, request, file.as_str()),
         Request::Trace(asked) => run_trace(rt, request, asked),
         Request::Check(asked) => run_check(rt, asked),
+        Request::Diff(asked) => run_diff(rt, asked),
         Request::Import {
             file,
             skip,
@@ -253,6 +260,17 @@ fn run_report(rt: &HostRuntime, asked: &Check) -> ExitCode {
     match reported(rt, asked) {
         Ok((found, seen)) => end_check(rt, path, &seen, found),
         Err(why) => end_unread(rt, path, why),
+    }
+}
+
+fn run_diff(rt: &HostRuntime, asked: &Diff) -> ExitCode {
+    match diffed(rt, asked) {
+        Ok(DiffVerdict::Same) => ExitCode::SUCCESS,
+        Ok(DiffVerdict::Differs | DiffVerdict::OtherPorts) => ExitCode::from(FOUND),
+        Ok(DiffVerdict::Undecided) => ExitCode::from(UNDECIDED),
+        Err(NoDiff::Ended(ended)) => end(rt, &ended),
+        Err(NoDiff::File { path, seen, ended }) => end_file(rt, path, &seen, &ended),
+        Err(NoDiff::Unread { path, why }) => end_unread(rt, path, why),
     }
 }
 
@@ -420,6 +438,7 @@ fn run<R: Read + Drop>(rt: &HostRuntime, request: &Request, reader: R) -> Ended 
         }
         Request::Trace(_)
         | Request::Check { .. }
+        | Request::Diff(_)
         | Request::Import { .. }
         | Request::Say { .. }
         | Request::Serve(_)

@@ -4,7 +4,7 @@ use Rattle.of_switch.specs.State.{State}
 use Rattle.of_switch.specs.Runs.{run}
 use Rattle.of_switch.specs.Loading.{loaded}
 use Rattle.of_trace.specs.Files.{ports_up}
-use Rattle.of_trace.proofs.tracing_file.switch_with.Goals as goal
+use Rattle.of_trace.proofs.tracing_file.switch_of_text.Goals as goal
 
 pub returns : goal.returns
 returns g c =

@@ -1,0 +1,35 @@
+-- What a verdict means.
+use Rattle.std.proofs.Common.{◌≡◌, ℕ, suc, ◌<◌, ◌==◌, false, ◌⊎◌, inl, inr, List, [], ◌∷◌, length, refl, arith}
+use Rattle.std.proofs.lemmas.Bool.Decides.{nat_tests}
+use Rattle.std.specs.Prelude.{Option, Some, None}
+use Rattle.std.specs.List.{Contains}
+use Rattle.of_datapath.specs.Datapath.{Forwarding, world_of}
+use Rattle.of_diff.specs.Differences.{AreDifferences, InDifferences, InUndecided, IsTreatedAlike}
+use Rattle.of_diff.specs.declared.alike.Compared.{Compared}
+use Rattle.of_diff.specs.declared.difference.Difference.{Difference}
+use Rattle.of_diff.specs.declared.difference.Differences.{Differences}
+use Rattle.of_diff.specs.declared.difference.Undecided.{Undecided}
+use Rattle.of_diff_report.specs.DiffFiles.{AreFoundBetween, IsVerdict, diff_verdict, verdict_on}
+
+nothing_in : {A : Type 0} (x : A) → Contains [] x → ⊥
+nothing_in x at = omega (arith, at.1)
+
+some_more : (n : ℕ) → (suc n == 0) ≡ false
+some_more n = grind (arith, nat_tests)
+
+-- a frame that is in no difference and is not undecided
+alike : {P : Type 0} (found : List Difference) (undecided : List Undecided) (frame : List ℕ) (port : ℕ) → found ≡ [] → undecided ≡ []
+    → InDifferences found frame port ⊎ (InUndecided undecided frame port ⊎ P) → P
+alike found undecided frame port f u (inl h) = absurd (nothing_in h.0 (rw f at h.1))
+alike found undecided frame port f u (inr (inl h)) = absurd (nothing_in h.0 (rw u at h.1))
+alike found undecided frame port f u (inr (inr h)) = h
+
+by_lists : (c : Compared) (f g : Forwarding) (ds : Differences) (found : List Difference) (undecided : List Undecided) → ds.found.items ≡ found → ds.undecided.items ≡ undecided
+    → AreDifferences c (world_of f) (world_of g) ds → IsVerdict c f g (verdict_on ds)
+by_lists c f g ds [] [] a b h = rw (a, b) (λ frame port received. alike ds.found.items ds.undecided.items frame port a b (h.all frame port received))
+by_lists c f g ds [] (u ∷ us) a b h = rw (a, b, some_more (length us)) tt
+by_lists c f g ds (d ∷ others) undecided a b h = rw (a, some_more (length others)) (d, h.real d (rw a (0, omega arith, refl)))
+
+pub verdict_means : (c : Compared) (f g : Forwarding) (found : Option Differences) → AreFoundBetween c f g found → IsVerdict c f g (diff_verdict found)
+verdict_means c f g None h = h
+verdict_means c f g (Some ds) h = by_lists c f g ds ds.found.items ds.undecided.items refl refl h

@@ -1,0 +1,9 @@
+use Rattle.std.proofs.Common.{◌≡◌, ◌++◌, drop}
+use Rattle.std.specs.List.{flat_map}
+use Rattle.of_diff_report.specs.DiffWords.{difference_words}
+use Rattle.of_diff_report.proofs.words.push_differences.Given as goal
+
+abbrev pub invariant-loop-difference : goal.invariant-loop-difference
+invariant-loop-difference g l =
+    let f = l.first.core.forwarding in
+    l.out.items ++ flat_map (difference_words f) (drop l.difference-index l.found) ≡ l.fn.out.items ++ flat_map (difference_words f) l.found

@@ -1,0 +1,52 @@
+-- WHAT `diff` WRITES ABOUT TWO SWITCHES, and whether they treat all frames alike.
+use Rattle.std.specs.Prelude.{◌≡◌, ◌≢◌, ℕ, ◌==◌, List, length, Option, Some, None, Result, Ok, Err, if◌then◌else◌}
+use Rattle.of_datapath.specs.Datapath.{Forwarding, world_of}
+use Rattle.of_replay.specs.declared.event_file.Ended.{Ended}
+use Rattle.of_replay.specs.declared.event_file.Ended.TheVariants.{Done}
+use Rattle.of_diff.specs.Alike.{IsReceivedAt}
+use Rattle.of_diff.specs.Differences.{AreDifferences, IsDifference, IsTreatedAlike}
+use Rattle.of_diff.specs.SamePorts.{SamePorts}
+use Rattle.of_diff.specs.declared.alike.Compared.{Compared}
+use Rattle.of_diff.specs.declared.difference.Difference.{Difference}
+use Rattle.of_diff.specs.declared.difference.Differences.{Differences}
+use Rattle.of_diff_report.specs.declared.writing.DiffForm.{DiffForm}
+use Rattle.of_diff_report.specs.declared.writing.DiffForm.TheVariants.{Json, Words}
+use Rattle.of_diff_report.specs.declared.writing.DiffVerdict.{DiffVerdict}
+use Rattle.of_diff_report.specs.declared.writing.DiffVerdict.TheVariants.{Differs, OtherPorts, Same, Undecided}
+use Rattle.of_diff_report.specs.DiffWords.{are_same, diff_words, other_ports_words}
+use Rattle.of_diff_report.specs.DiffJson.{diff_json, other_ports_json}
+
+-- what is found about two switches: nothing if their ports differ, else the differences, and for all other frames that they are treated alike or undecided
+abbrev pub AreFoundBetween : Compared → Forwarding → Forwarding → Option Differences → Type 0
+AreFoundBetween c f g None = SamePorts f.ports g.ports → ⊥
+AreFoundBetween c f g (Some ds) = AreDifferences c (world_of f) (world_of g) ds
+
+-- in words or as JSON
+abbrev pub diff_text : DiffForm → Forwarding → Option Differences → List ℕ
+diff_text Words f None = other_ports_words
+diff_text Words f (Some ds) = diff_words f ds
+diff_text Json f None = other_ports_json
+diff_text Json f (Some ds) = diff_json ds
+
+abbrev pub verdict_on : Differences → DiffVerdict
+verdict_on ds = if are_same ds then Same else if length ds.found.items == 0 then Undecided else Differs
+
+abbrev pub diff_verdict : Option Differences → DiffVerdict
+diff_verdict None = OtherPorts
+diff_verdict (Some ds) = verdict_on ds
+
+-- the verdict, if all was written
+abbrev pub IsVerdictResult : Result DiffVerdict Ended → DiffVerdict → Type 0
+IsVerdictResult (Ok verdict) is = verdict ≡ is
+IsVerdictResult (Err ended) is = ended ≢ Done
+
+-- THE TEXT of what is found about two switches
+abbrev pub IsDiffReport : Result DiffVerdict Ended → DiffForm → Compared → Forwarding → Forwarding → List ℕ → Type 0
+IsDiffReport result form c f g text = (found : Option Differences) × AreFoundBetween c f g found × (text ≡ diff_text form f found) × IsVerdictResult result (diff_verdict found)
+
+-- WHAT THE VERDICT MEANS: each frame that is received is treated alike; or some frame is not, which both ran; or the ports differ
+abbrev pub IsVerdict : Compared → Forwarding → Forwarding → DiffVerdict → Type 0
+IsVerdict c f g Same = (frame : List ℕ) (port : ℕ) → IsReceivedAt (world_of f) frame port → IsTreatedAlike c (world_of f) (world_of g) frame port
+IsVerdict c f g Differs = (d : Difference) × IsDifference c (world_of f) (world_of g) d
+IsVerdict c f g OtherPorts = SamePorts f.ports g.ports → ⊥
+IsVerdict c f g Undecided = Unit {0}

@@ -1,0 +1,96 @@
+-- THE REPORT OF `diff` AS JSON (RFC 8259): one object in one line.
+use Rattle.std.specs.Prelude.{ℕ, ◌==◌, Bool, true, false, List, [], ◌∷◌, ◌++◌, length, codes, decimal, Option, Some, None, if◌then◌else◌}
+use Rattle.hex.specs.Hex.{encode_lower}
+use Rattle.of_machine.specs.declared.data.Item.{Item}
+use Rattle.of_machine.specs.declared.data.Item.TheVariants.{PacketIn, Sent}
+use Rattle.of_machine.specs.declared.data.ToController.{ToController}
+use Rattle.of_json.specs.Parts.{key, listed, number_member, quoted, text_member, truth}
+use Rattle.of_values.specs.Numbers.{hexadecimal}
+use Rattle.of_diff.specs.declared.alike.Where.{Where}
+use Rattle.of_diff.specs.declared.alike.Where.TheVariants.{Controller, Port as ByPort}
+use Rattle.of_diff.specs.declared.difference.Difference.{Difference}
+use Rattle.of_diff.specs.declared.difference.Differences.{Differences}
+use Rattle.of_diff.specs.declared.difference.Undecided.{Undecided}
+use Rattle.of_diff.specs.declared.difference.Why.{Why}
+use Rattle.of_diff.specs.declared.difference.Why.TheVariants.{OtherActions, Search, Steps, UnknownTag}
+use Rattle.of_diff_report.specs.DiffWords.{are_same, reason_said}
+
+-- the first member of an object: the number of a port, or the controller
+unfoldable pub place_member : List ℕ → List ℕ → List ℕ
+place_member name place = key name ++ quoted place
+
+-- ---- what leaves
+
+unfoldable pub max_len_member : Option ℕ → List ℕ
+max_len_member None = []
+max_len_member (Some n) = number_member (codes "max_len") n
+
+unfoldable pub packet_in_members : ToController → List ℕ
+packet_in_members p =
+    place_member (codes "port") (codes "controller") ++ text_member (codes "reason") (reason_said p.reason) ++ number_member (codes "table") p.table
+    ++ text_member (codes "cookie") (hexadecimal 1 p.cookie) ++ text_member (codes "metadata") (hexadecimal 1 p.metadata) ++ max_len_member p.max_len
+    ++ text_member (codes "frame") (encode_lower p.frame)
+
+unfoldable pub leaving_members : Item → List ℕ
+leaving_members (Sent port frame) = place_member (codes "port") (decimal port) ++ text_member (codes "frame") (encode_lower frame)
+leaving_members (PacketIn p) = packet_in_members p
+
+unfoldable pub item_object : Item → List ℕ
+item_object item = 123 ∷ leaving_members item ++ 125 ∷ []
+
+unfoldable pub items_member : List ℕ → List Item → List ℕ
+items_member name items = 44 ∷ key name ++ 91 ∷ listed item_object items ++ 93 ∷ []
+
+-- ---- a difference
+
+unfoldable pub at_member : Where → List ℕ
+at_member (ByPort port) = place_member (codes "at") (decimal port)
+at_member Controller = place_member (codes "at") (codes "controller")
+
+unfoldable pub difference_members : Difference → List ℕ
+difference_members d =
+    at_member d.at ++ number_member (codes "in_port") d.in_port ++ text_member (codes "frame") (encode_lower d.frame.items)
+    ++ items_member (codes "first") d.first.items ++ items_member (codes "second") d.second.items
+
+unfoldable pub difference_object : Difference → List ℕ
+difference_object d = 123 ∷ difference_members d ++ 125 ∷ []
+
+-- ---- why frames are undecided
+
+abbrev pub why_name : Why → List ℕ
+why_name UnknownTag = codes "unknown tag"
+why_name Steps = codes "steps"
+why_name Search = codes "search"
+why_name OtherActions = codes "other actions"
+
+unfoldable pub undecided_string : Undecided → List ℕ
+undecided_string u = quoted (why_name u.why)
+
+-- ---- THE DOCUMENT: whether all frames are treated alike, which is null if that is not known, whether the ports differ, each difference, and why frames
+-- are undecided
+
+abbrev pub same_in_json : Differences → List ℕ
+same_in_json ds = if are_same ds then codes "true" else if length ds.found.items == 0 then codes "null" else codes "false"
+
+unfoldable pub diff_head : List ℕ → Bool → List ℕ
+diff_head same ports = key (codes "command") ++ quoted (codes "diff") ++ 44 ∷ key (codes "same") ++ same ++ 44 ∷ key (codes "ports_differ") ++ truth ports
+
+-- an array with this name
+unfoldable pub found_array : List ℕ → List Difference → List ℕ
+found_array name found = 44 ∷ key name ++ 91 ∷ listed difference_object found ++ 93 ∷ []
+
+abbrev pub found_member : List Difference → List ℕ
+found_member found = found_array (codes "differences") found
+
+unfoldable pub undecided_member : List Undecided → List ℕ
+undecided_member undecided = 44 ∷ key (codes "undecided") ++ 91 ∷ listed undecided_string undecided ++ 93 ∷ []
+
+unfoldable pub diff_document : List ℕ → Bool → List Difference → List Undecided → List ℕ
+diff_document same ports found undecided = 123 ∷ diff_head same ports ++ found_member found ++ undecided_member undecided ++ 125 ∷ 10 ∷ []
+
+abbrev pub diff_json : Differences → List ℕ
+diff_json ds = diff_document (same_in_json ds) false ds.found.items ds.undecided.items
+
+-- of switches whose ports differ
+abbrev pub other_ports_json : List ℕ
+other_ports_json = diff_document (codes "false") true [] []

@@ -1,0 +1,3 @@
+pub mod DiffWords
+pub mod DiffJson
+pub mod DiffFiles

@@ -1,0 +1,226 @@
+//! What is found about two switches, as JSON.
+ghost use Rattle.std.specs.Prelude.{◌≡◌, ◌++◌, ◌∷◌, IfOk, OnOk};
+ghost use Rattle.std.specs.List.{flat_map};
+ghost use Rattle.of_json.specs.Parts.{listed};
+ghost use Rattle.of_diff_report.specs.DiffJson.{at_member, diff_document, diff_head, diff_json, difference_members, difference_object, found_array, found_member, other_ports_json, same_in_json, undecided_member, undecided_string, why_name};
+
+use crate::json_items::{push_controller_place, push_items_member, push_port_place};
+use crate::words::is_same;
+use of_diff::{Difference, Differences, Undecided, Where, Why};
+use of_json::{
+    begin_array, push_bytes_member, push_key, push_number_member, push_quoted, push_truth,
+};
+use std::alloc::{AllocError, Global};
+
+#[tactic(auto, unfolding(crate::specs::DiffJson::at_member))]
+fn push_at(out: &mut Vec<u8>, at: Where) -> Result<(), AllocError>
+    ensures { OnOk result (out.new.items ≡ out.old.items ++ at_member at) }
+{
+    match at {
+        Where::Port(port) => push_port_place(out, b"at", port),
+        Where::Controller => push_controller_place(out, b"at"),
+    }
+}
+
+#[tactic(auto, unfolding(crate::specs::DiffJson::difference_members))]
+fn push_difference_members(
+    alloc: Global,
+    out: &mut Vec<u8>,
+    difference: &Difference,
+) -> Result<(), AllocError>
+    ensures { OnOk result (out.new.items ≡ out.old.items ++ difference_members difference.now) }
+{
+    push_at(out, difference.at)?;
+    push_number_member(out, b"in_port", u128::from(difference.in_port))?;
+    push_bytes_member(alloc, out, b"frame", &difference.frame)?;
+    push_items_member(alloc, out, b"first", &difference.first)?;
+    push_items_member(alloc, out, b"second", &difference.second)
+}
+
+#[tactic(auto, unfolding(crate::specs::DiffJson::difference_object))]
+fn push_difference_object(
+    alloc: Global,
+    out: &mut Vec<u8>,
+    difference: &Difference,
+) -> Result<(), AllocError>
+    ensures { OnOk result (out.new.items ≡ out.old.items ++ difference_object difference.now) }
+{
+    out.push(b'{')?;
+    push_difference_members(alloc, out, difference)?;
+    out.push(b'}')?;
+    Ok(())
+}
+
+fn push_further_differences(
+    alloc: Global,
+    out: &mut Vec<u8>,
+    found: &[Difference],
+) -> Result<(), AllocError>
+    ensures { OnOk result (out.new.items ≡ out.old.items ++ flat_map (λ d. 44 ∷ difference_object d) found.now) }
+{
+    for difference in found {
+        out.push(b',')?;
+        push_difference_object(alloc, out, difference)?;
+    }
+    Ok(())
+}
+
+// Appends differences, with commas between them.
+fn push_difference_objects(
+    alloc: Global,
+    out: &mut Vec<u8>,
+    found: &[Difference],
+) -> Result<(), AllocError>
+    ensures { OnOk result (out.new.items ≡ out.old.items ++ listed difference_object found.now) }
+{
+    match found {
+        [] => Ok(()),
+        [first, others @ ..] => {
+            push_difference_object(alloc, out, first)?;
+            push_further_differences(alloc, out, others)
+        }
+    }
+}
+
+// Appends a further member: an array with an object for each difference.
+#[tactic(auto, unfolding(crate::specs::DiffJson::found_array))]
+fn push_found_array(
+    alloc: Global,
+    out: &mut Vec<u8>,
+    name: &[u8],
+    found: &[Difference],
+) -> Result<(), AllocError>
+    ensures { OnOk result (out.new.items ≡ out.old.items ++ found_array name.now found.now) }
+{
+    begin_array(out, name)?;
+    push_difference_objects(alloc, out, found)?;
+    out.push(b']')?;
+    Ok(())
+}
+
+fn push_found_member(
+    alloc: Global,
+    out: &mut Vec<u8>,
+    found: &[Difference],
+) -> Result<(), AllocError>
+    ensures { OnOk result (out.new.items ≡ out.old.items ++ found_member found.now) }
+{
+    push_found_array(alloc, out, b"differences", found)
+}
+
+fn name_of_why(why: Why) -> &'static [u8]
+    ensures { result.now ≡ why_name why }
+{
+    match why {
+        Why::UnknownTag => b"unknown tag",
+        Why::Steps => b"steps",
+        Why::Search => b"search",
+        Why::OtherActions => b"other actions",
+    }
+}
+
+#[tactic(auto, unfolding(crate::specs::DiffJson::undecided_string))]
+fn push_why(out: &mut Vec<u8>, undecided: &Undecided) -> Result<(), AllocError>
+    ensures { OnOk result (out.new.items ≡ out.old.items ++ undecided_string undecided.now) }
+{
+    push_quoted(out, name_of_why(undecided.why))
+}
+
+fn push_further_whys(out: &mut Vec<u8>, undecided: &[Undecided]) -> Result<(), AllocError>
+    ensures { OnOk result (out.new.items ≡ out.old.items ++ flat_map (λ u. 44 ∷ undecided_string u) undecided.now) }
+{
+    for set in undecided {
+        out.push(b',')?;
+        push_why(out, set)?;
+    }
+    Ok(())
+}
+
+// Appends why sets of frames are undecided, with commas between the words.
+fn push_whys(out: &mut Vec<u8>, undecided: &[Undecided]) -> Result<(), AllocError>
+    ensures { OnOk result (out.new.items ≡ out.old.items ++ listed undecided_string undecided.now) }
+{
+    match undecided {
+        [] => Ok(()),
+        [first, others @ ..] => {
+            push_why(out, first)?;
+            push_further_whys(out, others)
+        }
+    }
+}
+
+#[tactic(auto, unfolding(crate::specs::DiffJson::undecided_member))]
+fn push_undecided_member(out: &mut Vec<u8>, undecided: &[Undecided]) -> Result<(), AllocError>
+    ensures { OnOk result (out.new.items ≡ out.old.items ++ undecided_member undecided.now) }
+{
+    begin_array(out, b"undecided")?;
+    push_whys(out, undecided)?;
+    out.push(b']')?;
+    Ok(())
+}
+
+#[tactic(auto, unfolding(crate::specs::DiffJson::diff_head))]
+fn push_head(out: &mut Vec<u8>, same: &[u8], ports_differ: bool) -> Result<(), AllocError>
+    ensures { OnOk result (out.new.items ≡ out.old.items ++ diff_head same.now ports_differ) }
+{
+    push_key(out, b"command")?;
+    push_quoted(out, b"diff")?;
+    out.push(b',')?;
+    push_key(out, b"same")?;
+    out.extend_from_slice(same)?;
+    out.push(b',')?;
+    push_key(out, b"ports_differ")?;
+    push_truth(out, ports_differ)
+}
+
+#[tactic(auto, unfolding(crate::specs::DiffJson::diff_document))]
+fn document(
+    alloc: Global,
+    same: &[u8],
+    ports_differ: bool,
+    found: &[Difference],
+    undecided: &[Undecided],
+) -> Result<Vec<u8>, AllocError>
+    ensures { IfOk result (λ text. text.items ≡ diff_document same.now ports_differ found.now undecided.now) }
+{
+    let mut out = Vec::new(alloc);
+    out.push(b'{')?;
+    push_head(&mut out, same, ports_differ)?;
+    push_found_member(alloc, &mut out, found)?;
+    push_undecided_member(&mut out, undecided)?;
+    out.push(b'}')?;
+    out.push(b'\n')?;
+    Ok(out)
+}
+
+fn same_word(found: &Differences) -> &'static [u8]
+    ensures { result.now ≡ same_in_json found.now }
+{
+    if is_same(found) {
+        b"true"
+    } else if found.found.is_empty() {
+        b"null"
+    } else {
+        b"false"
+    }
+}
+
+/// What is found about two switches, as JSON.
+pub fn differences_as_json(alloc: Global, found: &Differences) -> Result<Vec<u8>, AllocError>
+    ensures { IfOk result (λ text. text.items ≡ diff_json found.now) }
+{
+    document(
+        alloc,
+        same_word(found),
+        false,
+        &found.found,
+        &found.undecided,
+    )
+}
+
+/// That two switches have other ports, as JSON.
+pub fn other_ports_as_json(alloc: Global) -> Result<Vec<u8>, AllocError>
+    ensures { IfOk result (λ text. text.items ≡ other_ports_json) }
+{
+    document(alloc, b"false", true, &[], &[])
+}

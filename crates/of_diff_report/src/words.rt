@@ -1,0 +1,218 @@
+//! What is found about two switches, in words.
+ghost use Rattle.std.specs.Prelude.{◌≡◌, ◌++◌, ◌∷◌, IfOk, OnOk};
+ghost use Rattle.std.specs.List.{flat_map};
+ghost use Rattle.of_diff_report.specs.DiffWords.{are_same, count_why, diff_summary, diff_words, difference_count, difference_words, frame_line, is_why, set_words, undecided_count, undecided_line, undecided_sets, undecided_words, where_words, undecided_why};
+
+use crate::items::push_side;
+use of_build::push_hex;
+use of_classifier::Lookup;
+use of_diff::{Difference, Differences, Undecided, Where, Why};
+use of_switch::Switch;
+use of_trace::push_heading;
+use of_values::push_decimal;
+use std::alloc::{AllocError, Global};
+
+// Appends where something else leaves.
+#[tactic(auto, unfolding(crate::specs::DiffWords::where_words))]
+fn push_where(out: &mut Vec<u8>, at: Where) -> Result<(), AllocError>
+    ensures { OnOk result (out.new.items ≡ out.old.items ++ where_words at) }
+{
+    match at {
+        Where::Port(port) => {
+            out.extend_from_slice(b"differs by port ")?;
+            push_decimal(out, u128::from(port))?;
+            out.extend_from_slice(b": ")
+        }
+        Where::Controller => out.extend_from_slice(b"differs to the controller: "),
+    }
+}
+
+// Appends the port and the bytes of a frame, as `trace` takes them.
+#[tactic(auto, unfolding(crate::specs::DiffWords::frame_line))]
+fn push_frame_line(
+    alloc: Global,
+    out: &mut Vec<u8>,
+    port: u32,
+    frame: &[u8],
+) -> Result<(), AllocError>
+    ensures { OnOk result (out.new.items ≡ out.old.items ++ frame_line port frame.now) }
+{
+    out.extend_from_slice(b"    frame: --port ")?;
+    push_decimal(out, u128::from(port))?;
+    out.push(b' ')?;
+    push_hex(alloc, out, frame)?;
+    out.push(b'\n')?;
+    Ok(())
+}
+
+#[tactic(auto, unfolding(crate::specs::DiffWords::difference_words))]
+fn push_difference<L: Lookup>(
+    alloc: Global,
+    out: &mut Vec<u8>,
+    first: &Switch<L>,
+    difference: &Difference,
+) -> Result<(), AllocError>
+    ensures { OnOk result (out.new.items ≡ out.old.items ++ difference_words first.now.core.forwarding difference.now) }
+{
+    push_where(out, difference.at)?;
+    push_heading(alloc, out, first, difference.in_port, &difference.frame)?;
+    push_frame_line(alloc, out, difference.in_port, &difference.frame)?;
+    push_side(alloc, out, b"    first: ", &difference.first)?;
+    push_side(alloc, out, b"    second: ", &difference.second)
+}
+
+fn push_differences<L: Lookup>(
+    alloc: Global,
+    out: &mut Vec<u8>,
+    first: &Switch<L>,
+    found: &[Difference],
+) -> Result<(), AllocError>
+    ensures { OnOk result (out.new.items ≡ out.old.items ++ flat_map (difference_words first.now.core.forwarding) found.now) }
+{
+    for difference in found {
+        push_difference(alloc, out, first, difference)?;
+    }
+    Ok(())
+}
+
+// Whether a reason is the other one.
+fn is_reason(why: Why, other: Why) -> bool
+    ensures { result ≡ is_why why other }
+{
+    why == other
+}
+
+// How many sets of frames are undecided for a reason.
+fn count_undecided(undecided: &[Undecided], why: Why) -> usize
+    ensures { result ≡ count_why why undecided.now }
+{
+    undecided
+        .iter()
+        .filter(|set| is_reason(why, set.why))
+        .count()
+}
+
+fn sentence(why: Why) -> &'static [u8]
+    ensures { result.now ≡ undecided_why why }
+{
+    match why {
+        Why::UnknownTag => b"a lookup asks what is not known of a VLAN tag",
+        Why::Steps => b"the runs took as many steps as they may (--steps)",
+        Why::Search => {
+            b"the search for a frame took as many steps as it may, or found none with a port of the switches"
+        }
+        Why::OtherActions => {
+            b"the actions differ, but what they made of the frame that was run is the same"
+        }
+    }
+}
+
+fn name_of_sets(count: usize) -> &'static [u8]
+    ensures { result.now ≡ set_words count }
+{
+    if count == 1 {
+        b" set of frames: "
+    } else {
+        b" sets of frames: "
+    }
+}
+
+// Appends how many sets of frames are undecided.
+#[tactic(auto, unfolding(crate::specs::DiffWords::undecided_sets))]
+fn push_sets(out: &mut Vec<u8>, count: usize) -> Result<(), AllocError>
+    ensures { OnOk result (out.new.items ≡ out.old.items ++ undecided_sets count) }
+{
+    out.extend_from_slice(b"undecided: ")?;
+    push_decimal(out, count as u128)?;
+    out.extend_from_slice(name_of_sets(count))
+}
+
+// Appends how many sets of frames are undecided for a reason, if there are such.
+#[tactic(auto, unfolding(crate::specs::DiffWords::undecided_line))]
+fn push_undecided_line(out: &mut Vec<u8>, count: usize, why: Why) -> Result<(), AllocError>
+    ensures { OnOk result (out.new.items ≡ out.old.items ++ undecided_line count why) }
+{
+    if count == 0 {
+        return Ok(());
+    }
+    push_sets(out, count)?;
+    out.extend_from_slice(sentence(why))?;
+    out.push(b'\n')?;
+    Ok(())
+}
+
+// Appends how many sets of frames are undecided for a reason, if there are such.
+fn push_reason_line(out: &mut Vec<u8>, undecided: &[Undecided], why: Why) -> Result<(), AllocError>
+    ensures { OnOk result (out.new.items ≡ out.old.items ++ undecided_line (count_why why undecided.now) why) }
+{
+    push_undecided_line(out, count_undecided(undecided, why), why)
+}
+
+#[tactic(auto, unfolding(crate::specs::DiffWords::undecided_words))]
+fn push_undecided(out: &mut Vec<u8>, undecided: &[Undecided]) -> Result<(), AllocError>
+    ensures { OnOk result (out.new.items ≡ out.old.items ++ undecided_words undecided.now) }
+{
+    push_reason_line(out, undecided, Why::UnknownTag)?;
+    push_reason_line(out, undecided, Why::Steps)?;
+    push_reason_line(out, undecided, Why::Search)?;
+    push_reason_line(out, undecided, Why::OtherActions)
+}
+
+/// Whether nothing differs, and nothing is undecided.
+pub fn is_same(found: &Differences) -> bool
+    ensures { result ≡ are_same found.now }
+{
+    found.found.is_empty() && found.undecided.is_empty()
+}
+
+fn push_undecided_count(out: &mut Vec<u8>, count: usize) -> Result<(), AllocError>
+    ensures { OnOk result (out.new.items ≡ out.old.items ++ undecided_count count) }
+{
+    if count == 0 {
+        return Ok(());
+    }
+    out.extend_from_slice(b", ")?;
+    push_decimal(out, count as u128)?;
+    out.extend_from_slice(b" undecided")
+}
+
+fn push_difference_count(out: &mut Vec<u8>, count: usize) -> Result<(), AllocError>
+    ensures { OnOk result (out.new.items ≡ out.old.items ++ difference_count count) }
+{
+    push_decimal(out, count as u128)?;
+    if count == 1 {
+        out.extend_from_slice(b" difference")
+    } else {
+        out.extend_from_slice(b" differences")
+    }
+}
+
+// Appends how many differences and undecided sets of frames there are.
+#[tactic(auto, unfolding(crate::specs::DiffWords::diff_summary))]
+fn push_summary(out: &mut Vec<u8>, found: &Differences) -> Result<(), AllocError>
+    ensures { OnOk result (out.new.items ≡ out.old.items ++ diff_summary found.now) }
+{
+    if is_same(found) {
+        return out.extend_from_slice(b"same: all frames are treated alike\n");
+    }
+    push_difference_count(out, found.found.len())?;
+    push_undecided_count(out, found.undecided.len())?;
+    out.push(b'\n')?;
+    Ok(())
+}
+
+/// What is found about two switches, in words. Frames are described as the first switch receives them.
+#[tactic(auto, unfolding(crate::specs::DiffWords::diff_words))]
+pub fn differences_in_words<L: Lookup>(
+    alloc: Global,
+    first: &Switch<L>,
+    found: &Differences,
+) -> Result<Vec<u8>, AllocError>
+    ensures { IfOk result (λ text. text.items ≡ diff_words first.now.core.forwarding found.now) }
+{
+    let mut out = Vec::new(alloc);
+    push_differences(alloc, &mut out, first, &found.found)?;
+    push_undecided(&mut out, &found.undecided)?;
+    push_summary(&mut out, found)?;
+    Ok(out)
+}

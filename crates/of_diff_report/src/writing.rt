@@ -1,0 +1,149 @@
+//! The report on two switches.
+ghost use Rattle.std.specs.Prelude.{◌≡◌, ◌<◌, ◌↔◌, ℕ, List, IfOk, Ok, None, Some};
+ghost use Rattle.of_datapath.specs.Datapath.{Forwarding, world_of};
+ghost use Rattle.of_replay.specs.FileRuns.{Writes, ended_as};
+ghost use Rattle.of_diff.specs.Alike.{IsReceivedAt};
+ghost use Rattle.of_diff.specs.Differences.{IsDifference, IsTreatedAlike};
+ghost use Rattle.of_diff.specs.declared.alike.Compared.{Compared as WhatIsCompared};
+ghost use Rattle.of_diff.specs.declared.difference.Difference.{Difference};
+ghost use Rattle.of_diff_report.specs.DiffFiles.{AreFoundBetween, IsDiffReport, IsVerdict, diff_text, diff_verdict, verdict_on};
+
+use crate::json::{differences_as_json, other_ports_as_json};
+use crate::words::{differences_in_words, is_same};
+use of_classifier::Lookup;
+use of_diff::{Compared, Differences, differences};
+use of_replay::{Ended, Sink, write_all};
+use of_switch::Switch;
+use std::alloc::{AllocError, Global};
+
+/// How the report on two switches is written.
+#[derive(Clone, Copy, Debug, PartialEq, Eq)]
+pub enum DiffForm {
+    /// In words.
+    Words,
+    /// As a JSON document (docs/JSON.md).
+    Json,
+}
+
+/// Whether two switches treat all frames alike.
+#[derive(Clone, Copy, Debug, PartialEq, Eq)]
+pub enum DiffVerdict {
+    /// They do.
+    Same,
+    /// Some frame makes something else leave them.
+    Differs,
+    /// No difference is found, but it is not known of all frames.
+    Undecided,
+    /// Their ports differ.
+    OtherPorts,
+}
+
+// What is found about two switches.
+fn find_differences<L: Lookup>(
+    alloc: Global,
+    first: &Switch<L>,
+    second: &Switch<L>,
+    compared: Compared,
+    steps: usize,
+) -> Result<Option<Differences>, AllocError>
+    ensures { IfOk result (λ found. AreFoundBetween compared first.now.core.forwarding second.now.core.forwarding found) }
+{
+    differences(alloc, first.datapath(), second.datapath(), compared, steps)
+}
+
+// That the ports differ.
+fn other_ports_in(alloc: Global, form: DiffForm) -> Result<Vec<u8>, AllocError>
+    ensures { (f : Forwarding) → IfOk result (λ text. text.items ≡ diff_text form f None) }
+{
+    match form {
+        DiffForm::Words => Vec::from_slice(alloc, b"the switches have other ports\n"),
+        DiffForm::Json => other_ports_as_json(alloc),
+    }
+}
+
+// What is found, if the ports are the same.
+fn found_in<L: Lookup>(
+    alloc: Global,
+    form: DiffForm,
+    first: &Switch<L>,
+    found: &Differences,
+) -> Result<Vec<u8>, AllocError>
+    ensures { IfOk result (λ text. text.items ≡ diff_text form first.now.core.forwarding (Some found.now)) }
+{
+    match form {
+        DiffForm::Words => differences_in_words(alloc, first, found),
+        DiffForm::Json => differences_as_json(alloc, found),
+    }
+}
+
+// The text of what is found.
+fn text_in<L: Lookup>(
+    alloc: Global,
+    form: DiffForm,
+    first: &Switch<L>,
+    found: &Option<Differences>,
+) -> Result<Vec<u8>, AllocError>
+    ensures { IfOk result (λ text. text.items ≡ diff_text form first.now.core.forwarding found.now) }
+{
+    match found {
+        None => other_ports_in(alloc, form),
+        Some(found) => found_in(alloc, form, first, found),
+    }
+}
+
+fn verdict_among(found: &Differences) -> DiffVerdict
+    ensures { result ≡ verdict_on found.now }
+{
+    if is_same(found) {
+        DiffVerdict::Same
+    } else if found.found.is_empty() {
+        DiffVerdict::Undecided
+    } else {
+        DiffVerdict::Differs
+    }
+}
+
+// Whether two switches treat all frames alike, of which this is found.
+fn verdict_of(found: &Option<Differences>) -> DiffVerdict
+    ensures is { result ≡ diff_verdict found.now }
+    ensures means { (c : WhatIsCompared) (f g : Forwarding) → AreFoundBetween c f g found.now → IsVerdict c f g result }
+{
+    match found {
+        None => DiffVerdict::OtherPorts,
+        Some(found) => verdict_among(found),
+    }
+}
+
+/// Writes which frames two switches treat otherwise (OpenFlow 1.3.5, 5.1). The runs of all frames take at most so many steps together, and each
+/// search for a frame as many. Ok says whether the switches treat all frames alike.
+///
+/// Err is `WriteFault`, where a write failed and a prefix of the text was written; or `NoMemory`, where nothing was.
+pub fn write_differences<L: Lookup, W: Sink>(
+    alloc: Global,
+    first: &Switch<L>,
+    second: &Switch<L>,
+    compared: Compared,
+    steps: usize,
+    form: DiffForm,
+    writer: &mut W,
+) -> Result<DiffVerdict, Ended>
+    requires { W.failures writer.old ≡ 0 }
+    ensures output { Writes (IsDiffReport result form compared first.now.core.forwarding second.now.core.forwarding) (ended_as result)
+        (W.taken writer.old) (W.taken writer.new) }
+    ensures verdict { IfOk result (IsVerdict compared first.now.core.forwarding second.now.core.forwarding) }
+    ensures same { result ≡ Ok DiffVerdict.Same → (frame : List ℕ) (port : ℕ) → IsReceivedAt (world_of first.now.core.forwarding) frame port
+        → IsTreatedAlike compared (world_of first.now.core.forwarding) (world_of second.now.core.forwarding) frame port }
+    ensures write_fault { (ended_as result ≡ Ended.WriteFault) ↔ (0 < W.failures writer.new) }
+{
+    let Ok(found) = find_differences(alloc, first, second, compared, steps) else {
+        return Err(Ended::NoMemory);
+    };
+    let Ok(text) = text_in(alloc, form, first, &found) else {
+        return Err(Ended::NoMemory);
+    };
+    if write_all(writer, &text) {
+        Ok(verdict_of(&found))
+    } else {
+        Err(Ended::WriteFault)
+    }
+}
