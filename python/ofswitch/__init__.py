@@ -9,11 +9,12 @@
         switch.feed(message)              # the answers, and the frames that leave
         switch.frame(1, frame)            # [Sent(port=2, frame=..)], or [Answer(PACKET_IN xid 0, ..)]
 
-`Bridge` connects a real controller in its own process. `Network` has several switches with links between them. The manuals are
-docs/TESTING.md and docs/LAB.md of the repository.
+`Bridge` connects a real controller in its own process. `Network` has several switches with links between them. `diff` finds the
+frames that two switches treat otherwise. The manuals are docs/TESTING.md and docs/LAB.md of the repository.
 """
 
 from .bridge import Bridge
+from .difference import diff
 from .effects import Answer, Closed, Effect, Refused, Sent
 from .message_types import MessageType
 from .network import Arrived, Crossing, Looped, Network
@@ -39,4 +40,5 @@ __all__ = [
     "Refused",
     "Sent",
     "Switch",
+    "diff",
 ]

@@ -10,9 +10,10 @@ import threading
 import weakref
 from collections.abc import Callable, Iterable, Iterator
 from types import TracebackType
-from typing import IO, Protocol, cast
+from typing import IO, Any, Protocol, cast
 
 from . import rows
+from .difference import diff
 from .effects import Closed, Effect, Refused, effect_of
 from .program import MARK_ROW, ProgramError, Run, StrPath, find, reads_of, run_to_end
 from .rows import Octets
@@ -172,6 +173,12 @@ class Switch:
     def check(self) -> str:
         """The flows that never win, and other likely mistakes, as `ofswitch check` prints them (docs/CHECK.md)."""
         return self._ask(["check", "--events", "-"], b"", good=(0, _FOUND))
+
+    def diff(self, other: Switch, *, frames: bool = False, steps: int | None = None) -> dict[str, Any]:
+        """The frames that this switch and another one treat otherwise, as they are now (docs/DIFF.md), as `ofswitch.diff` returns them."""
+        # an empty text would be no event file
+        mine, others = (it.log or f"{rows.at(0)}\n" for it in (self, other))
+        return diff(mine, others, frames=frames, steps=steps, program=self._program)
 
     def frame_of(self, words: str) -> bytes:
         """The frame that has these fields: "tcp,nw_src=10.0.0.1,tp_dst=80" (docs/TRACE.md). ValueError if there is none.

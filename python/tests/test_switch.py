@@ -6,7 +6,7 @@ import subprocess
 
 import messages
 import pytest
-from ofswitch import Answer, Closed, MessageType, ProgramError, Refused, Sent, Switch
+from ofswitch import Answer, Closed, MessageType, ProgramError, Refused, Sent, Switch, diff
 
 EXAMPLES = pathlib.Path(__file__).resolve().parents[2] / "examples"
 PROGRAM = os.environ.get("OFSWITCH", "ofswitch")
@@ -354,6 +354,35 @@ def test_flow_text_and_tables_of_open_vswitch(switch):
     lines = switch.steps(1, FRAME).splitlines()
     assert lines == ["lookup 0 entry 2", "apply", "output 3 0", "set", "end", f"s 3 {FRAME.hex()}"]
     assert "    sees in_port 0x00000001" in switch.steps(1, FRAME, explain=True).splitlines()
+
+
+def test_two_switches_are_compared(switch):
+    with Switch() as other:
+        assert switch.diff(other)["same"] is True
+        for it in (switch, other):
+            it.port_add(1), it.port_add(2)
+            it.import_("in_port=1,actions=output:2")
+        assert switch.diff(other)["same"] is True
+        # 60 bytes of another type are treated as before
+        other.import_("priority=40000,in_port=1,dl_type=0x88b5,actions=drop")
+        found = switch.diff(other)
+        assert found["same"] is False and not found["ports_differ"]
+        [difference] = found["differences"]
+        frame = bytes.fromhex(difference["frame"])
+        assert (difference["at"], difference["in_port"], difference["second"]) == ("2", 1, [])
+        assert difference["first"] == [{"port": "2", "frame": difference["frame"]}]
+        assert switch.frame(1, frame) == [Sent(2, frame)] and other.frame(1, frame) == []
+        other.port_add(3)
+        assert switch.diff(other)["ports_differ"] is True
+
+
+def test_two_files_are_compared():
+    assert diff(EXAMPLES / "router.flows", (EXAMPLES / "router.flows").read_text())["same"] is True
+    places = [it["at"] for it in diff(EXAMPLES / "router.flows", EXAMPLES / "router2.flows")["differences"]]
+    assert places == ["3", "controller"]
+    assert len(diff(EXAMPLES / "router.flows", EXAMPLES / "router2.flows", frames=True)["differences"]) == 1
+    with pytest.raises(ValueError, match="line 1: "):
+        diff(EXAMPLES / "router.flows", "flow x\n")
 
 
 def test_faults_of_texts_are_told(switch):

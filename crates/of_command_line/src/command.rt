@@ -130,9 +130,9 @@ Exit status: 4 if the report has a line before its summary, or, without a report
 
 const DIFFS: &str =
     "A and B are flow texts (`ofswitch asm --help`), event files (`ofswitch replay --help`), or what ovs-ofctl prints (`ofswitch import
---help`); the first word that is not in a comment says which. One of them may be -, standard input. Of a flow text or a table of
-ovs-ofctl the switch has the groups and flows, and ports 1 to 64, all of whose links are up; of an event file it is the switch
-after the rows. It prints frames that make something else leave the two switches, each of which it ran on both:
+--help`); the first word that is not in a comment says which. One of them may be -, standard input. The switch of a flow text or a
+table of ovs-ofctl has its groups and flows, and ports 1 to 64, all of whose links are up; that of an event file is the one after
+its rows. It prints frames that make something else leave the two switches, each of which it ran on both:
 
   differs by port 3: in_port 1, eth 00:00:00:00:00:00 > 02:00:00:00:00:a1, eth_type 0x0800, ipv4 0.0.0.0 > 10.2.128.0, ip_proto 0, ttl 64
       frame: --port 1 0200000000a1...   the frame, as `trace` takes it

@@ -1,0 +1,56 @@
+"""Which frames two switches treat otherwise, as `ofswitch diff` finds them (docs/DIFF.md)."""
+
+from __future__ import annotations
+
+import contextlib
+import json
+import os
+import tempfile
+from collections.abc import Iterator
+from typing import Any
+
+from .program import ProgramError, StrPath, find, run_to_end
+
+# Exit statuses: a file has a fault; the switches differ, or their ports do; frames are undecided.
+_BAD_FILE = 2
+_DIFFERS = 4
+_UNDECIDED = 5
+
+
+def diff(
+    first: str | os.PathLike[str],
+    second: str | os.PathLike[str],
+    *,
+    frames: bool = False,
+    steps: int | None = None,
+    program: StrPath | None = None,
+    timeout: float = 600.0,
+) -> dict[str, Any]:
+    """The differences of two switches, as docs/JSON.md describes them: `same` is True, False, or None if frames are undecided.
+
+    Each switch is a text, or the path of a file (a `pathlib.Path`): flow text, an event file, or what `ovs-ofctl` prints. With
+    `frames` only frames that leave by ports are compared, and not packets to the controller; `steps` is that of `--steps`.
+    ValueError, with the name of the file, if a text has a fault.
+    """
+    options = ["--json", *(["--frames"] if frames else []), *([] if steps is None else ["--steps", str(steps)])]
+    with _file_of(first) as one, _file_of(second) as other:
+        try:
+            found = run_to_end([find(program), "diff", *options, one, other], b"", timeout, (0, _DIFFERS, _UNDECIDED))
+        except ProgramError as fault:
+            if fault.status != _BAD_FILE:
+                raise
+            raise ValueError(fault.said) from None
+    document: dict[str, Any] = json.loads(found)
+    return document
+
+
+@contextlib.contextmanager
+def _file_of(text: str | os.PathLike[str]) -> Iterator[str]:
+    """The path of a file; a text is written into one."""
+    if not isinstance(text, str):
+        yield os.path.abspath(text)
+        return
+    with tempfile.NamedTemporaryFile(suffix=".txt") as file:
+        file.write(text.encode())
+        file.flush()
+        yield file.name
