@@ -81,10 +81,10 @@ unfoldable pub answered_question : State → List ℕ → List ℕ
 answered_question s words = answer s (question_of words) ++ codes "?" ++ 10 ∷ []
 
 -- WHAT IS PRINTED for a row: for a question its answer, and for all else what is printed without questions
-abbrev pub comment_text : Option (List ℕ) → RowText → State → List ℕ → List ℕ
-comment_text (Some words) tale s line = answered_question s words
-comment_text None tale s line = tale s line None
+abbrev pub comment_text : Option (List ℕ) → RowText → ℕ → State → List ℕ → List ℕ
+comment_text (Some words) tale n s line = answered_question s words
+comment_text None tale n s line = tale n s line None
 
 abbrev pub with_answers : RowText → RowText
-with_answers tale s line None = comment_text (question_words line) tale s line
-with_answers tale s line (Some event) = tale s line (Some event)
+with_answers tale n s line None = comment_text (question_words line) tale n s line
+with_answers tale n s line (Some event) = tale n s line (Some event)

@@ -116,6 +116,7 @@ impl<L: Lookup, T: RowPrinter<L> + Drop> RowPrinter<L> for Answering<T> {
         &self,
         alloc: Global,
         switch: &mut Switch<L>,
+        number: u64,
         line: &[u8],
         row: Row,
         bytes: &[u8],
@@ -124,14 +125,14 @@ impl<L: Lookup, T: RowPrinter<L> + Drop> RowPrinter<L> for Answering<T> {
         match row {
             Row::Passed => match words_in(line) {
                 Some(words) => push_answered(alloc, out, switch, words),
-                None => self.rows.tell(alloc, switch, line, row, bytes, out),
+                None => self.rows.tell(alloc, switch, number, line, row, bytes, out),
             },
             Row::Connect
             | Row::Lost
             | Row::Chunk
             | Row::Frame { .. }
             | Row::Moment { .. }
-            | Row::Ports(_) => self.rows.tell(alloc, switch, line, row, bytes, out),
+            | Row::Ports(_) => self.rows.tell(alloc, switch, number, line, row, bytes, out),
         }
     }
 }

@@ -17,6 +17,7 @@ use Rattle.of_regions.specs.declared.rival.Rival.{Rival}
 use Rattle.of_regions.specs.declared.witness.Packet.{Packet as PacketFound}
 use Rattle.of_regions.specs.declared.region.Region.{Region}
 use Rattle.of_regions.specs.Conditions.{AreConditions}
+use Rattle.of_regions.proofs.NarrowingLemmas.{kept_condition}
 use Rattle.of_regions.specs.Searching.{AreTaking, IsFreePacket, IsStart}
 use Rattle.of_regions.specs.Witness.{IsIngressPort, fields_in}
 use Rattle.of_check.specs.Verdicts.{AreRivals, GoesBefore, IsPacket, Matches, NeverWins, Packet, SomeMatches, WinsWith, fields_of}
@@ -35,7 +36,7 @@ same_first flows i j k a b e = one_entry flows j a.first b.first (ap (slice_get 
 -- the fields of a match are conditions
 match_conditions : (m : List MatchField) → AllByRecursion IsKept m → AreConditions m
 match_conditions [] all = tt
-match_conditions (e ∷ m) all = (inl all.0, match_conditions m all.1)
+match_conditions (e ∷ m) all = (kept_condition e all.0, match_conditions m all.1)
 
 -- of the entries before a place
 pub record AreRivalsBelow (flows : List FlowEntry) (k : ℕ) (own : FlowEntry) (rivals : List Rival) (n : ℕ) : Type 0 where

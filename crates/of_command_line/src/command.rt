@@ -22,12 +22,13 @@ const EVENT_FILES: &str = "An event file has one event per line. Words are separ
 It prints the messages to the controller (`a HEX`), the frames that leave (`s PORT HEX`), `closed` if the switch ends the
 connection, and `refused N` if an event is not possible: 3 not connected, 4 already connected, 5 the port exists, 6 the
 port does not exist, 7 too many ports, 8 bad port number. With --explain it prints each row, and below it what the row
-did, in words: answers by name with their fields, errors by the standard's names, and the path of each frame. The effects
-of all rows that were read are printed before the next read, so a program can send rows to `replay -` one by one, and
-read the effects of each.
+did, in words: answers by name with their fields, errors by the standard's names, and the path of each frame. With --json
+beside it, each row is a JSON object in one line. The effects of all rows that were read are printed before the next read,
+so a program can send rows to `replay -` one by one, and read the effects of each.
 
   ofswitch replay examples/first-path.events
   ofswitch replay --explain examples/first-path.events
+  ofswitch replay --explain --json examples/first-path.events
   ofswitch replay --dpid 0x2a examples/first-path.events";
 
 const FLOW_TEXT: &str =
@@ -88,7 +89,8 @@ headers that no word says are 0, the TTL is 64, lengths and checksums are right.
 const CHECKS: &str =
     "FILE is a flow text (`ofswitch asm --help`), an event file (`ofswitch replay --help`), or what ovs-ofctl prints
 (`ofswitch import --help`); the first word that is not in a comment says which. Or --flows, --events or --ovs says it.
-The report has first what was found, then a summary, then, with --all, the flows that win, each with a packet:
+The report has first what was found, then a summary, then, with --all, the flows that win, each with a packet. A flow of a dump
+is named with its counters, such as n_packets=0.
 
   table 0 entry 2 (line 7, priority 5, eth_type 0x0800, ipv4_dst 10.1.0.0/16) never wins: shadowed by
       table 0 entry 0 (line 1, priority 9, eth_type 0x0800, ipv4_dst 10.0.0.0/8)
@@ -122,6 +124,7 @@ Exit status: 4 if the report has a line before its summary, or, without a report
 
   ofswitch check examples/office.txt
   ofswitch check --all examples/router.flows
+  ofswitch check --all --words examples/router.flows
   ofswitch check --flows examples/router.flows";
 
 const IMPORTS: &str =
@@ -227,7 +230,7 @@ enum Kind {
     Flag(&'static str),
 }
 
-const REPLAY: [Argument; 5] = [
+const REPLAY: [Argument; 6] = [
     Argument {
         name: "FILE",
         kind: Kind::Positional,
@@ -242,6 +245,11 @@ const REPLAY: [Argument; 5] = [
         name: "explain",
         kind: Kind::Flag("explain"),
         help: "Print each row, and below it what it did, in words",
+    },
+    Argument {
+        name: "json",
+        kind: Kind::Flag("json"),
+        help: "With --explain, print a JSON object for each row, in a line of its own (docs/JSON.md)",
     },
     Argument {
         name: "ask",
@@ -378,7 +386,7 @@ const CHECK: [Argument; 8] = [
     Argument {
         name: "words",
         kind: Kind::Flag("words"),
-        help: "Print the report also with --flows or --events",
+        help: "Print the report also with --flows or --events; with --all, packets are words that `trace` takes",
     },
     Argument {
         name: "all",

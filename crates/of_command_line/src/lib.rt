@@ -56,9 +56,8 @@ pub enum Request {
         file: String,
         /// The switch's datapath_id.
         dpid: u64,
-        /// Whether its rows are printed too, with what they did in words.
-        explain: bool,
-        /// Whether questions in the file are answered.
+        output: ReplayOutput,
+        /// Whether questions in the file are answered; then the output is no JSON.
         ask: bool,
         /// How often the file is read at most.
         reads: u32,
@@ -93,6 +92,17 @@ pub enum Request {
     Serve(Serve),
     /// To forward the frames of a network.
     Live(Live),
+}
+
+/// What is printed of the rows of an event file.
+#[derive(Clone, Copy, Debug, PartialEq, Eq)]
+pub enum ReplayOutput {
+    /// What the switch gives.
+    Effects,
+    /// The rows, and below each of them what it did, in words.
+    Explained,
+    /// The same, an object of JSON for each row.
+    Json,
 }
 
 /// Which frame is traced, and how.
@@ -134,6 +144,8 @@ pub enum CheckOutput {
     Report,
     /// The same, and the flows that win.
     All,
+    /// The same, with packets as words that `trace` takes, if there are such.
+    AllInWords,
     /// The report as JSON.
     Json,
 }
@@ -251,7 +263,7 @@ fn request_of<N: Net>(
         return Ok(Request::Replay {
             file: "-".to_string(alloc)?,
             dpid: DEFAULT_DPID,
-            explain: false,
+            output: ReplayOutput::Effects,
             ask: false,
             reads: DEFAULT_READS,
         });
@@ -285,11 +297,33 @@ fn file_request_of(
         _ => Ok(Request::Replay {
             file,
             dpid: dpid_of(alloc, matches.get_str("dpid"))?,
-            explain: matches.get_flag("explain"),
+            output: replay_output_of(alloc, matches)?,
             ask: matches.get_flag("ask"),
             reads: reads_of(alloc, matches.get_str("reads"))?,
         }),
     }
+}
+
+// JSON is for rows with what they did.
+fn replay_output_of(alloc: Global, matches: &ArgMatches<'_>) -> Result<ReplayOutput, NoRequest> {
+    let explain = matches.get_flag("explain");
+    if !matches.get_flag("json") {
+        return Ok(if explain {
+            ReplayOutput::Explained
+        } else {
+            ReplayOutput::Effects
+        });
+    }
+    if !explain {
+        return Err(refused(alloc, "bad json: replay prints JSON only with --explain\n")?);
+    }
+    if matches.get_flag("ask") {
+        return Err(refused(
+            alloc,
+            "bad json: answers to questions are not JSON; leave out --ask or --json\n",
+        )?);
+    }
+    Ok(ReplayOutput::Json)
 }
 
 fn trace_of(alloc: Global, matches: &ArgMatches<'_>) -> Result<Trace, NoRequest> {
@@ -350,15 +384,11 @@ fn output_of(kind: FileKind, matches: &ArgMatches<'_>) -> CheckOutput {
     if matches.get_flag("json") {
         return CheckOutput::Json;
     }
-    if matches.get_flag("all") {
-        return CheckOutput::All;
-    }
-    if matches.get_flag("words") {
-        return CheckOutput::Report;
-    }
-    match kind {
-        FileKind::Flows | FileKind::Events => CheckOutput::Lines,
-        FileKind::Guessed | FileKind::Ovs => CheckOutput::Report,
+    match (matches.get_flag("all"), matches.get_flag("words"), kind) {
+        (true, true, _) => CheckOutput::AllInWords,
+        (true, false, _) => CheckOutput::All,
+        (false, false, FileKind::Flows | FileKind::Events) => CheckOutput::Lines,
+        (false, _, _) => CheckOutput::Report,
     }
 }
 

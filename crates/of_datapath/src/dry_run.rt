@@ -1,5 +1,5 @@
 //! What a frame would do, found without changing anything.
-ghost use Rattle.std.specs.Prelude.{◌≡◌, ◌<◌, ◌≤◌, ◌+◌, ◌++◌, ◌∷◌, [], true, IfOk, OnOk, OnErr, length, slice_get};
+ghost use Rattle.std.specs.Prelude.{◌≡◌, ◌≢◌, ◌<◌, ◌≤◌, ◌+◌, ◌++◌, ◌∷◌, [], Some, None, true, IfOk, OnOk, OnErr, length, slice_get};
 ghost use Rattle.std.specs.Option.{option_copied, option_map};
 ghost use Rattle.of_headers.specs.FieldMap.{value};
 ghost use Rattle.of_table.specs.Entries.{entry_of, flows_of, place_of as place_of_number};
@@ -20,9 +20,9 @@ use crate::effect::Effects;
 use crate::told::told_from;
 use of_actions::Action;
 use of_classifier::Lookup;
-use of_groups::Chosen;
+use of_groups::{Chosen, Group};
 use of_headers::{FieldKey, check_length};
-use of_machine::{Packet, PacketFrame, StepLog, World, run};
+use of_machine::{Items, NoLog, Packet, PacketFrame, StepLog, World, run};
 use of_ports::Port;
 use of_table::{Entries, Entry, Flow};
 use of_wire::limits::TABLES;
@@ -156,6 +156,45 @@ impl<L: Lookup> Datapath<L> {
         ensures { result ≡ (world_of (forwarding_of self.now)).chosen group }
     {
         self.groups.buckets_for(group, &self.ports)
+    }
+
+    /// The actions of the bucket of a group at that place (OpenFlow 1.3.5, 5.6).
+    pub fn bucket_actions(&self, group: u32, place: u8) -> &[Action]
+        requires { (world_of (forwarding_of self.now)).bucket group place ≢ None }
+        ensures { (world_of (forwarding_of self.now)).bucket group place ≡ Some result.now }
+    {
+        self.groups.bucket(group, place)
+    }
+
+    /// The groups, in ascending order of number (OpenFlow 1.3.5, 5.6).
+    pub fn group_list(&self) -> &[Group]
+        ensures { result.now ≡ (forwarding_of self.now).groups }
+    {
+        self.groups.groups()
+    }
+
+    /// The ports, in ascending order of number (OpenFlow 1.3.5, 7.2.1).
+    pub fn port_list(&self) -> &[Port]
+        ensures { result.now ≡ (world_of (forwarding_of self.now)).ports }
+    {
+        self.ports.as_slice()
+    }
+
+    /// What the run of a frame that is received at a port would emit, whatever the controller asked for (OpenFlow 1.3.5, 5.1). Nothing changes.
+    pub fn received_items(
+        &self,
+        alloc: Global,
+        number: u32,
+        bytes: &[u8],
+    ) -> Result<Items, AllocError>
+        requires long { 14 ≤ length bytes.now }
+        requires most { length bytes.now ≤ 9216 }
+        ensures { IfOk result (λ items. items.items ≡ (run_of (world_of (forwarding_of self.now)) (entering bytes.now number) (LookUp 0 ∷ [])).items) }
+    {
+        let mut world = Looking { datapath: self };
+        let packet = Packet::new(PacketFrame::new(bytes), number);
+        let outcome = run(alloc, &mut world, packet, &mut NoLog)?;
+        Ok(outcome.items)
     }
 
     /// What a frame that is received at a port would give, and its steps (OpenFlow 1.3.5, 5.1), with these asynchronous messages.

@@ -1,5 +1,5 @@
 -- What is printed for a row.
-use Rattle.std.proofs.Common.{◌≡◌, ℕ, List, ◌++◌, Result, Ok, Err, sym, ◌∙◌, ap, append_assoc, inl, inr}
+use Rattle.std.proofs.Common.{◌≡◌, ℕ, List, ◌++◌, Result, Ok, Err, sym, inl, inr}
 use Rattle.std.specs.Prelude.{◌⊎◌, Option, OnOk}
 use Rattle.smallvec.specs.SmallVec.{SmallVec}
 use Rattle.of_datapath.specs.declared.effect.Effect.{Effect}
@@ -24,12 +24,7 @@ report_is (Err e) (Ok u) (Gives effects) X before row out out' (inr i) t = absur
 report_is (Err e) (Ok u) (IsRefused refusal) X before row out out' (inr i) t = rw (sym i.0) t.1
 report_is called (Err e) report X before row out out' g t = tt
 
--- after the line
-behind_line : (result : Result (Unit {0}) SwitchError) (out mid out' line notes : List ℕ) → mid ≡ out ++ line → OnOk result (out' ≡ mid ++ notes) → OnOk result (out' ≡ out ++ (line ++ notes))
-behind_line (Ok u) out mid out' line notes m t = t ∙ (ap (λ (x : List ℕ). x ++ notes) m ∙ append_assoc out line notes)
-behind_line (Err e) out mid out' line notes m t = tt
-
-pub row_told : (called : Errors) (result : Result (Unit {0}) SwitchError) (report : Report) (X : Type 0) (before before' : List ℕ) (row : Option Event) (out mid out' line : List ℕ) → (called ≡ Err error.NoMemory) ⊎ (IsReport called report × X)
-    → before ≡ before' → mid ≡ out ++ line → TellsReport called result before row mid out' → OnOk result (out' ≡ out ++ (line ++ report_notes before' row report))
-row_told called result report X before before' row out mid out' line g b m t =
-    behind_line result out mid out' line (report_notes before' row report) m (report_is called result report X before' row mid out' g (rw b at t))
+-- where its notes before it are these
+pub notes_told : (called : Errors) (result : Result (Unit {0}) SwitchError) (report : Report) (X : Type 0) (before before' : List ℕ) (row : Option Event) (out out' : List ℕ) → (called ≡ Err error.NoMemory) ⊎ (IsReport called report × X)
+    → before ≡ before' → TellsReport called result before row out out' → OnOk result (out' ≡ out ++ report_notes before' row report)
+notes_told called result report X before before' row out out' g b t = report_is called result report X before' row out out' g (rw b at t)

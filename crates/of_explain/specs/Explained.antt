@@ -118,9 +118,13 @@ abbrev pub report_notes : List ℕ → Option Event → Report → List ℕ
 report_notes before row (Gives effects) = before ++ (effect_notes effects ++ end_notes row effects)
 report_notes before row (IsRefused refusal) = note (switch_error_words refusal)
 
--- THE TALE: the line, and the notes of the very report that `replay` prints
+-- of the very report that `replay` prints
+abbrev pub notes_below : State → Option Event → List ℕ
+notes_below s row = report_notes (row_notes s row) row (row_happened s row).report
+
+-- THE TALE: the line, and the notes below it
 abbrev pub explained : RowText
-explained s line row = echoed line ++ report_notes (row_notes s row) row (row_happened s row).report
+explained n s line row = echoed line ++ notes_below s row
 
 -- ---- for contracts inside this crate
 

@@ -6,3 +6,4 @@ pub mod Requests
 pub mod Replies
 pub mod Explained
 pub mod Saying
+pub mod RowObjects

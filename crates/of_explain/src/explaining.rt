@@ -5,7 +5,9 @@ ghost use Rattle.of_replay.specs.Play.{PrintsLines, WrittenEarly};
 ghost use Rattle.of_replay.specs.RowTexts.{told};
 ghost use Rattle.of_replay.specs.WholeFiles.{RunFaults};
 ghost use Rattle.of_explain.specs.Explained.{explained};
+ghost use Rattle.of_explain.specs.RowObjects.{explained_json};
 
+use crate::json_rows::ExplainingJson;
 use crate::rows::Explaining;
 use of_classifier::Lookup;
 use of_replay::{Ended, MOST_READS, Sink, Source, print_file};
@@ -32,4 +34,22 @@ pub fn explain<L: Lookup, S: Source, W: Sink>(
     ensures early { WrittenEarly (told (start dpid) explained) (S.answers reader.old) (S.answers reader.new) (W.taken writer.old) (W.taken writer.new) }
 {
     print_file::<L, _, _, _>(alloc, dpid, MOST_READS, &Explaining, reader, writer)
+}
+
+/// The same as JSON Lines: for each line that is not empty an object, with the number of the line, the line, and the notes below it.
+pub fn explain_json<L: Lookup, S: Source, W: Sink>(
+    alloc: Global,
+    dpid: u64,
+    reader: &mut S,
+    writer: &mut W,
+) -> Ended
+    requires reads { S.reads reader.old ≡ 0 }
+    requires failures { W.failures writer.old ≡ 0 }
+    ensures output { PrintsLines (told (start dpid) explained_json) result (S.answers reader.old) (S.answers reader.new) (S.ends reader.old)
+        (S.ends reader.new) (W.taken writer.old) (W.taken writer.new) }
+    ensures faults { RunFaults 1000000 result (S.reads reader.new) (S.ends reader.old) (S.ends reader.new) (S.failures reader.old) (S.failures reader.new)
+        (W.failures writer.new) }
+    ensures early { WrittenEarly (told (start dpid) explained_json) (S.answers reader.old) (S.answers reader.new) (W.taken writer.old) (W.taken writer.new) }
+{
+    print_file::<L, _, _, _>(alloc, dpid, MOST_READS, &ExplainingJson, reader, writer)
 }

@@ -2,7 +2,8 @@
 ghost use Rattle.std.specs.Prelude.{◌≡◌, ◌++◌, ℕ, List, IfErr, OnOk};
 ghost use Rattle.of_switch.specs.declared.switch_error.SwitchError.TheVariants.{NoMemory};
 ghost use Rattle.of_replay.specs.Rows.{with_bytes};
-ghost use Rattle.of_explain.specs.Explained.{echoed, end_notes, explained, report_notes, row_notes, TellsReport};
+ghost use Rattle.of_replay.specs.RowTexts.{row_happened};
+ghost use Rattle.of_explain.specs.Explained.{echoed, end_notes, explained, notes_below, report_notes, row_notes, TellsReport};
 ghost use Rattle.of_switch.specs.Runs.{Gives};
 
 use crate::effects::{push_effects, push_refusal};
@@ -89,6 +90,24 @@ fn push_report(
     }
 }
 
+/// Plays a row, and appends the notes below it.
+pub fn tell_notes<L: Lookup>(
+    alloc: Global,
+    switch: &mut Switch<L>,
+    row: Row,
+    bytes: &[u8],
+    out: &mut Vec<u8>,
+) -> Result<(), SwitchError>
+    ensures notes { OnOk result (out.new.items ≡ out.old.items ++ notes_below switch.old (with_bytes bytes.now row)) }
+    ensures switch { OnOk result (switch.new ≡ (row_happened switch.old (with_bytes bytes.now row)).state) }
+    ensures err { IfErr result (λ e. e ≡ NoMemory) }
+{
+    let mut before = Vec::new(alloc);
+    push_row(alloc, &mut before, switch, row, bytes)?;
+    let called = play_row(alloc, switch, row, bytes);
+    push_report(alloc, out, &before, row, called)
+}
+
 /// Prints for each row its line, and below it what it did.
 #[derive(Drop)]
 pub struct Explaining;
@@ -100,15 +119,13 @@ impl<L: Lookup> RowPrinter<L> for Explaining {
         &self,
         alloc: Global,
         switch: &mut Switch<L>,
+        _number: u64,
         line: &[u8],
         row: Row,
         bytes: &[u8],
         out: &mut Vec<u8>,
     ) -> Result<(), SwitchError> {
-        let mut before = Vec::new(alloc);
-        push_row(alloc, &mut before, switch, row, bytes)?;
         push_line(out, line)?;
-        let called = play_row(alloc, switch, row, bytes);
-        push_report(alloc, out, &before, row, called)
+        tell_notes(alloc, switch, row, bytes, out)
     }
 }

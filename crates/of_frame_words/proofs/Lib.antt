@@ -1,3 +1,4 @@
 pub mod WordLemmas
 pub mod SaidLemmas
 pub mod LawLemmas
+mod PrintedLemmas

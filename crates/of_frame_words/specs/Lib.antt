@@ -2,3 +2,4 @@ pub mod Said
 pub mod Frames
 pub mod Refusals
 pub mod Views
+pub mod Printed

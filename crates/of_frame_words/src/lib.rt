@@ -3,11 +3,13 @@
 
 mod frame;
 mod laws;
+mod printed;
 mod said;
 mod why;
 mod words;
 
 pub use frame::{Received, read_frame};
 pub use laws::frames_have_what_words_say;
+pub use printed::frame_words;
 pub use why::{NoFrame, Refusal, Why};
 pub use words::is_frame_words;

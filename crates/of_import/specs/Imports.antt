@@ -1,5 +1,7 @@
 -- THE TEXT OF A TABLE OF OPEN VSWITCH: the configuration that its lines say, without those that are left out, after comments about these.
-use Rattle.std.specs.Prelude.{◌≡◌, ◌<◌, ◌≤◌, ◌+◌, ◌++◌, ℕ, false, List, [], filter, map, length, None, Some, if◌then◌else◌}
+use Rattle.std.specs.Prelude.{◌≡◌, ◌<◌, ◌≤◌, ◌+◌, ◌++◌, ℕ, false, List, [], filter, map, length, slice_index_or, None, Some, if◌then◌else◌}
+use Rattle.std.specs.List.{AllByRecursion}
+use Rattle.of_text.specs.Flows.{Flow as TextFlow}
 use Rattle.of_text.specs.Configs.{Configuration, EncodeConfig, tables_of_flows, config_text}
 use Rattle.of_text.specs.Groups.{TextGroup}
 use Rattle.of_text.specs.Lines.{lines_of}
@@ -7,9 +9,10 @@ use Rattle.of_text.specs.First.{first_refusal}
 use Rattle.of_import.specs.declared.mode.Mode.{Mode}
 use Rattle.of_import.specs.declared.parsed_lines.LineFaults.{LineFaults}
 use Rattle.of_import.specs.declared.kept.KeptLines.{KeptLines}
+use Rattle.of_import.specs.declared.kept.LineRefusal.{LineRefusal}
 use Rattle.of_import.specs.declared.import.ImportError.{ImportError}
 use Rattle.of_import.specs.declared.import.ImportError.TheVariants.{NoMemory, Faults, Refused, TooMany}
-use Rattle.of_import.specs.ParsedLinesViews.{view_faults}
+use Rattle.of_import.specs.ParsedLinesViews.{AreSoundGroups, FlowIsSound, view_faults}
 use Rattle.of_import.specs.ParsedLines.{FlowAt, ParsedLines, parsed_lines_of}
 use Rattle.of_import.specs.Kept.{Kept, flows_in, groups_in, kept_of_lines, line_of_item}
 use Rattle.of_import.specs.KeptViews.{view_kept, view_refusal}
@@ -45,7 +48,16 @@ kept_in t = kept_of_lines t.groups t.flows
 abbrev pub notes_for : Mode → List (List ℕ) → List ℕ
 notes_for mode lines = notes_of (numbers_for mode lines).moves (parsed mode lines).faults (kept_in (parsed mode lines))
 
--- A TEXT, the lines with words that are refused, its groups and flows and the lines that the switch refuses (without `skip` no line is refused), which
+-- A TEXT, the lines with words that are refused, and those that the switch refuses (without `skip` there are none), and how many flows have an action left out
+pub record IsImportText (lines : List (List ℕ)) (mode : Mode) (text : List ℕ) (faults : List LineFaults) (refused : List LineRefusal) (changed : ℕ) : Type 0 where
+  pub text_is : IsTextOf (kept_in (parsed mode lines)) (notes_for mode lines) text
+  pub faults_are : map view_faults faults ≡ (parsed mode lines).faults
+  pub refused_are : map view_refusal refused ≡ (kept_in (parsed mode lines)).refused
+  pub changed_is : changed ≡ length (filter is_changed (kept_in (parsed mode lines)).flows)
+  pub none : mode.skip ≡ false → length faults + length refused ≡ 0
+  pub few : (numbers_for mode lines).count ≤ 16
+
+-- THE SAME, with its groups and flows and the lines that the switch refuses (without `skip` no line is refused), which
 -- tables have another number, and how many flows have an action left out
 pub record IsImport (lines : List (List ℕ)) (mode : Mode) (text : List ℕ) (faults : List LineFaults) (kept : KeptLines) (moves : List (ℕ × ℕ)) (changed : ℕ) : Type 0 where
   pub text_is : IsTextOf (kept_in (parsed mode lines)) (notes_for mode lines) text
@@ -79,3 +91,28 @@ NoImport lines mode NoMemory = Unit {0}
 NoImport lines mode (Faults faults refused) = FaultsOf mode (parsed mode lines) (Faults faults refused)
 NoImport lines mode (Refused line code) = RefusedOf (kept_in (parsed mode lines)).groups (kept_in (parsed mode lines)).flows (Refused line code)
 NoImport lines mode (TooMany count) = (count ≡ (numbers_for mode lines).count) × (16 < count)
+
+-- ---- for contracts inside this crate
+
+-- a configuration of these groups and flows, none of which is refused
+abbrev pub IsFilled : List TextGroup → List TextFlow → Configuration → Type 0
+IsFilled gs fs c = (c.groups ≡ gs) × (c.tables ≡ tables_of_flows fs) × (first_refusal gs fs ≡ None)
+
+-- the first group or flow that is refused, by its line
+abbrev pub RefusedAt : List ℕ → List TextGroup → List TextFlow → ImportError → Type 0
+RefusedAt lines gs fs NoMemory = Unit {0}
+RefusedAt lines gs fs (Faults faults refused) = ⊥
+RefusedAt lines gs fs (Refused line code) = (place : ℕ) × (first_refusal gs fs ≡ Some (place, code)) × (line ≡ slice_index_or lines place 0)
+RefusedAt lines gs fs (TooMany count) = ⊥
+
+-- what is known of a table before its text is written
+pub record HasBegun (lines : List (List ℕ)) (mode : Mode) (notes : List ℕ) (faults : List LineFaults) (kept : KeptLines) (moves : List (ℕ × ℕ)) (changed : ℕ) : Type 0 where
+  pub notes_are : notes ≡ notes_for mode lines
+  pub faults_are : map view_faults faults ≡ (parsed mode lines).faults
+  pub kept_is : view_kept kept ≡ kept_in (parsed mode lines)
+  pub moves_are : moves ≡ (numbers_for mode lines).moves
+  pub changed_is : changed ≡ length (filter is_changed (kept_in (parsed mode lines)).flows)
+  pub none : mode.skip ≡ false → length faults + length kept.refused.items ≡ 0
+  pub few : (numbers_for mode lines).count ≤ 16
+  pub groups : AreSoundGroups kept.groups.items
+  pub flows : AllByRecursion FlowIsSound kept.flows.items

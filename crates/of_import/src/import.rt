@@ -2,9 +2,11 @@
 ghost use Rattle.std.specs.Prelude.{◌≡◌, ◌<◌, ◌+◌, ◌++◌, [], false, Some, None, map, length, slice_index_or, IfOk, IfErr, OnOk};
 ghost use Rattle.std.specs.List.{AllByRecursion};
 ghost use Rattle.of_text.specs.Configs.{EncodeConfig, config_text};
+ghost use Rattle.of_text.specs.Flows.{text_rows};
 ghost use Rattle.of_text.specs.Lines.{lines_of};
+ghost use Rattle.of_text.specs.Texts.{AreRows};
 ghost use Rattle.of_text.specs.Views.{view_flows, view_groups};
-ghost use Rattle.of_import.specs.Imports.{FaultsOf, IsConfigOf, IsImport, IsTextOf, NoImport, RefusedOf, kept_in, numbers_for as numbers_for_lines};
+ghost use Rattle.of_import.specs.Imports.{FaultsOf, HasBegun, IsConfigOf, IsFilled, IsImport, IsImportText, IsTextOf, NoImport, RefusedAt, RefusedOf, kept_in, numbers_for as numbers_for_lines};
 ghost use Rattle.of_import.specs.Counters.{with_notes};
 ghost use Rattle.of_import.specs.CounterViews.{view_notes};
 ghost use Rattle.of_import.specs.KeptViews.{view_kept};
@@ -25,7 +27,19 @@ use of_text::{Config, FillError, FlowText, GroupText, disassemble, texts_are_of_
 use std::alloc::{AllocError, AllocFailed, Global};
 use thiserror::Error;
 
-/// The flow text of a table of Open vSwitch, and its lines.
+/// The flow text of a table of Open vSwitch, and its lines that are not in it.
+#[derive(Drop)]
+pub struct ImportText {
+    pub text: Vec<u8>,
+    /// Lines with words that are refused.
+    pub faults: Vec<LineFaults>,
+    /// Lines that the switch refuses.
+    pub refused: Vec<LineRefusal>,
+    /// How many flows have an action left out.
+    pub changed: usize,
+}
+
+/// The flow text of a table of Open vSwitch, and all its lines.
 #[derive(Drop)]
 pub struct Import {
     pub text: Vec<u8>,
@@ -71,8 +85,19 @@ impl<T: Drop> From<AllocFailed<T>> for ImportError {
     }
 }
 
+// What is known of a table before its text is written.
+#[derive(Drop)]
+struct Begun {
+    // the comments about it
+    notes: Vec<u8>,
+    faults: Vec<LineFaults>,
+    kept: KeptLines,
+    moves: Vec<(u8, u8)>,
+    changed: usize,
+}
+
 // Copies of the groups, whose lines are appended.
-fn unzip_groups(
+fn copy_groups(
     alloc: Global,
     lines: &mut Vec<usize>,
     groups: &[GroupLine],
@@ -89,7 +114,7 @@ fn unzip_groups(
 }
 
 // Copies of the flows, whose lines are appended.
-fn unzip_flows(
+fn copy_flows(
     alloc: Global,
     lines: &mut Vec<usize>,
     flows: &[FlowLine],
@@ -105,6 +130,40 @@ fn unzip_flows(
     Ok(made)
 }
 
+// The groups, whose lines are appended.
+fn take_groups(
+    alloc: Global,
+    lines: &mut Vec<usize>,
+    groups: Vec<GroupLine>,
+) -> Result<Vec<GroupText>, AllocError>
+    ensures lines { OnOk result (lines.new.items ≡ lines.old.items ++ map (λ g. g.line) groups.items) }
+    ensures groups { IfOk result (λ made. made.items ≡ map (λ g. g.group) groups.items) }
+{
+    let mut made = Vec::new(alloc);
+    for it in groups {
+        lines.push(it.line)?;
+        made.push(it.group)?;
+    }
+    Ok(made)
+}
+
+// The flows, whose lines are appended.
+fn take_flows(
+    alloc: Global,
+    lines: &mut Vec<usize>,
+    flows: Vec<FlowLine>,
+) -> Result<Vec<FlowText>, AllocError>
+    ensures lines { OnOk result (lines.new.items ≡ lines.old.items ++ map (λ f. f.line) flows.items) }
+    ensures flows { IfOk result (λ made. made.items ≡ map (λ f. f.flow) flows.items) }
+{
+    let mut made = Vec::new(alloc);
+    for it in flows {
+        lines.push(it.line)?;
+        made.push(it.flow)?;
+    }
+    Ok(made)
+}
+
 fn line_of(lines: &[usize], place: usize) -> usize
     ensures { result ≡ slice_index_or lines.now place 0 }
 {
@@ -114,7 +173,28 @@ fn line_of(lines: &[usize], place: usize) -> usize
     }
 }
 
-// The configuration of what is kept.
+// The configuration of groups and flows that come from these lines.
+fn configured(
+    alloc: Global,
+    lines: &[usize],
+    groups: Vec<GroupText>,
+    flows: Vec<FlowText>,
+) -> Result<Config, ImportError>
+    requires { AreRows (text_rows (view_groups groups.items) (view_flows flows.items)) }
+    ensures found { IfOk result (IsFilled (view_groups groups.items) (view_flows flows.items)) }
+    ensures failed { IfErr result (RefusedAt lines.now (view_groups groups.items) (view_flows flows.items)) }
+{
+    match Config::of_items(alloc, groups, flows) {
+        Ok(config) => Ok(config),
+        Err(FillError::NoMemory) => Err(ImportError::NoMemory),
+        Err(FillError::Refused { place, code }) => Err(ImportError::Refused {
+            line: line_of(lines, place),
+            code,
+        }),
+    }
+}
+
+// The configuration of what is kept, which stays.
 fn configure(alloc: Global, groups: &[GroupLine], flows: &[FlowLine]) -> Result<Config, ImportError>
     requires groups { AreSoundGroups groups.now }
     requires flows { AllByRecursion FlowIsSound flows.now }
@@ -122,16 +202,26 @@ fn configure(alloc: Global, groups: &[GroupLine], flows: &[FlowLine]) -> Result<
     ensures failed { IfErr result (RefusedOf (map view_group_line groups.now) (map view_flow_line flows.now)) }
 {
     let mut lines = Vec::new(alloc);
-    let groups = unzip_groups(alloc, &mut lines, groups)?;
-    let flows = unzip_flows(alloc, &mut lines, flows)?;
-    match Config::of_items(alloc, groups, flows) {
-        Ok(config) => Ok(config),
-        Err(FillError::NoMemory) => Err(ImportError::NoMemory),
-        Err(FillError::Refused { place, code }) => Err(ImportError::Refused {
-            line: line_of(&lines, place),
-            code,
-        }),
-    }
+    let groups = copy_groups(alloc, &mut lines, groups)?;
+    let flows = copy_flows(alloc, &mut lines, flows)?;
+    configured(alloc, &lines, groups, flows)
+}
+
+// The same of what is used up.
+fn configure_all(
+    alloc: Global,
+    groups: Vec<GroupLine>,
+    flows: Vec<FlowLine>,
+) -> Result<Config, ImportError>
+    requires groups { AreSoundGroups groups.items }
+    requires flows { AllByRecursion FlowIsSound flows.items }
+    ensures found { IfOk result (λ config. IsConfigOf (map view_group_line groups.items) (map view_flow_line flows.items) config) }
+    ensures failed { IfErr result (RefusedOf (map view_group_line groups.items) (map view_flow_line flows.items)) }
+{
+    let mut lines = Vec::new(alloc);
+    let groups = take_groups(alloc, &mut lines, groups)?;
+    let flows = take_flows(alloc, &mut lines, flows)?;
+    configured(alloc, &lines, groups, flows)
 }
 
 // Appends the text of a configuration, and the counters of its flows, to comments.
@@ -155,7 +245,7 @@ fn known_text(config: &Config)
     texts_are_of_configs();
 }
 
-// The text of what is kept, after these comments.
+// The text of what is kept, which stays, after these comments.
 fn written(alloc: Global, notes: &mut Vec<u8>, kept: &KeptLines) -> Result<(), ImportError>
     requires groups { AreSoundGroups kept.now.groups.items }
     requires flows { AllByRecursion FlowIsSound kept.now.flows.items }
@@ -167,6 +257,25 @@ fn written(alloc: Global, notes: &mut Vec<u8>, kept: &KeptLines) -> Result<(), I
     known_text(&config);
     push_text(alloc, notes, counters, &config)?;
     Ok(())
+}
+
+// The same, where what is kept is used up, except for the lines that the switch refuses.
+fn written_all(
+    alloc: Global,
+    notes: &mut Vec<u8>,
+    kept: KeptLines,
+) -> Result<Vec<LineRefusal>, ImportError>
+    requires groups { AreSoundGroups kept.groups.items }
+    requires flows { AllByRecursion FlowIsSound kept.flows.items }
+    ensures text { OnOk result (IsTextOf (view_kept kept) notes.old.items notes.new.items) }
+    ensures refused { IfOk result (λ refused. refused.items ≡ kept.refused.items) }
+    ensures failed { IfErr result (RefusedOf (view_kept kept).groups (view_kept kept).flows) }
+{
+    let counters = counter_notes(alloc, &kept.flows)?;
+    let config = configure_all(alloc, kept.groups, kept.flows)?;
+    known_text(&config);
+    push_text(alloc, notes, counters, &config)?;
+    Ok(kept.refused)
 }
 
 // The new numbers of tables.
@@ -206,11 +315,9 @@ fn accepted(
     Ok((kept, faults))
 }
 
-/// The flow text (docs/FLOWTEXT.md) of a table that `ovs-ofctl` printed or would read, after comments about it, and with the counters of a dump
-/// as comments behind the flows. With `skip` lines that are
-/// refused are left out, else there has to be none. With `renumber` the tables that occur get the numbers 0 to 15.
-pub fn import_tables(alloc: Global, text: &[u8], mode: Mode) -> Result<Import, ImportError>
-    ensures found { IfOk result (λ r. IsImport (lines_of text.now) mode r.text.items r.faults.items r.kept r.moves.items r.changed) }
+// What is known of a table before its text is written.
+fn begin(alloc: Global, text: &[u8], mode: Mode) -> Result<Begun, ImportError>
+    ensures begun { IfOk result (λ b. HasBegun (lines_of text.now) mode b.notes.items b.faults.items b.kept b.moves.items b.changed) }
     ensures failed { IfErr result (NoImport (lines_of text.now) mode) }
 {
     let numbers = numbers_for(alloc, mode, text)?;
@@ -218,15 +325,51 @@ pub fn import_tables(alloc: Global, text: &[u8], mode: Mode) -> Result<Import, I
         return Err(ImportError::TooMany(numbers.count));
     }
     let (kept, faults) = accepted(alloc, mode, &numbers.numbers, text)?;
-    let mut text = notes_for(alloc, &numbers.moves, &faults, &kept)?;
+    let notes = notes_for(alloc, &numbers.moves, &faults, &kept)?;
     let changed = count_changed(&kept.flows);
-    match written(alloc, &mut text, &kept) {
+    Ok(Begun {
+        notes,
+        faults,
+        kept,
+        moves: numbers.moves,
+        changed,
+    })
+}
+
+/// The flow text (docs/FLOWTEXT.md) of a table that `ovs-ofctl` printed or would read, after comments about it, and with the counters of a dump
+/// as comments behind the flows. With `skip` lines that are refused are left out, else there has to be none. With `renumber` the tables that
+/// occur get the numbers 0 to 15.
+pub fn import_text(alloc: Global, text: &[u8], mode: Mode) -> Result<ImportText, ImportError>
+    ensures found { IfOk result (λ r. IsImportText (lines_of text.now) mode r.text.items r.faults.items r.refused.items r.changed) }
+    ensures failed { IfErr result (NoImport (lines_of text.now) mode) }
+{
+    let begun = begin(alloc, text, mode)?;
+    let mut text = begun.notes;
+    match written_all(alloc, &mut text, begun.kept) {
+        Ok(refused) => Ok(ImportText {
+            text,
+            faults: begun.faults,
+            refused,
+            changed: begun.changed,
+        }),
+        Err(error) => Err(error),
+    }
+}
+
+/// The same, and the groups and flows of the text with their lines, and the tables that have another number.
+pub fn import_tables(alloc: Global, text: &[u8], mode: Mode) -> Result<Import, ImportError>
+    ensures found { IfOk result (λ r. IsImport (lines_of text.now) mode r.text.items r.faults.items r.kept r.moves.items r.changed) }
+    ensures failed { IfErr result (NoImport (lines_of text.now) mode) }
+{
+    let begun = begin(alloc, text, mode)?;
+    let mut text = begun.notes;
+    match written(alloc, &mut text, &begun.kept) {
         Ok(()) => Ok(Import {
             text,
-            faults,
-            kept,
-            moves: numbers.moves,
-            changed,
+            faults: begun.faults,
+            kept: begun.kept,
+            moves: begun.moves,
+            changed: begun.changed,
         }),
         Err(error) => Err(error),
     }

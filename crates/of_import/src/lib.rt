@@ -16,7 +16,7 @@ mod partial_group;
 mod table_numbers;
 mod word_fault;
 
-pub use import::{Import, ImportError, import_tables};
+pub use import::{Import, ImportError, ImportText, import_tables, import_text};
 pub use kept::{KeptLines, LineRefusal};
 pub use laws::comments_change_nothing;
 pub use line::FlowMarks;

@@ -1,3 +1,2 @@
 mod AnswerLemmas
 mod KeywordLemmas
-mod LineLemmas

@@ -1,10 +1,10 @@
 -- THE OUTCOME OF AN IMPORT AS JSON (RFC 8259): one object in one line.
 use Rattle.std.specs.Prelude.{ℕ, ◌+◌, Bool, true, false, List, [], ◌∷◌, ◌++◌, length, codes, decimal, Option, Some, None}
-use Rattle.std.specs.Global.{Vec}
 use Rattle.of_wire.specs.CodeNames.{error_name}
 use Rattle.of_text.specs.Lines.{lines_of}
+use Rattle.of_values.specs.Origins.{view_words}
 use Rattle.of_json.specs.Parts.{key, listed, match_object, number_member, quoted, text_member, truth}
-use Rattle.of_ovs_words.specs.Words.{word_name, word_value}
+use Rattle.of_json.specs.Strings.{array_member, counters_member, string, string_of}
 use Rattle.of_import.specs.declared.word_fault.WordFault.{WordFault}
 use Rattle.of_import.specs.declared.parsed_lines.LineFaults.{LineFaults}
 use Rattle.of_import.specs.declared.parsed_lines.FlowLine.{FlowLine}
@@ -14,7 +14,6 @@ use Rattle.of_import.specs.declared.kept.KeptLines.{KeptLines}
 use Rattle.of_import.specs.declared.kept.LineRefusal.{LineRefusal}
 use Rattle.of_import.specs.declared.import.ImportError.{ImportError}
 use Rattle.of_import.specs.declared.import.ImportError.TheVariants.{NoMemory, Faults, Refused, TooMany}
-use Rattle.of_import_report.specs.Strings.{array_member, string, string_of}
 use Rattle.of_import_report.specs.Whys.{why_words}
 use Rattle.of_import_report.specs.Keywords.{keywords_in, lines_with}
 
@@ -59,20 +58,13 @@ move_object m = 123 ∷ key (codes "from") ++ decimal m.0 ++ number_member (code
 unfoldable pub group_object : GroupLine → List ℕ
 group_object g = 123 ∷ import_line_member g.line ++ number_member (codes "group") g.group.head.id ++ 125 ∷ []
 
--- what a dump counted: `"n_packets":"12"`
-unfoldable pub counter_member : Vec ℕ → List ℕ
-counter_member word = string (word_name word.items) ++ 58 ∷ string (word_value word.items)
-
-unfoldable pub counters_member : List (Vec ℕ) → List ℕ
-counters_member words = 44 ∷ key (codes "counters") ++ 123 ∷ listed counter_member words ++ 125 ∷ []
-
 unfoldable pub import_truth_member : List ℕ → Bool → List ℕ
 import_truth_member name b = 44 ∷ key name ++ truth b
 
 -- actions that are left out, and whether `resubmit` became GOTO_TABLE
 unfoldable pub marks_members : FlowMarks → List ℕ
 marks_members m =
-    counters_member m.counters.items ++ array_member (codes "without") (listed string_of m.left.items) ++ import_truth_member (codes "resubmit") m.resubmits
+    counters_member (view_words m.counters.items) ++ array_member (codes "without") (listed string_of m.left.items) ++ import_truth_member (codes "resubmit") m.resubmits
 
 unfoldable pub import_entry_members : FlowLine → List ℕ
 import_entry_members f =

@@ -1,7 +1,6 @@
 pub mod Views
-pub mod Strings
 pub mod Whys
 pub mod Keywords
 pub mod Json
 pub mod Answers
-pub mod FlowLines
+pub mod FlowOrigins

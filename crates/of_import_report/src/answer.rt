@@ -26,7 +26,7 @@ fn answer_on(alloc: Global, done: &Import) -> Result<Answer, ImportError>
 {
     Ok(Answer {
         json: import_document(alloc, done)?,
-        left_out: Some(left_out(done)),
+        left_out: Some(left_out(&done.faults, &done.kept.refused, done.changed)),
     })
 }
 

@@ -1,17 +1,14 @@
 //! The documents.
-ghost use Rattle.std.specs.Prelude.{◌≡◌, ◌++◌, ◌∷◌, codes, IfOk, OnOk};
-ghost use Rattle.std.specs.List.{flat_map};
+ghost use Rattle.std.specs.Prelude.{◌≡◌, ◌++◌, codes, IfOk, OnOk};
 ghost use Rattle.of_text.specs.Lines.{lines_of};
 ghost use Rattle.of_json.specs.Parts.{listed};
+ghost use Rattle.of_json.specs.Strings.{array_member, string};
 ghost use Rattle.of_import_report.specs.Json.{count_member, import_head_members, import_json, lines_left_out as left_out_of, move_object, refused_json};
-ghost use Rattle.of_import_report.specs.Strings.{array_member, string};
 
-use crate::items::{push_item_members, push_move_objects};
+use crate::items::{push_flag_member, push_item_members, push_move_objects};
 use crate::refusals::push_refused_members;
-use crate::strings::{begin_array, push_flag_member, push_string};
 use of_import::{Import, LineFaults, LineRefusal};
-use of_json::{push_key, push_number_member, push_quoted};
-use of_text::cut;
+use of_json::{begin_array, push_key, push_line_strings, push_number_member, push_quoted};
 use std::alloc::{AllocError, Global};
 
 #[tactic(auto, unfolding(crate::specs::Json::import_head_members))]
@@ -23,39 +20,14 @@ fn push_head_members(out: &mut Vec<u8>, imported: bool) -> Result<(), AllocError
     push_flag_member(out, b"imported", imported)
 }
 
-fn push_further_lines(out: &mut Vec<u8>, text: &[u8]) -> Result<(), AllocError>
-    ensures { OnOk result (out.new.items ≡ out.old.items ++ flat_map (λ l. 44 ∷ string l) (lines_of text.now)) }
-{
-    let mut rest = text;
-    while !rest.is_empty() {
-        let (line, after) = cut(rest, b'\n');
-        rest = after;
-        out.push(b',')?;
-        push_string(out, line)?;
-    }
-    Ok(())
-}
-
-// Appends the lines of a text, with commas between them.
-fn push_text_lines(out: &mut Vec<u8>, text: &[u8]) -> Result<(), AllocError>
-    ensures { OnOk result (out.new.items ≡ out.old.items ++ listed string (lines_of text.now)) }
-{
-    if text.is_empty() {
-        return Ok(());
-    }
-    let (line, rest) = cut(text, b'\n');
-    push_string(out, line)?;
-    push_further_lines(out, rest)
-}
-
 /// How many lines are left out or lose an action.
-pub fn left_out(done: &Import) -> u128
-    ensures { result ≡ left_out_of done.now.faults.items done.now.kept.refused.items done.now.changed }
+pub fn left_out(faults: &[LineFaults], refused: &[LineRefusal], changed: usize) -> u128
+    ensures { result ≡ left_out_of faults.now refused.now changed }
 {
-    done.faults.len() as u128 + done.kept.refused.len() as u128 + done.changed as u128
+    faults.len() as u128 + refused.len() as u128 + changed as u128
 }
 
-#[tactic(auto, unfolding(crate::specs::Strings::array_member))]
+#[tactic(auto, unfolding(of_json::specs::Strings::array_member))]
 fn push_tables_array(out: &mut Vec<u8>, moves: &[(u8, u8)]) -> Result<(), AllocError>
     ensures { OnOk result (out.new.items ≡ out.old.items ++ array_member (codes "tables") (listed move_object moves.now)) }
 {
@@ -65,12 +37,12 @@ fn push_tables_array(out: &mut Vec<u8>, moves: &[(u8, u8)]) -> Result<(), AllocE
     Ok(())
 }
 
-#[tactic(auto, unfolding(crate::specs::Strings::array_member))]
+#[tactic(auto, unfolding(of_json::specs::Strings::array_member))]
 fn push_text_array(out: &mut Vec<u8>, text: &[u8]) -> Result<(), AllocError>
     ensures { OnOk result (out.new.items ≡ out.old.items ++ array_member (codes "text") (listed string (lines_of text.now))) }
 {
     begin_array(out, b"text")?;
-    push_text_lines(out, text)?;
+    push_line_strings(out, 0, text)?;
     out.push(b']')?;
     Ok(())
 }
@@ -84,7 +56,8 @@ pub fn import_document(alloc: Global, done: &Import) -> Result<Vec<u8>, AllocErr
     let mut out = Vec::new(alloc);
     out.push(b'{')?;
     push_head_members(&mut out, true)?;
-    push_number_member(&mut out, b"left_out", left_out(done))?;
+    let count = left_out(&done.faults, &done.kept.refused, done.changed);
+    push_number_member(&mut out, b"left_out", count)?;
     push_refused_members(alloc, &mut out, &done.faults, &done.kept.refused)?;
     push_tables_array(&mut out, &done.moves)?;
     push_item_members(&mut out, &done.kept)?;

@@ -2,12 +2,14 @@
 ghost use Rattle.std.specs.Prelude.{◌≡◌, ◌++◌, ◌∷◌, OnOk};
 ghost use Rattle.std.specs.List.{flat_map};
 ghost use Rattle.of_json.specs.Parts.{listed};
-ghost use Rattle.of_import_report.specs.Json.{counter_member, counters_member, import_entry_members, flow_object, group_object, item_members, marks_members, move_object};
+ghost use Rattle.of_import_report.specs.Json.{flow_object, group_object, import_entry_members, import_truth_member, item_members, marks_members, move_object};
 
 use crate::refusals::push_line_member;
-use crate::strings::{begin_array, push_flag_member, push_string, push_strings};
-use of_import::{FlowLine, FlowMarks, GroupLine, KeptLines, name_of, value_of};
-use of_json::{push_key, push_match_object, push_number_member};
+use of_import::{FlowLine, FlowMarks, GroupLine, KeptLines};
+use of_json::{
+    begin_array, push_counters_member, push_key, push_match_object, push_number_member,
+    push_strings, push_truth,
+};
 use of_values::push_decimal;
 use std::alloc::AllocError;
 
@@ -80,52 +82,18 @@ fn push_group_objects(out: &mut Vec<u8>, groups: &[GroupLine]) -> Result<(), All
     }
 }
 
-// Appends what a dump counted: a name and a value.
-#[tactic(auto, unfolding(crate::specs::Json::counter_member))]
-fn push_counter(out: &mut Vec<u8>, word: &Vec<u8>) -> Result<(), AllocError>
-    ensures { OnOk result (out.new.items ≡ out.old.items ++ counter_member word.now) }
-{
-    push_string(out, name_of(word))?;
-    out.push(b':')?;
-    push_string(out, value_of(word))
-}
-
-fn push_further_counters(out: &mut Vec<u8>, words: &[Vec<u8>]) -> Result<(), AllocError>
-    ensures { OnOk result (out.new.items ≡ out.old.items ++ flat_map (λ w. 44 ∷ counter_member w) words.now) }
-{
-    for word in words {
-        out.push(b',')?;
-        push_counter(out, word)?;
-    }
-    Ok(())
-}
-
-fn push_counter_members(out: &mut Vec<u8>, words: &[Vec<u8>]) -> Result<(), AllocError>
-    ensures { OnOk result (out.new.items ≡ out.old.items ++ listed counter_member words.now) }
-{
-    match words {
-        [] => Ok(()),
-        [first, others @ ..] => {
-            push_counter(out, first)?;
-            push_further_counters(out, others)
-        }
-    }
-}
-
-#[tactic(auto, unfolding(crate::specs::Json::counters_member))]
-fn push_counters_member(out: &mut Vec<u8>, words: &[Vec<u8>]) -> Result<(), AllocError>
-    ensures { OnOk result (out.new.items ≡ out.old.items ++ counters_member words.now) }
+/// Appends a further member: true or false.
+#[tactic(auto, unfolding(crate::specs::Json::import_truth_member))]
+pub fn push_flag_member(out: &mut Vec<u8>, name: &[u8], flag: bool) -> Result<(), AllocError>
+    ensures { OnOk result (out.new.items ≡ out.old.items ++ import_truth_member name.now flag) }
 {
     out.push(b',')?;
-    push_key(out, b"counters")?;
-    out.push(b'{')?;
-    push_counter_members(out, words)?;
-    out.push(b'}')?;
-    Ok(())
+    push_key(out, name)?;
+    push_truth(out, flag)
 }
 
 // Appends what a flow text does not have of a flow.
-#[tactic(auto, unfolding(crate::specs::Json::marks_members, crate::specs::Strings::array_member))]
+#[tactic(auto, unfolding(crate::specs::Json::marks_members, of_json::specs::Strings::array_member))]
 fn push_marks_members(out: &mut Vec<u8>, marks: &FlowMarks) -> Result<(), AllocError>
     ensures { OnOk result (out.new.items ≡ out.old.items ++ marks_members marks.now) }
 {
@@ -183,7 +151,7 @@ fn push_flow_objects(out: &mut Vec<u8>, flows: &[FlowLine]) -> Result<(), AllocE
 }
 
 /// Appends groups and flows.
-#[tactic(auto, unfolding(crate::specs::Json::item_members, crate::specs::Strings::array_member))]
+#[tactic(auto, unfolding(crate::specs::Json::item_members, of_json::specs::Strings::array_member))]
 pub fn push_item_members(out: &mut Vec<u8>, kept: &KeptLines) -> Result<(), AllocError>
     ensures { OnOk result (out.new.items ≡ out.old.items ++ item_members kept.now) }
 {

@@ -3,14 +3,13 @@
 
 mod answer;
 mod document;
-mod flow_lines;
 mod items;
 mod keywords;
+mod origins;
 mod refusals;
-mod strings;
 mod whys;
 
 pub use answer::{Answer, import_as_json};
 pub use document::left_out;
-pub use flow_lines::flow_lines_of;
+pub use origins::table_origins;
 pub use whys::why_words;

@@ -3,17 +3,16 @@ ghost use Rattle.std.specs.Prelude.{◌≡◌, ◌++◌, ◌∷◌, codes, OnOk}
 ghost use Rattle.std.specs.List.{flat_map};
 ghost use Rattle.std.specs.Option.{option_map};
 ghost use Rattle.of_json.specs.Parts.{listed};
+ghost use Rattle.of_json.specs.Strings.{array_member};
 ghost use Rattle.of_wire.specs.CodeNames.{error_name};
 ghost use Rattle.of_import_report.specs.Json.{error_member, fault_object, keyword_object, import_line_member, refusal_object, refused_members, word_object};
 ghost use Rattle.of_import_report.specs.Keywords.{keywords_in};
-ghost use Rattle.of_import_report.specs.Strings.{array_member};
 ghost use Rattle.of_import_report.specs.Views.{view_names};
 
 use crate::keywords::{count_lines_with, keywords};
-use crate::strings::{begin_array, push_string};
 use crate::whys::why_words;
 use of_import::{LineFaults, LineRefusal, WordFault};
-use of_json::{push_key, push_number_member, push_text_member};
+use of_json::{begin_array, push_key, push_number_member, push_string, push_text_member};
 use of_values::push_decimal;
 use of_wire::Code;
 use std::alloc::{AllocError, Global};
@@ -63,7 +62,7 @@ fn push_word_objects(out: &mut Vec<u8>, faults: &[WordFault]) -> Result<(), Allo
 }
 
 // Appends a line with words that are refused.
-#[tactic(auto, unfolding(crate::specs::Json::fault_object, crate::specs::Strings::array_member))]
+#[tactic(auto, unfolding(crate::specs::Json::fault_object, of_json::specs::Strings::array_member))]
 fn push_fault_object(out: &mut Vec<u8>, line: &LineFaults) -> Result<(), AllocError>
     ensures { OnOk result (out.new.items ≡ out.old.items ++ fault_object line.now) }
 {
@@ -202,7 +201,7 @@ fn push_keywords_of(
     push_keywords(out, faults, &names)
 }
 
-#[tactic(auto, unfolding(crate::specs::Strings::array_member))]
+#[tactic(auto, unfolding(of_json::specs::Strings::array_member))]
 fn push_faults_array(out: &mut Vec<u8>, faults: &[LineFaults]) -> Result<(), AllocError>
     ensures { OnOk result (out.new.items ≡ out.old.items ++ array_member (codes "faults") (listed fault_object faults.now)) }
 {
@@ -212,7 +211,7 @@ fn push_faults_array(out: &mut Vec<u8>, faults: &[LineFaults]) -> Result<(), All
     Ok(())
 }
 
-#[tactic(auto, unfolding(crate::specs::Strings::array_member))]
+#[tactic(auto, unfolding(of_json::specs::Strings::array_member))]
 fn push_refused_array(out: &mut Vec<u8>, refused: &[LineRefusal]) -> Result<(), AllocError>
     ensures { OnOk result (out.new.items ≡ out.old.items ++ array_member (codes "refused") (listed refusal_object refused.now)) }
 {
@@ -222,7 +221,7 @@ fn push_refused_array(out: &mut Vec<u8>, refused: &[LineRefusal]) -> Result<(), 
     Ok(())
 }
 
-#[tactic(auto, unfolding(crate::specs::Strings::array_member))]
+#[tactic(auto, unfolding(of_json::specs::Strings::array_member))]
 fn push_keywords_array(
     alloc: Global,
     out: &mut Vec<u8>,

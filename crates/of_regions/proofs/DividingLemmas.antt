@@ -1,5 +1,5 @@
 -- Bits of numbers.
-use Rattle.std.proofs.Common.{◌≡◌, ℕ, zero, suc, ◌+◌, ◌*◌, ◌/◌, ◌%◌, ◌^◌, ◌<◌, ◌≤◌, Bool, true, false, eqb, Option, Some, None, refl, sym, ap, ◌∙◌, subst, arith, inl, inr}
+use Rattle.std.proofs.Common.{◌≡◌, ℕ, zero, suc, ◌*◌, ◌/◌, ◌%◌, ◌^◌, ◌<◌, ◌≤◌, Bool, true, false, eqb, Option, Some, None, refl, sym, ap, ◌∙◌, arith, inl, inr}
 use Rattle.std.specs.Prelude.{bit_and, bit_or, bit_xor, ◌⊎◌}
 use Rattle.std.specs.Int.{bit_at}
 use Rattle.std.specs.Int.Bits.{and_comm}
@@ -10,11 +10,9 @@ use Rattle.std.proofs.lemmas.Bool.{eqb-true, eq-eqb}
 use Rattle.std.proofs.lemmas.Nat.{and_assoc, and_le_l}
 use Rattle.of_layers.specs.Fields.{ones_of}
 use Rattle.of_oxm.specs.declared.match_field.MatchField.{MatchField}
-use Rattle.of_oxm.specs.NormalForm.{IsKept}
 use Rattle.of_oxm.specs.Relations.{bits_looked_at}
-use Rattle.of_oxm.proofs.Joined.{covered}
 use Rattle.of_regions.specs.Meeting.{is_apart, is_settled}
-use Rattle.of_regions.proofs.RuleLemmas.{mask_within}
+use Rattle.of_regions.specs.Conditions.{IsCondition}
 use Rattle.of_headers.specs.FieldMap.{seen}
 use Rattle.of_regions.specs.Dividing.{AreWithout, IsBitOf}
 
@@ -152,16 +150,13 @@ pub record Crossing (e : MatchField) (mask known bit : ℕ) : Type 0 where
   pub within : bit_and bit (ones_of e.field) ≡ bit
   pub new : bit_and bit mask ≡ 0
 
-looked_within : (e : MatchField) → IsKept e → bit_and (bits_looked_at e) (ones_of e.field) ≡ bits_looked_at e
-looked_within e k = mask_within e.field e.value e.mask k.mask
-
 -- some bit is not known that the field looks at
-unknown_some : (e : MatchField) (mask known rest : ℕ) → IsKept e → AreWithout (bits_looked_at e) mask rest → is_settled e (Some mask) (Some known) ≡ false → is_apart e (Some mask) (Some known) ≡ false → rest ≡ 0 → ⊥
+unknown_some : (e : MatchField) (mask known rest : ℕ) → IsCondition e → AreWithout (bits_looked_at e) mask rest → is_settled e (Some mask) (Some known) ≡ false → is_apart e (Some mask) (Some known) ≡ false → rest ≡ 0 → ⊥
 unknown_some e mask known rest k w unsettled near z =
     let wide : bit_and (bits_looked_at e) mask ≡ bits_looked_at e = w.all z in
     let agree : bit_and known (bits_looked_at e) ≡ bit_and e.value mask = near_agrees (bit_and known (bits_looked_at e)) (bit_and e.value mask) near in
     let under : bit_and e.value mask ≡ e.value =
-    ap (λ (n : ℕ). bit_and n mask) (sym (covered e k)) ∙ and_assoc mask e.value (bits_looked_at e) ∙ ap (bit_and e.value) wide ∙ covered e k in
+    ap (λ (n : ℕ). bit_and n mask) (sym k.value) ∙ and_assoc mask e.value (bits_looked_at e) ∙ ap (bit_and e.value) wide ∙ k.value in
     let settled : is_settled e (Some mask) (Some known) ≡ true = rw (eq-eqb _ _ wide, eq-eqb _ _ (agree ∙ under)) refl in
     cc
   where
@@ -172,15 +167,15 @@ unknown_some e mask known rest k w unsettled near z =
         by_test true s n = eqb-true _ _ s
         by_test false s n = absurd cc
 
-pub some_left : (e : MatchField) (mask known rest : ℕ) → IsKept e → AreWithout (bits_looked_at e) mask rest → is_settled e (Some mask) (Some known) ≡ false → is_apart e (Some mask) (Some known) ≡ false → 0 < rest
+pub some_left : (e : MatchField) (mask known rest : ℕ) → IsCondition e → AreWithout (bits_looked_at e) mask rest → is_settled e (Some mask) (Some known) ≡ false → is_apart e (Some mask) (Some known) ≡ false → 0 < rest
 some_left e mask known zero k w unsettled near = absurd (unknown_some e mask known zero k w unsettled near refl)
 some_left e mask known (suc n) k w unsettled near = omega arith
 
-pub crossing : (e : MatchField) (mask known rest bit : ℕ) → IsKept e → AreWithout (bits_looked_at e) mask rest → IsBitOf rest bit → Crossing e mask known bit
+pub crossing : (e : MatchField) (mask known rest bit : ℕ) → IsCondition e → AreWithout (bits_looked_at e) mask rest → IsBitOf rest bit → Crossing e mask known bit
 crossing e mask known rest bit k w b =
     let looked : bit_and bit (bits_looked_at e) ≡ bit = ap (λ (n : ℕ). bit_and n (bits_looked_at e)) (sym b.among) ∙ and_assoc (bits_looked_at e) bit rest ∙ ap (bit_and bit) w.among ∙ b.among in
     record {
-      within = ap (λ (n : ℕ). bit_and n (ones_of e.field)) (sym looked) ∙ and_assoc (ones_of e.field) bit (bits_looked_at e) ∙ ap (bit_and bit) (looked_within e k) ∙ looked;
+      within = ap (λ (n : ℕ). bit_and n (ones_of e.field)) (sym looked) ∙ and_assoc (ones_of e.field) bit (bits_looked_at e) ∙ ap (bit_and bit) k.within ∙ looked;
       new = ap (λ (n : ℕ). bit_and n mask) (sym b.among) ∙ and_assoc mask bit rest ∙ ap (bit_and bit) w.none ∙ and_zero bit;
     }
   where

@@ -1,8 +1,7 @@
 -- Regions with more conditions.
-use Rattle.std.proofs.Common.{◌≡◌, ◌≢◌, ◌⊎◌, ◌<◌, ◌+◌, ℕ, zero, suc, Bool, true, false, cond, eqb, List, [], ◌∷◌, ◌++◌, length, get_or, take, Option, Some, None, refl, sym, ap, ◌∙◌, subst, arith, inl, inr}
+use Rattle.std.proofs.Common.{◌≡◌, ◌⊎◌, ◌<◌, ℕ, zero, suc, Bool, true, false, cond, eqb, List, [], ◌∷◌, ◌++◌, length, get_or, take, Option, Some, None, refl, sym, ap, ◌∙◌, subst, arith, inl, inr}
 use Rattle.std.specs.Prelude.{bit_and, bit_or, unwrap_or, IfSome, ◌||◌, ◌&&◌}
 use Rattle.std.specs.List.{Contains, list_all, list_any}
-use Rattle.std.specs.Int.Bits.{and_comm}
 use Rattle.std.proofs.lemmas.Bool.{eq-eqb, eqb-true}
 use Rattle.std.proofs.lemmas.Nat.{and_assoc, and_le_l}
 use Rattle.std.proofs.lemmas.List.Elements.{Contains-append_cases, Contains-append_left, Contains-append_right, Contains-push_cases}
@@ -43,16 +42,14 @@ pub seen_agrees : (e : MatchField) (o : Option ℕ) → seen (Some (bits_looked_
 seen_agrees e None h = absurd cc
 seen_agrees e (Some v) h = eq-eqb _ _ (let s : bit_and v (bits_looked_at e) ≡ e.value = cc in s)
 
--- the bits of a condition are those of its field, and its value is under them
-pub condition_bits : (e : MatchField) → IsCondition e → bit_and (bits_looked_at e) (ones_of e.field) ≡ bits_looked_at e
-condition_bits e (inl k) = mask_within e.field e.value e.mask k.mask
-condition_bits e (inr z) =
-    let none : bits_looked_at e ≡ 0 = ap (λ (m : Option ℕ). unwrap_or m (ones_of e.field)) z.0 in
-    rw none (omega (arith, and_le_l 0 (ones_of e.field)))
+-- a field of a match is a condition, and so is a mask without bits
+pub kept_condition : (e : MatchField) → IsKept e → IsCondition e
+kept_condition e k = record { within = mask_within e.field e.value e.mask k.mask; value = covered e k }
 
-pub condition_value : (e : MatchField) → IsCondition e → bit_and e.value (bits_looked_at e) ≡ e.value
-condition_value e (inl k) = covered e k
-condition_value e (inr z) = rw z.1 (omega (arith, and_le_l 0 (bits_looked_at e)))
+pub any_value : (e : MatchField) → e.mask ≡ Some 0 → e.value ≡ 0 → IsCondition e
+any_value e none nil =
+    let nothing : bits_looked_at e ≡ 0 = ap (λ (m : Option ℕ). unwrap_or m (ones_of e.field)) none in
+    record { within = rw nothing (omega (arith, and_le_l 0 (ones_of e.field))); value = rw nil (omega (arith, and_le_l 0 (bits_looked_at e))) }
 
 -- ---- more known bits of a field
 
@@ -118,7 +115,7 @@ module _ (r q : Region) (e : MatchField) (mask known : ℕ) (condition : IsCondi
   own = rw (sym m, sym k) (r.each e.field)
 
   pub more_known : is_known_by (ones_of e.field) (rule_in r.shape r.tagging e.field) (Some (bit_or (bits_looked_at e) mask)) (Some (bit_or e.value known)) ≡ true
-  more_known = still_known (ones_of e.field) (rule_in r.shape r.tagging e.field) mask known (bits_looked_at e) e.value own (condition_bits e condition) (condition_value e condition) same
+  more_known = still_known (ones_of e.field) (rule_in r.shape r.tagging e.field) mask known (bits_looked_at e) e.value own condition.within condition.value same
 
   module _ (masks_are : (f : Field) → mask_at q.masks f ≡ cond (eqb (number_of f) (number_of e.field)) (Some (bit_or (bits_looked_at e) mask)) (mask_at r.masks f))
       (known_are : (f : Field) → value q.known f ≡ cond (eqb (number_of f) (number_of e.field)) (Some (bit_or e.value known)) (value r.known f)) where
@@ -127,8 +124,8 @@ module _ (r q : Region) (e : MatchField) (mask known : ℕ) (condition : IsCondi
         let rule = rule_in r.shape r.tagging e.field in
         let here = own_among (mask_at r.masks) (value r.known) (mask_at q.masks) (value q.known) e.field (Some (bit_or (bits_looked_at e) mask)) (Some (bit_or e.value known)) masks_are known_are map h in (
           was_among (mask_at r.masks) (value r.known) (mask_at q.masks) (value q.known) e.field (Some (bit_or (bits_looked_at e) mask)) (Some (bit_or e.value known)) masks_are known_are
-              (λ o s. ap (λ x. seen x o) m ∙ (was_seen (ones_of e.field) rule mask known (bits_looked_at e) e.value own (condition_bits e condition) (condition_value e condition) same o s ∙ sym k)) map h,
-          seen_agrees e (map e.field) (asks_seen (ones_of e.field) rule mask known (bits_looked_at e) e.value own (condition_bits e condition) (condition_value e condition) same (map e.field) here),
+              (λ o s. ap (λ x. seen x o) m ∙ (was_seen (ones_of e.field) rule mask known (bits_looked_at e) e.value own condition.within condition.value same o s ∙ sym k)) map h,
+          seen_agrees e (map e.field) (asks_seen (ones_of e.field) rule mask known (bits_looked_at e) e.value own condition.within condition.value same (map e.field) here),
         )
 
     pub narrowed_all : (map : Field → Option ℕ) → InRegion r map → agrees e (map e.field) ≡ true → InRegion q map
@@ -136,14 +133,14 @@ module _ (r q : Region) (e : MatchField) (mask known : ℕ) (condition : IsCondi
         let rule = rule_in r.shape r.tagging e.field in
         let here : seen (Some mask) (map e.field) ≡ Some known = ap (λ x. seen x (map e.field)) (sym m) ∙ (h e.field ∙ k) in
         set_among (mask_at r.masks) (value r.known) (mask_at q.masks) (value q.known) e.field (Some (bit_or (bits_looked_at e) mask)) (Some (bit_or e.value known)) masks_are known_are map h
-        (both_seen (ones_of e.field) rule mask known (bits_looked_at e) e.value own (condition_bits e condition) (condition_value e condition) same (map e.field) (agrees_seen e (map e.field) a) here)
+        (both_seen (ones_of e.field) rule mask known (bits_looked_at e) e.value own condition.within condition.value same (map e.field) (agrees_seen e (map e.field) a) here)
 
 -- no packet agrees with both
 pub none_agrees : (r : Region) (e : MatchField) (mask known : ℕ) → IsCondition e → mask_at r.masks e.field ≡ Some mask → value r.known e.field ≡ Some known → ¬ (bit_and e.value mask ≡ bit_and known (bits_looked_at e)) → (map : Field → Option ℕ) → InRegion r map → agrees e (map e.field) ≡ true → ⊥
 none_agrees r e mask known condition m k other map h a =
     let own : is_known_by (ones_of e.field) (rule_in r.shape r.tagging e.field) (Some mask) (Some known) ≡ true = rw (sym m, sym k) (r.each e.field) in
     let here : seen (Some mask) (map e.field) ≡ Some known = ap (λ x. seen x (map e.field)) (sym m) ∙ (h e.field ∙ k) in
-    other (both_agree (ones_of e.field) (rule_in r.shape r.tagging e.field) mask known (bits_looked_at e) e.value own (condition_bits e condition) (condition_value e condition) (map e.field) (agrees_seen e (map e.field) a) here)
+    other (both_agree (ones_of e.field) (rule_in r.shape r.tagging e.field) mask known (bits_looked_at e) e.value own condition.within condition.value (map e.field) (agrees_seen e (map e.field) a) here)
 
 -- a packet without the field agrees with no condition on it
 pub none_there : (r : Region) (e : MatchField) (mask : ℕ) → mask_at r.masks e.field ≡ Some mask → value r.known e.field ≡ None → (map : Field → Option ℕ) → InRegion r map → agrees e (map e.field) ≡ true → ⊥

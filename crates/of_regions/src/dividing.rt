@@ -6,7 +6,6 @@ ghost use Rattle.of_layers.specs.declared.field.Field.TheVariants.{VlanVid};
 ghost use Rattle.of_headers.specs.FieldMap.{seen, value};
 ghost use Rattle.of_shapes.specs.declared.shape.Tagging.TheVariants.{Tagged, Untagged};
 ghost use Rattle.of_oxm.specs.Masks.{mask_at};
-ghost use Rattle.of_oxm.specs.NormalForm.{IsKept};
 ghost use Rattle.of_shapes.specs.Rules.{IsTagging};
 ghost use Rattle.of_regions.specs.Conditions.{IsCondition};
 ghost use Rattle.of_regions.specs.Dividing.{AreWithout, IsBitOf};
@@ -72,7 +71,7 @@ impl Region {
 
     // Those whose field has a bit, and those whose field lacks it.
     fn by_bit(self, e: &MatchField, mask: u128, known: u128) -> (Region, Region)
-        requires kept { IsKept e.now }
+        requires condition { IsCondition e.now }
         requires crossed { IsCrossed self e.now }
         requires mask { mask_at self.masks e.now.field ≡ Some mask }
         requires known { value self.known e.now.field ≡ Some known }

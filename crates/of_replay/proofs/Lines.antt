@@ -120,36 +120,46 @@ run_text (e ∷ es) fs s =
 
 -- WHAT IS PRINTED, line after line
 
-tale_joined : (tale : RowText) (r : Option (Option Event)) (line : List ℕ) (lines more : List (List ℕ)) (s : State)
-    → ((t : State) → (rows_of_lines lines).bad ≡ None → told_from tale (lines ++ more) t ≡ told_from tale lines t ++ told_from tale more (run (rows_of_lines lines).events t).state)
+tale_joined : (tale : RowText) (r : Option (Option Event)) (n : ℕ) (line : List ℕ) (lines more : List (List ℕ)) (s : State)
+    → ((t : State) → (rows_of_lines lines).bad ≡ None → told_from tale (n + 1) (lines ++ more) t ≡ told_from tale (n + 1) lines t ++ told_from tale (n + suc (length lines)) more (run (rows_of_lines lines).events t).state)
     → (row_and r (rows_of_lines lines)).bad ≡ None
-    → told_and tale s line r (told_from tale (lines ++ more)) ≡ told_and tale s line r (told_from tale lines) ++ told_from tale more (run (row_and r (rows_of_lines lines)).events s).state
-tale_joined tale None line lines more s ih good = cc
-tale_joined tale (Some row) line lines more s ih good =
+    → told_and tale n s line r (told_from tale (n + 1) (lines ++ more)) ≡ told_and tale n s line r (told_from tale (n + 1) lines) ++ told_from tale (n + suc (length lines)) more (run (row_and r (rows_of_lines lines)).events s).state
+tale_joined tale None n line lines more s ih good = cc
+tale_joined tale (Some row) n line lines more s ih good =
     let t = (row_happened s row).state in
     let es = (rows_of_lines lines).events in
+    let m = n + suc (length lines) in
     let same : (run es t).state ≡ (run (events_in row ++ es) s).state = ap (λ (x : State). (run es x).state) (row_state row s) ∙ sym (run_state (events_in row) es s) in
-    ap (λ (x : List ℕ). tale s line row ++ x) (ih t (was_good (rows_of_lines lines).bad good))
-    ∙ (sym (append_assoc (tale s line row) (told_from tale lines t) (told_from tale more (run es t).state))
-    ∙ ap (λ (x : State). (tale s line row ++ told_from tale lines t) ++ told_from tale more x) same)
+    ap (λ (x : List ℕ). tale n s line row ++ x) (ih t (was_good (rows_of_lines lines).bad good))
+    ∙ (sym (append_assoc (tale n s line row) (told_from tale (n + 1) lines t) (told_from tale m more (run es t).state))
+    ∙ ap (λ (x : State). (tale n s line row ++ told_from tale (n + 1) lines t) ++ told_from tale m more x) same)
 
 -- of lines of which none is bad, and then of others
-pub tale_join : (tale : RowText) (lines more : List (List ℕ)) (s : State) → (rows_of_lines lines).bad ≡ None → told_from tale (lines ++ more) s ≡ told_from tale lines s ++ told_from tale more (run (rows_of_lines lines).events s).state
-tale_join tale [] more s good = refl
-tale_join tale (line ∷ lines) more s good = tale_joined tale (row_of_line line) line lines more s (λ t. tale_join tale lines more t) good
+tale_after : (tale : RowText) (n : ℕ) (lines more : List (List ℕ)) (s : State) → (rows_of_lines lines).bad ≡ None → told_from tale n (lines ++ more) s ≡ told_from tale n lines s ++ told_from tale (n + length lines) more (run (rows_of_lines lines).events s).state
+tale_after tale n [] more s good = let same : n ≡ n + 0 = omega arith in ap (λ (m : ℕ). told_from tale m more s) same
+tale_after tale n (line ∷ lines) more s good =
+    let counted : n + 1 + length lines ≡ n + suc (length lines) = omega arith in
+    tale_joined tale (row_of_line line) n line lines more s
+    (λ t g. tale_after tale (n + 1) lines more t g ∙ ap (λ (m : ℕ). told_from tale (n + 1) lines t ++ told_from tale m more (run (rows_of_lines lines).events t).state) counted) good
 
-tale_first : (tale : RowText) (line : List ℕ) (row : Option Event) (more : List (List ℕ)) (s : State) → row_of_line line ≡ Some row → told_from tale (line ∷ more) s ≡ tale s line row ++ told_from tale more (row_happened s row).state
-tale_first tale line row more s is = ap (λ (r : Option (Option Event)). told_and tale s line r (told_from tale more)) is
+-- where the line behind them has that number
+pub tale_join : (tale : RowText) (n : ℕ) (lines more : List (List ℕ)) (s : State) → n ≡ length lines + 1 → (rows_of_lines lines).bad ≡ None → told s tale (lines ++ more) ≡ told s tale lines ++ told_from tale n more (run (rows_of_lines lines).events s).state
+tale_join tale n lines more s is good =
+    let counted : 1 + length lines ≡ n = omega (arith, is) in
+    tale_after tale 1 lines more s good ∙ ap (λ (m : ℕ). told s tale lines ++ told_from tale m more (run (rows_of_lines lines).events s).state) counted
 
-tale_bad : (tale : RowText) (line : List ℕ) (more : List (List ℕ)) (s : State) → row_of_line line ≡ None → told_from tale (line ∷ more) s ≡ []
-tale_bad tale line more s is = ap (λ (r : Option (Option Event)). told_and tale s line r (told_from tale more)) is
+tale_first : (tale : RowText) (n : ℕ) (line : List ℕ) (row : Option Event) (more : List (List ℕ)) (s : State) → row_of_line line ≡ Some row → told_from tale n (line ∷ more) s ≡ tale n s line row ++ told_from tale (n + 1) more (row_happened s row).state
+tale_first tale n line row more s is = ap (λ (r : Option (Option Event)). told_and tale n s line r (told_from tale (n + 1) more)) is
+
+tale_bad : (tale : RowText) (n : ℕ) (line : List ℕ) (more : List (List ℕ)) (s : State) → row_of_line line ≡ None → told_from tale n (line ∷ more) s ≡ []
+tale_bad tale n line more s is = ap (λ (r : Option (Option Event)). told_and tale n s line r (told_from tale (n + 1) more)) is
 
 -- what `replay` prints
 
-plain_and : (r : Option (Option Event)) (line : List ℕ) (lines : List (List ℕ)) (s : State) → ((t : State) → told_from plain_row_text lines t ≡ printed_from t (rows_of_lines lines).events)
-    → told_and plain_row_text s line r (told_from plain_row_text lines) ≡ printed_from s (row_and r (rows_of_lines lines)).events
-plain_and None line lines s ih = refl
-plain_and (Some row) line lines s ih =
+plain_and : (r : Option (Option Event)) (n : ℕ) (line : List ℕ) (lines : List (List ℕ)) (s : State) → ((t : State) → told_from plain_row_text (n + 1) lines t ≡ printed_from t (rows_of_lines lines).events)
+    → told_and plain_row_text n s line r (told_from plain_row_text (n + 1) lines) ≡ printed_from s (row_and r (rows_of_lines lines)).events
+plain_and None n line lines s ih = refl
+plain_and (Some row) n line lines s ih =
     let t = (row_happened s row).state in
     let es = (rows_of_lines lines).events in
     ap (λ (x : List ℕ). report_text (row_happened s row).report ++ x) (ih t)
@@ -157,9 +167,12 @@ plain_and (Some row) line lines s ih =
     ∙ (ap (λ (x : State). printed_from s (events_in row) ++ printed_from x es) (row_state row s)
     ∙ sym (run_text (events_in row) es s)))
 
-pub plain_is : (lines : List (List ℕ)) (s : State) → told_from plain_row_text lines s ≡ printed_from s (rows_of_lines lines).events
-plain_is [] s = refl
-plain_is (line ∷ lines) s = plain_and (row_of_line line) line lines s (λ t. plain_is lines t)
+plain_from : (n : ℕ) (lines : List (List ℕ)) (s : State) → told_from plain_row_text n lines s ≡ printed_from s (rows_of_lines lines).events
+plain_from n [] s = refl
+plain_from n (line ∷ lines) s = plain_and (row_of_line line) n line lines s (λ t. plain_from (n + 1) lines t)
+
+pub plain_is : (lines : List (List ℕ)) (s : State) → told s plain_row_text lines ≡ printed_from s (rows_of_lines lines).events
+plain_is lines s = plain_from 1 lines s
 
 -- A RUN
 
@@ -204,14 +217,14 @@ going_by begun tale (Some row) lines line n n' s held out out' first taken taken
     let rows = good_rows lines line row going.good is in
     let es = (rows_of_lines lines).events in
     let now = (run es begun).state in
-    let text : h.0 ++ out' ≡ out ++ tale now line row = h.2 ∙ ap (λ (x : State). out ++ tale x line row) going.state in
-    let all : told begun tale (lines ++ line ∷ []) ≡ told begun tale lines ++ tale now line row =
-    tale_join tale lines (line ∷ []) begun going.good ∙ ap (λ (x : List ℕ). told begun tale lines ++ x) (tale_first tale line row [] now is ∙ append-nil (tale now line row)) in
+    let text : h.0 ++ out' ≡ out ++ tale n now line row = h.2 ∙ ap (λ (x : State). out ++ tale n x line row) going.state in
+    let all : told begun tale (lines ++ line ∷ []) ≡ told begun tale lines ++ tale n now line row =
+    tale_join tale n lines (line ∷ []) begun going.number going.good ∙ ap (λ (x : List ℕ). told begun tale lines ++ x) (tale_first tale n line row [] now is ∙ append-nil (tale n now line row)) in
     record {
       good = ap (λ (r : Rows). r.bad) rows;
       number = e ∙ (ap (λ (x : ℕ). x + 1) going.number ∙ ap (λ (x : ℕ). x + 1) (sym (length-append lines (line ∷ []))));
       state = h.3 ∙ (row_state row s ∙ (ap (λ (x : State). (run (events_in row) x).state) going.state ∙ (sym (run_state es (events_in row) begun) ∙ ap (λ (r : Rows). (run r.events begun).state) (sym rows))));
-      prints = prints_more begun tale lines (lines ++ line ∷ []) out h.0 out' (tale now line row) first taken taken' going.prints all h.1 text;
+      prints = prints_more begun tale lines (lines ++ line ∷ []) out h.0 out' (tale n now line row) first taken taken' going.prints all h.1 text;
     }
 
 -- some first lines were printed, where these were played before the last read
@@ -232,7 +245,7 @@ halts_by begun tale (Bad m) None earlier past lines line more n s held out out' 
     let rows : rows_of_lines (lines ++ line ∷ more) ≡ record { events = (rows_of_lines lines).events ++ []; bad = Some (length lines + 1) } =
     rows_join lines (line ∷ more) going.good ∙ ap (λ (r : Option (Option Event)). joined (rows_of_lines lines) (length lines) (row_and r (rows_of_lines more))) is in
     let all : told begun tale (lines ++ line ∷ more) ≡ told begun tale lines =
-    tale_join tale lines (line ∷ more) begun going.good ∙ (ap (λ (x : List ℕ). told begun tale lines ++ x) (tale_bad tale line more (run (rows_of_lines lines).events begun).state is) ∙ append-nil (told begun tale lines)) in (
+    tale_join tale n lines (line ∷ more) begun going.number going.good ∙ (ap (λ (x : List ℕ). told begun tale lines ++ x) (tale_bad tale n line more (run (rows_of_lines lines).events begun).state is) ∙ append-nil (told begun tale lines)) in (
       ap (λ (r : Rows). r.bad) rows ∙ ap Some (sym (h.0 ∙ going.number)),
       prints_kept begun tale lines (lines ++ line ∷ more) out out' first taken taken' h.1 h.2 all going.prints,
     )
@@ -242,12 +255,12 @@ halts_by begun tale Read r earlier past lines line more n s held out out' first 
 halts_by begun tale Write None earlier past lines line more n s held out out' first taken taken' same is going h = absurd h
 halts_by begun tale Write (Some row) earlier past lines line more n s held out out' first taken taken' same is going h =
     let now = (run (rows_of_lines lines).events begun).state in
-    let later = told_from tale more (row_happened now row).state in
-    let text = out ++ tale now line row in
-    let all : told_from tale (line ∷ more) now ≡ tale now line row ++ later = tale_first tale line row more now is in
-    let here : WrotePrefix taken text taken' = subst (λ (x : State). WrotePrefix taken (out ++ tale x line row) taken') going.state h in
-    prints_front begun tale lines (lines ++ line ∷ more) out (told_from tale (line ∷ more) now) first taken taken' going.prints (tale_join tale lines (line ∷ more) begun going.good) text later
-    (append_assoc out (tale now line row) later ∙ ap (λ (x : List ℕ). out ++ x) (sym all)) here
+    let later = told_from tale (n + 1) more (row_happened now row).state in
+    let text = out ++ tale n now line row in
+    let all : told_from tale n (line ∷ more) now ≡ tale n now line row ++ later = tale_first tale n line row more now is in
+    let here : WrotePrefix taken text taken' = subst (λ (x : State). WrotePrefix taken (out ++ tale n x line row) taken') going.state h in
+    prints_front begun tale lines (lines ++ line ∷ more) out (told_from tale n (line ∷ more) now) first taken taken' going.prints (tale_join tale n lines (line ∷ more) begun going.number going.good) text later
+    (append_assoc out (tale n now line row) later ∙ ap (λ (x : List ℕ). out ++ x) (sym all)) here
 
 -- memory ran out before a line
 halts_waiting : (begun : State) (tale : RowText) (earlier past lines more : List (List ℕ)) (n : ℕ) (s : State) (out : List ℕ) (first taken : Option (List ℕ)) → lines ≡ earlier ++ past → Going begun tale lines n s out first taken → Halts begun tale Memory earlier (lines ++ more) out first taken

@@ -1,5 +1,5 @@
 -- The row that marks where the text of the rows before it ends.
-use Rattle.std.proofs.Common.{◌≡◌, ◌++◌, ◌∷◌, [], Some, codes, refl}
+use Rattle.std.proofs.Common.{◌≡◌, ℕ, ◌++◌, ◌∷◌, [], Some, codes, refl}
 use Rattle.std.specs.Fmt.{digits}
 use Rattle.std.specs.Str.{is_utf8, chars}
 use lib.Utf8.{encode}
@@ -13,6 +13,6 @@ pub mark_row : row_of_line (codes "port remove 0") ≡ Some (Some (Ports (Remove
 unfolding is_utf8 chars encode
 mark_row = refl
 
-pub mark_text : (s : State) → plain_row_text s (codes "port remove 0") (Some (Ports (Remove 0))) ≡ codes "refused 8" ++ 10 ∷ []
+pub mark_text : (n : ℕ) (s : State) → plain_row_text n s (codes "port remove 0") (Some (Ports (Remove 0))) ≡ codes "refused 8" ++ 10 ∷ []
 unfolding digits
-mark_text s = refl
+mark_text n s = refl

@@ -179,7 +179,7 @@ flushed begun tale (Err h) before bytes kept n s out out' first taken taken' w a
 
 unwritten : (begun : State) (tale : RowText) (lines others : List (List ℕ)) (out : List ℕ) (first taken taken' : Option (List ℕ)) → (rows_of_lines lines).bad ≡ None → Prints begun tale lines out first taken → WrotePrefix taken out taken' → WrotePrefix first (told begun tale (lines ++ others)) taken'
 unwritten begun tale lines others out first taken taken' good p w =
-    prints_front begun tale lines (lines ++ others) out _ first taken taken' p (tale_join tale lines others begun good) out _ refl w
+    prints_front begun tale lines (lines ++ others) out _ first taken taken' p (tale_join tale (length lines + 1) lines others begun refl good) out _ refl w
 
 ends_unwritten : (begun : State) (tale : RowText) (result : Result (Unit {0}) Halt) (ended : Bool) (earlier lines : List (List ℕ)) (out : List ℕ) (first taken taken' : Option (List ℕ)) → Plays begun tale result ended earlier lines out first taken → (result ≡ Err Write → ⊥) → WrotePrefix taken out taken'
     → WrotePrefix first (told begun tale lines) taken'

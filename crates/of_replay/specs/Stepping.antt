@@ -44,7 +44,7 @@ PrintsReport called (Err e) out out' = e ≡ error.NoMemory
 
 -- what is printed for a line, or why the run halts at it
 abbrev pub LineTells : RowText → Result (Unit {0}) Halt → ℕ → List ℕ → Option (Option Event) → State → State → List ℕ → List ℕ → Type 0
-LineTells tale (Ok u) n line (Some row) s new out out' = (out' ≡ out ++ tale s line row) × (new ≡ (row_happened s row).state)
+LineTells tale (Ok u) n line (Some row) s new out out' = (out' ≡ out ++ tale n s line row) × (new ≡ (row_happened s row).state)
 LineTells tale (Ok u) n line None s new out out' = ⊥
 LineTells tale (Err (halt.Bad m)) n line (Some row) s new out out' = ⊥
 LineTells tale (Err (halt.Bad m)) n line None s new out out' = (m ≡ n) × (out' ≡ out)
@@ -55,13 +55,13 @@ LineTells tale (Err halt.Write) n line row s new out out' = ⊥
 -- the text of a row is written or still to be written, after what was to be written before
 abbrev pub LineGoes : RowText → Result (Unit {0}) Halt → ℕ → List ℕ → Option (Option Event) → State → State → List ℕ → List ℕ → Option (List ℕ) → Option (List ℕ) → Type 0
 LineGoes tale (Ok u) n line (Some row) s new out out' taken taken' =
-    (wrote : List ℕ) × Appends taken taken' wrote × (wrote ++ out' ≡ out ++ tale s line row) × (new ≡ (row_happened s row).state)
+    (wrote : List ℕ) × Appends taken taken' wrote × (wrote ++ out' ≡ out ++ tale n s line row) × (new ≡ (row_happened s row).state)
 LineGoes tale (Ok u) n line None s new out out' taken taken' = ⊥
 LineGoes tale (Err (halt.Bad m)) n line (Some row) s new out out' taken taken' = ⊥
 LineGoes tale (Err (halt.Bad m)) n line None s new out out' taken taken' = (m ≡ n) × (out' ≡ out) × (taken' ≡ taken)
 LineGoes tale (Err halt.Memory) n line row s new out out' taken taken' = (out' ≡ out) × (taken' ≡ taken)
 LineGoes tale (Err halt.Read) n line row s new out out' taken taken' = ⊥
-LineGoes tale (Err halt.Write) n line (Some row) s new out out' taken taken' = WrotePrefix taken (out ++ tale s line row) taken'
+LineGoes tale (Err halt.Write) n line (Some row) s new out out' taken taken' = WrotePrefix taken (out ++ tale n s line row) taken'
 LineGoes tale (Err halt.Write) n line None s new out out' taken taken' = ⊥
 
 -- A RUN, on a switch that was in the state `begun` before it

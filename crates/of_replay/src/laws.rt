@@ -20,7 +20,7 @@ ghost use Rattle.of_replay.specs.RowTexts.{plain_row_text, row_happened};
 pub fn mark_changes_nothing()
     ensures row { row_of_line (codes "port remove 0") ≡ Some (Some (Ports (Remove 0))) }
     ensures same { (s : State) → row_happened s (Some (Ports (Remove 0))) ≡ record { report = IsRefused BadPortNumber; state = s } }
-    ensures text { (s : State) → plain_row_text s (codes "port remove 0") (Some (Ports (Remove 0))) ≡ codes "refused 8" ++ 10 ∷ [] }
+    ensures text { (n : ℕ) (s : State) → plain_row_text n s (codes "port remove 0") (Some (Ports (Remove 0))) ≡ codes "refused 8" ++ 10 ∷ [] }
 {}
 
 /// From the bytes of a file to the bytes of the output, where no read and no write fails and memory suffices: where a reader has `file` left, and all of

@@ -20,6 +20,7 @@ impl<L: Lookup> RowPrinter<L> for Plain {
         &self,
         alloc: Global,
         switch: &mut Switch<L>,
+        _number: u64,
         _line: &[u8],
         row: Row,
         bytes: &[u8],

@@ -76,6 +76,7 @@ impl<L: Lookup> Replaying<L> {
         let told = teller.tell(
             self.alloc,
             &mut self.switch,
+            self.number,
             self.open.bytes(),
             row,
             &self.bytes,

@@ -1,7 +1,8 @@
 -- THE LINES OF FLOW ENTRIES in a flow text: those that begin `flow T `, by number from 1, for each table T.
-use Rattle.std.specs.Prelude.{ℕ, zero, suc, ◌+◌, ◌&&◌, Bool, List, [], ◌∷◌, ◌++◌, codes, decimal, if◌then◌else◌}
+use Rattle.std.specs.Prelude.{ℕ, zero, suc, ◌+◌, ◌&&◌, Bool, List, [], ◌∷◌, ◌++◌, codes, decimal, map, if◌then◌else◌}
 use Rattle.std.specs.Str.{bytes_eq}
 use Rattle.of_text.specs.Lines.{lines_of, before, behind}
+use Rattle.of_values.specs.Origins.{EntryOrigin}
 
 -- the first word of a line is `flow`, and the second one the number of the table
 abbrev pub begins_flow_of_table : ℕ → List ℕ → Bool
@@ -19,7 +20,14 @@ numbers_from table n (line ∷ lines) = number_if (begins_flow_of_table table li
 unfoldable pub flow_lines : ℕ → List ℕ → List ℕ
 flow_lines table text = numbers_from table 0 (lines_of text)
 
+-- where its entries come from: a flow text counts nothing
+abbrev pub at_line : ℕ → EntryOrigin
+at_line n = record { line = n; counters = [] }
+
+abbrev pub text_origins : ℕ → List ℕ → List EntryOrigin
+text_origins table text = map at_line (flow_lines table text)
+
 -- those of the first k tables
-unfoldable pub lines_below : ℕ → List ℕ → List (List ℕ)
-lines_below zero text = []
-lines_below (suc k) text = lines_below k text ++ flow_lines k text ∷ []
+unfoldable pub text_origins_below : ℕ → List ℕ → List (List EntryOrigin)
+text_origins_below zero text = []
+text_origins_below (suc k) text = text_origins_below k text ++ text_origins k text ∷ []

@@ -1,5 +1,5 @@
 -- THE REPORT OF `check` in words: findings first, then a summary, and then, if all is asked for, the entries that win.
-use Rattle.std.specs.Prelude.{ℕ, ◌==◌, Bool, true, false, not, ◌&&◌, ◌||◌, List, [], ◌∷◌, ◌++◌, length, filter, codes, decimal, if◌then◌else◌}
+use Rattle.std.specs.Prelude.{ℕ, ◌==◌, Bool, true, false, not, ◌&&◌, ◌||◌, List, [], ◌∷◌, ◌++◌, length, filter, codes, decimal, Option, Some, None, if◌then◌else◌}
 use Rattle.std.specs.List.{flat_map, list_any}
 use Rattle.hex.specs.Hex.{encode_lower}
 use Rattle.of_text.specs.Flows.{Flow}
@@ -10,6 +10,8 @@ use Rattle.of_check.specs.declared.verdict.Verdict.{Verdict}
 use Rattle.of_check.specs.declared.verdict.Verdict.TheVariants.{Wins, Never, Open}
 use Rattle.of_check.specs.Text.{is_never}
 use Rattle.of_values.specs.Numbers.{hexadecimal, port_in_words}
+use Rattle.of_values.specs.Origins.{EntryOrigin}
+use Rattle.of_frame_words.specs.Printed.{frame_words_of}
 use Rattle.of_report.specs.Entries.{entry}
 
 -- ---- entries that never win, each with those that shadow it
@@ -19,33 +21,48 @@ tie_words tie =
     (if tie then codes " never wins (tie: OpenFlow does not say which of two entries of one priority wins): shadowed by" else codes " never wins: shadowed by")
     ++ 10 ∷ []
 
-unfoldable pub shadow_line : List (List ℕ) → List (List Flow) → ℕ → ℕ → List ℕ
-shadow_line lines tables table place = codes "    " ++ entry lines tables table place ++ 10 ∷ []
+unfoldable pub shadow_line : List (List EntryOrigin) → List (List Flow) → ℕ → ℕ → List ℕ
+shadow_line origins tables table place = codes "    " ++ entry origins tables table place ++ 10 ∷ []
 
-abbrev pub shadow_lines : List (List ℕ) → List (List Flow) → ℕ → List ℕ → List ℕ
-shadow_lines lines tables table places = flat_map (shadow_line lines tables table) places
+abbrev pub shadow_lines : List (List EntryOrigin) → List (List Flow) → ℕ → List ℕ → List ℕ
+shadow_lines origins tables table places = flat_map (shadow_line origins tables table) places
 
-unfoldable pub never_words : List (List ℕ) → List (List Flow) → ℕ → ℕ → Verdict → List ℕ
-never_words lines tables table place (Never by tie) = entry lines tables table place ++ tie_words tie ++ shadow_lines lines tables table by.items
-never_words lines tables table place (Wins frame in_port metadata) = []
-never_words lines tables table place Open = []
+unfoldable pub never_words : List (List EntryOrigin) → List (List Flow) → ℕ → ℕ → Verdict → List ℕ
+never_words origins tables table place (Never by tie) = entry origins tables table place ++ tie_words tie ++ shadow_lines origins tables table by.items
+never_words origins tables table place (Wins frame in_port metadata) = []
+never_words origins tables table place Open = []
 
 -- ---- entries that were not decided
 
-unfoldable pub open_words : List (List ℕ) → List (List Flow) → ℕ → ℕ → Verdict → List ℕ
-open_words lines tables table place Open = entry lines tables table place ++ codes " is undecided" ++ 10 ∷ []
-open_words lines tables table place (Wins frame in_port metadata) = []
-open_words lines tables table place (Never by tie) = []
+unfoldable pub open_words : List (List EntryOrigin) → List (List Flow) → ℕ → ℕ → Verdict → List ℕ
+open_words origins tables table place Open = entry origins tables table place ++ codes " is undecided" ++ 10 ∷ []
+open_words origins tables table place (Wins frame in_port metadata) = []
+open_words origins tables table place (Never by tie) = []
 
 -- ---- entries that win, each with a packet
 
 unfoldable pub reported_packet_words : List ℕ → ℕ → ℕ → List ℕ
 reported_packet_words frame in_port metadata = codes "in_port " ++ port_in_words in_port ++ codes ", metadata " ++ hexadecimal 1 metadata ++ codes ", frame " ++ encode_lower frame
 
-unfoldable pub win_words : List (List ℕ) → List (List Flow) → ℕ → ℕ → Verdict → List ℕ
-win_words lines tables table place (Wins frame in_port metadata) = entry lines tables table place ++ codes " wins: " ++ reported_packet_words frame.items in_port metadata ++ 10 ∷ []
-win_words lines tables table place (Never by tie) = []
-win_words lines tables table place Open = []
+-- as words that `trace` takes, which say no metadata; if there are such words
+abbrev pub packet_as_words : List ℕ → ℕ → ℕ → Option (List ℕ)
+packet_as_words frame in_port metadata = if metadata == 0 then frame_words_of in_port frame else None
+
+abbrev pub words_or : Option (List ℕ) → List ℕ → List ℕ
+words_or None other = other
+words_or (Some words) other = words
+
+-- if words are asked for
+abbrev pub words_asked : Bool → Option (List ℕ) → Option (List ℕ)
+words_asked asked words = if asked then words else None
+
+unfoldable pub packet_said : Bool → List ℕ → ℕ → ℕ → List ℕ
+packet_said words frame in_port metadata = words_or (words_asked words (packet_as_words frame in_port metadata)) (reported_packet_words frame in_port metadata)
+
+unfoldable pub win_words : Bool → List (List EntryOrigin) → List (List Flow) → ℕ → ℕ → Verdict → List ℕ
+win_words words origins tables table place (Wins frame in_port metadata) = entry origins tables table place ++ codes " wins: " ++ packet_said words frame.items in_port metadata ++ 10 ∷ []
+win_words words origins tables table place (Never by tie) = []
+win_words words origins tables table place Open = []
 
 -- the lines of each finding, one after the other
 abbrev pub of_findings : (ℕ → ℕ → Verdict → List ℕ) → List Finding → List ℕ
@@ -59,14 +76,14 @@ report_table_words table = codes "table " ++ decimal table
 abbrev pub report_group_words : ℕ → List ℕ
 report_group_words id = codes "group " ++ decimal id
 
-unfoldable pub reported_remark_words : List (List ℕ) → List (List Flow) → Remark → List ℕ
-reported_remark_words lines tables (Unreachable table) = report_table_words table ++ codes " is unreachable: no goto leads to it from table 0"
-reported_remark_words lines tables (NoTableMiss table) = report_table_words table ++ codes " has no table-miss entry: packets that match none of its entries are dropped"
-reported_remark_words lines tables (EmptyGoto table place to) = entry lines tables table place ++ (codes " goes to table " ++ decimal to ++ codes ", which has no entries: its packets are dropped")
-reported_remark_words lines tables (IngressOutput table place number) = entry lines tables table place ++ (codes " sends to port " ++ port_in_words number ++ codes ", the ingress port that its match requires: nothing leaves")
-reported_remark_words lines tables (UnseenActions table place n) = entry lines tables table place ++ (codes " has at the end of its apply " ++ decimal n ++ codes " actions that nothing sees")
-reported_remark_words lines tables (UnusedGroup id) = report_group_words id ++ codes " is unused: no entry and no group names it"
-reported_remark_words lines tables (NoBuckets id) = report_group_words id ++ codes " has no buckets: packets end there"
+unfoldable pub reported_remark_words : List (List EntryOrigin) → List (List Flow) → Remark → List ℕ
+reported_remark_words origins tables (Unreachable table) = report_table_words table ++ codes " is unreachable: no goto leads to it from table 0"
+reported_remark_words origins tables (NoTableMiss table) = report_table_words table ++ codes " has no table-miss entry: packets that match none of its entries are dropped"
+reported_remark_words origins tables (EmptyGoto table place to) = entry origins tables table place ++ (codes " goes to table " ++ decimal to ++ codes ", which has no entries: its packets are dropped")
+reported_remark_words origins tables (IngressOutput table place number) = entry origins tables table place ++ (codes " sends to port " ++ port_in_words number ++ codes ", the ingress port that its match requires: nothing leaves")
+reported_remark_words origins tables (UnseenActions table place n) = entry origins tables table place ++ (codes " has at the end of its apply " ++ decimal n ++ codes " actions that nothing sees")
+reported_remark_words origins tables (UnusedGroup id) = report_group_words id ++ codes " is unused: no entry and no group names it"
+reported_remark_words origins tables (NoBuckets id) = report_group_words id ++ codes " has no buckets: packets end there"
 
 abbrev pub says_unreachable : ℕ → Remark → Bool
 says_unreachable table (Unreachable other) = other == table
@@ -77,8 +94,8 @@ abbrev pub is_finding : List Remark → Remark → Bool
 is_finding remarks (NoTableMiss table) = not (table == 0) && not (list_any (says_unreachable table) remarks)
 is_finding remarks other = true
 
-unfoldable pub reported_remark_line : Bool → List Remark → List (List ℕ) → List (List Flow) → Remark → List ℕ
-reported_remark_line all remarks lines tables r = if all || is_finding remarks r then reported_remark_words lines tables r ++ 10 ∷ [] else []
+unfoldable pub reported_remark_line : Bool → List Remark → List (List EntryOrigin) → List (List Flow) → Remark → List ℕ
+reported_remark_line all remarks origins tables r = if all || is_finding remarks r then reported_remark_words origins tables r ++ 10 ∷ [] else []
 
 -- ---- the summary: `12 flows: 9 win, 3 never win, 0 undecided`
 
@@ -103,15 +120,15 @@ summary findings =
     counted_words (length findings) (codes " flows: ") ++ counted_words (count is_win findings) (codes " win, ") ++ counted_words (count is_never findings) (codes " never win, ")
     ++ counted_words (count is_open findings) (codes " undecided") ++ 10 ∷ []
 
--- ---- THE REPORT: on these findings and remarks, where entries have these lines, and tables these flows
+-- ---- THE REPORT: on these findings and remarks, where entries come from these lines, and tables have these flows
 
-abbrev pub wins_if : Bool → List (List ℕ) → List (List Flow) → List Finding → List ℕ
-wins_if all lines tables findings = if all then of_findings (win_words lines tables) findings else []
+abbrev pub wins_if : Bool → Bool → List (List EntryOrigin) → List (List Flow) → List Finding → List ℕ
+wins_if all words origins tables findings = if all then of_findings (win_words words origins tables) findings else []
 
-unfoldable pub report_words : Bool → List (List ℕ) → List (List Flow) → List Finding → List Remark → List ℕ
-report_words all lines tables findings remarks =
-    of_findings (never_words lines tables) findings ++ of_findings (open_words lines tables) findings
-    ++ flat_map (reported_remark_line all remarks lines tables) remarks ++ summary findings ++ wins_if all lines tables findings
+unfoldable pub report_words : Bool → Bool → List (List EntryOrigin) → List (List Flow) → List Finding → List Remark → List ℕ
+report_words all words origins tables findings remarks =
+    of_findings (never_words origins tables) findings ++ of_findings (open_words origins tables) findings
+    ++ flat_map (reported_remark_line all remarks origins tables) remarks ++ summary findings ++ wins_if all words origins tables findings
 
 -- SOMETHING IS FOUND: an entry that does not win, or a remark that is a finding
 abbrev pub is_found : List Finding → List Remark → Bool

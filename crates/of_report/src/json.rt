@@ -1,13 +1,15 @@
 //! The report as JSON.
-ghost use Rattle.std.specs.Prelude.{◌≡◌, ◌++◌, ◌∷◌, IfOk, OnOk};
+ghost use Rattle.std.specs.Prelude.{◌≡◌, ◌++◌, ◌∷◌, option_map, IfOk, OnOk};
 ghost use Rattle.std.specs.List.{flat_map};
 ghost use Rattle.of_json.specs.Parts.{listed};
-ghost use Rattle.of_report.specs.Json.{finding_object, flows_member, report_head_members, never_members, packet_members, remarks_member, report_json, shadows_member, summary_member, summary_members, truth_member, verdict_members};
-ghost use Rattle.of_report.specs.Files.{view_lines};
+ghost use Rattle.of_report.specs.Json.{finding_object, flows_member, report_head_members, never_members, packet_members, remarks_member, report_json, shadows_member, summary_member, summary_members, truth_member, verdict_members, words_member};
+ghost use Rattle.of_report.specs.Report.{packet_as_words};
+ghost use Rattle.of_values.specs.Origins.{view_origins};
 
 use crate::counting::{count_open, count_shadowed, count_wins, is_found};
 use crate::json_entries::{push_entry_array, push_entry_members};
 use crate::json_remarks::push_remark_objects;
+use crate::packets::packet_words;
 use of_check::{Finding, Verdict};
 use of_json::{
     push_bytes_member, push_hex_member, push_key, push_number_member, push_quoted,
@@ -15,8 +17,31 @@ use of_json::{
 };
 use of_remarks::Remark;
 use of_text::Config;
-use of_values::push_decimal;
+use of_values::{Origin, push_decimal};
 use std::alloc::{AllocError, Global};
+
+fn push_words_member(out: &mut Vec<u8>, words: Option<Vec<u8>>) -> Result<(), AllocError>
+    ensures { OnOk result (out.new.items ≡ out.old.items ++ words_member (option_map (λ w. w.items) words)) }
+{
+    match words {
+        None => Ok(()),
+        Some(words) => push_text_member(out, b"words", &words),
+    }
+}
+
+// Appends the packet as words, if there are such.
+fn push_words(
+    alloc: Global,
+    out: &mut Vec<u8>,
+    frame: &[u8],
+    in_port: u32,
+    metadata: u64,
+) -> Result<(), AllocError>
+    ensures { OnOk result (out.new.items ≡ out.old.items ++ words_member (packet_as_words frame.now in_port metadata)) }
+{
+    let words = packet_words(alloc, frame, in_port, metadata)?;
+    push_words_member(out, words)
+}
 
 // Appends the packet with which an entry wins.
 #[tactic(auto, unfolding(crate::specs::Json::packet_members))]
@@ -32,7 +57,8 @@ fn push_packet(
     push_text_member(out, b"verdict", b"wins")?;
     push_number_member(out, b"in_port", u128::from(in_port))?;
     push_hex_member(out, b"metadata", u128::from(metadata))?;
-    push_bytes_member(alloc, out, b"frame", frame)
+    push_bytes_member(alloc, out, b"frame", frame)?;
+    push_words(alloc, out, frame, in_port, metadata)
 }
 
 #[tactic(auto, unfolding(crate::specs::Json::truth_member))]
@@ -49,31 +75,31 @@ fn push_truth_member(out: &mut Vec<u8>, name: &[u8], truth: bool) -> Result<(), 
 fn push_shadows(
     out: &mut Vec<u8>,
     config: &Config,
-    lines: &[Vec<usize>],
+    origins: &[Vec<Origin>],
     table: u8,
     by: &[usize],
 ) -> Result<(), AllocError>
-    ensures { OnOk result (out.new.items ≡ out.old.items ++ shadows_member (view_lines lines.now) config.now.tables table by.now) }
+    ensures { OnOk result (out.new.items ≡ out.old.items ++ shadows_member (view_origins origins.now) config.now.tables table by.now) }
 {
     out.push(b',')?;
     push_key(out, b"shadowed_by")?;
-    push_entry_array(out, config, lines, table, by)
+    push_entry_array(out, config, origins, table, by)
 }
 
 #[tactic(auto, unfolding(crate::specs::Json::never_members))]
 fn push_never(
     out: &mut Vec<u8>,
     config: &Config,
-    lines: &[Vec<usize>],
+    origins: &[Vec<Origin>],
     table: u8,
     by: &[usize],
     tie: bool,
 ) -> Result<(), AllocError>
-    ensures { OnOk result (out.new.items ≡ out.old.items ++ never_members (view_lines lines.now) config.now.tables table by.now tie) }
+    ensures { OnOk result (out.new.items ≡ out.old.items ++ never_members (view_origins origins.now) config.now.tables table by.now tie) }
 {
     push_text_member(out, b"verdict", b"never wins")?;
     push_truth_member(out, b"tie", tie)?;
-    push_shadows(out, config, lines, table, by)
+    push_shadows(out, config, origins, table, by)
 }
 
 #[tactic(auto, unfolding(crate::specs::Json::verdict_members))]
@@ -81,11 +107,11 @@ fn push_verdict(
     alloc: Global,
     out: &mut Vec<u8>,
     config: &Config,
-    lines: &[Vec<usize>],
+    origins: &[Vec<Origin>],
     table: u8,
     verdict: &Verdict,
 ) -> Result<(), AllocError>
-    ensures { OnOk result (out.new.items ≡ out.old.items ++ verdict_members (view_lines lines.now) config.now.tables table verdict.now) }
+    ensures { OnOk result (out.new.items ≡ out.old.items ++ verdict_members (view_origins origins.now) config.now.tables table verdict.now) }
 {
     match verdict {
         Verdict::Wins {
@@ -93,7 +119,7 @@ fn push_verdict(
             in_port,
             metadata,
         } => push_packet(alloc, out, frame, *in_port, *metadata),
-        Verdict::Never { by, tie } => push_never(out, config, lines, table, by, *tie),
+        Verdict::Never { by, tie } => push_never(out, config, origins, table, by, *tie),
         Verdict::Open => push_text_member(out, b"verdict", b"undecided"),
     }
 }
@@ -103,14 +129,14 @@ fn push_finding(
     alloc: Global,
     out: &mut Vec<u8>,
     config: &Config,
-    lines: &[Vec<usize>],
+    origins: &[Vec<Origin>],
     finding: &Finding,
 ) -> Result<(), AllocError>
-    ensures { OnOk result (out.new.items ≡ out.old.items ++ finding_object (view_lines lines.now) config.now.tables finding.now) }
+    ensures { OnOk result (out.new.items ≡ out.old.items ++ finding_object (view_origins origins.now) config.now.tables finding.now) }
 {
     out.push(b'{')?;
-    push_entry_members(out, config, lines, finding.table, finding.place)?;
-    push_verdict(alloc, out, config, lines, finding.table, &finding.verdict)?;
+    push_entry_members(out, config, origins, finding.table, finding.place)?;
+    push_verdict(alloc, out, config, origins, finding.table, &finding.verdict)?;
     out.push(b'}')?;
     Ok(())
 }
@@ -119,15 +145,15 @@ fn push_further_findings(
     alloc: Global,
     out: &mut Vec<u8>,
     config: &Config,
-    lines: &[Vec<usize>],
+    origins: &[Vec<Origin>],
     findings: &[Finding],
 ) -> Result<(), AllocError>
     ensures { OnOk result (out.new.items ≡ out.old.items ++
-        flat_map (λ f. 44 ∷ finding_object (view_lines lines.now) config.now.tables f) findings.now) }
+        flat_map (λ f. 44 ∷ finding_object (view_origins origins.now) config.now.tables f) findings.now) }
 {
     for finding in findings {
         out.push(b',')?;
-        push_finding(alloc, out, config, lines, finding)?;
+        push_finding(alloc, out, config, origins, finding)?;
     }
     Ok(())
 }
@@ -136,16 +162,16 @@ fn push_findings(
     alloc: Global,
     out: &mut Vec<u8>,
     config: &Config,
-    lines: &[Vec<usize>],
+    origins: &[Vec<Origin>],
     findings: &[Finding],
 ) -> Result<(), AllocError>
-    ensures { OnOk result (out.new.items ≡ out.old.items ++ listed (finding_object (view_lines lines.now) config.now.tables) findings.now) }
+    ensures { OnOk result (out.new.items ≡ out.old.items ++ listed (finding_object (view_origins origins.now) config.now.tables) findings.now) }
 {
     match findings {
         [] => Ok(()),
         [first, others @ ..] => {
-            push_finding(alloc, out, config, lines, first)?;
-            push_further_findings(alloc, out, config, lines, others)
+            push_finding(alloc, out, config, origins, first)?;
+            push_further_findings(alloc, out, config, origins, others)
         }
     }
 }
@@ -190,15 +216,15 @@ fn push_flows_member(
     alloc: Global,
     out: &mut Vec<u8>,
     config: &Config,
-    lines: &[Vec<usize>],
+    origins: &[Vec<Origin>],
     findings: &[Finding],
 ) -> Result<(), AllocError>
-    ensures { OnOk result (out.new.items ≡ out.old.items ++ flows_member (view_lines lines.now) config.now.tables findings.now) }
+    ensures { OnOk result (out.new.items ≡ out.old.items ++ flows_member (view_origins origins.now) config.now.tables findings.now) }
 {
     out.push(b',')?;
     push_key(out, b"flows")?;
     out.push(b'[')?;
-    push_findings(alloc, out, config, lines, findings)?;
+    push_findings(alloc, out, config, origins, findings)?;
     out.push(b']')?;
     Ok(())
 }
@@ -207,35 +233,35 @@ fn push_flows_member(
 fn push_remarks_member(
     out: &mut Vec<u8>,
     config: &Config,
-    lines: &[Vec<usize>],
+    origins: &[Vec<Origin>],
     remarks: &[Remark],
 ) -> Result<(), AllocError>
-    ensures { OnOk result (out.new.items ≡ out.old.items ++ remarks_member (view_lines lines.now) config.now.tables remarks.now) }
+    ensures { OnOk result (out.new.items ≡ out.old.items ++ remarks_member (view_origins origins.now) config.now.tables remarks.now) }
 {
     out.push(b',')?;
     push_key(out, b"remarks")?;
     out.push(b'[')?;
-    push_remark_objects(out, config, lines, remarks)?;
+    push_remark_objects(out, config, origins, remarks)?;
     out.push(b']')?;
     Ok(())
 }
 
-/// The report on findings and remarks as JSON, for a configuration whose entries have these lines.
+/// The report on findings and remarks as JSON, for a configuration whose entries come from these lines.
 #[tactic(auto, unfolding(crate::specs::Json::report_json))]
 pub fn json_of(
     alloc: Global,
     config: &Config,
-    lines: &[Vec<usize>],
+    origins: &[Vec<Origin>],
     findings: &[Finding],
     remarks: &[Remark],
 ) -> Result<Vec<u8>, AllocError>
-    ensures { IfOk result (λ text. text.items ≡ report_json (view_lines lines.now) config.now.tables findings.now remarks.now) }
+    ensures { IfOk result (λ text. text.items ≡ report_json (view_origins origins.now) config.now.tables findings.now remarks.now) }
 {
     let mut out = Vec::new(alloc);
     out.push(b'{')?;
     push_head(&mut out, findings, remarks)?;
-    push_flows_member(alloc, &mut out, config, lines, findings)?;
-    push_remarks_member(&mut out, config, lines, remarks)?;
+    push_flows_member(alloc, &mut out, config, origins, findings)?;
+    push_remarks_member(&mut out, config, origins, remarks)?;
     out.extend_from_slice(b"}\n")?;
     Ok(out)
 }

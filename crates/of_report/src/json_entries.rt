@@ -1,51 +1,78 @@
 //! Flow entries as JSON.
-ghost use Rattle.std.specs.Prelude.{◌≡◌, ◌++◌, ◌∷◌, Some, slice_get, OnOk};
+ghost use Rattle.std.specs.Prelude.{◌≡◌, ◌++◌, ◌∷◌, Some, option_map, slice_get, OnOk};
 ghost use Rattle.std.specs.List.{flat_map};
 ghost use Rattle.of_text.specs.Views.{view, view_flows};
 ghost use Rattle.of_json.specs.Parts.{listed};
-ghost use Rattle.of_report.specs.Json.{entry_array, entry_members, entry_object, reported_flow_members, line_member};
-ghost use Rattle.of_report.specs.Files.{view_lines};
+ghost use Rattle.of_report.specs.Json.{counters_of, entry_array, entry_members, entry_object, line_member, match_member_of, reported_flow_members, some_counters};
+ghost use Rattle.of_values.specs.Origins.{view_origin, view_origins, view_words};
 
-use crate::entries::{entries_of, line_at};
-use of_json::{push_key, push_match_object, push_number_member};
+use crate::entries::{entries_of, origin_at};
+use of_json::{push_counters_member, push_key, push_match_object, push_number_member};
 use of_text::{Config, FlowText};
-use of_values::push_decimal;
+use of_values::{Origin, push_decimal};
 use std::alloc::AllocError;
 
-fn push_line(out: &mut Vec<u8>, line: Option<usize>) -> Result<(), AllocError>
-    ensures { OnOk result (out.new.items ≡ out.old.items ++ line_member line) }
+fn push_line(out: &mut Vec<u8>, origin: Option<&Origin>) -> Result<(), AllocError>
+    ensures { OnOk result (out.new.items ≡ out.old.items ++ line_member (option_map (λ o. view_origin o.now) origin.entry)) }
 {
-    match line {
+    match origin {
         None => Ok(()),
-        Some(line) => push_number_member(out, b"line", line as u128),
+        Some(origin) => push_number_member(out, b"line", origin.line as u128),
     }
+}
+
+fn push_some_counters(out: &mut Vec<u8>, words: &[Vec<u8>]) -> Result<(), AllocError>
+    ensures { OnOk result (out.new.items ≡ out.old.items ++ some_counters (view_words words.now)) }
+{
+    match words {
+        [] => Ok(()),
+        _ => push_counters_member(out, words),
+    }
+}
+
+fn push_counters(out: &mut Vec<u8>, origin: Option<&Origin>) -> Result<(), AllocError>
+    ensures { OnOk result (out.new.items ≡ out.old.items ++ counters_of (option_map (λ o. view_origin o.now) origin.entry)) }
+{
+    match origin {
+        None => Ok(()),
+        Some(origin) => push_some_counters(out, &origin.counters),
+    }
+}
+
+fn push_match(out: &mut Vec<u8>, flow: &FlowText) -> Result<(), AllocError>
+    ensures { OnOk result (out.new.items ≡ out.old.items ++ match_member_of (view flow.now)) }
+{
+    out.push(b',')?;
+    push_key(out, b"match")?;
+    push_match_object(out, &flow.fields)
 }
 
 // Appends what an entry is.
 #[tactic(auto, unfolding(crate::specs::Json::reported_flow_members))]
-fn push_flow(out: &mut Vec<u8>, line: Option<usize>, flow: &FlowText) -> Result<(), AllocError>
-    ensures { OnOk result (out.new.items ≡ out.old.items ++ reported_flow_members line (Some (view flow.now))) }
+fn push_flow(out: &mut Vec<u8>, origin: Option<&Origin>, flow: &FlowText) -> Result<(), AllocError>
+    ensures { OnOk result (out.new.items ≡ out.old.items ++
+        reported_flow_members (option_map (λ o. view_origin o.now) origin.entry) (Some (view flow.now))) }
 {
-    push_line(out, line)?;
+    push_line(out, origin)?;
     push_number_member(out, b"priority", u128::from(flow.head.priority))?;
-    out.push(b',')?;
-    push_key(out, b"match")?;
-    push_match_object(out, &flow.fields)
+    push_match(out, flow)?;
+    push_counters(out, origin)
 }
 
 // Appends what the entry at a place is, if there is one.
 #[tactic(auto, unfolding(crate::specs::Json::reported_flow_members))]
 fn push_flow_at(
     out: &mut Vec<u8>,
-    line: Option<usize>,
+    origin: Option<&Origin>,
     flows: &[FlowText],
     place: usize,
 ) -> Result<(), AllocError>
-    ensures { OnOk result (out.new.items ≡ out.old.items ++ reported_flow_members line (slice_get (view_flows flows.now) place)) }
+    ensures { OnOk result (out.new.items ≡ out.old.items ++
+        reported_flow_members (option_map (λ o. view_origin o.now) origin.entry) (slice_get (view_flows flows.now) place)) }
 {
     match flows.get(place) {
         None => Ok(()),
-        Some(flow) => push_flow(out, line, flow),
+        Some(flow) => push_flow(out, origin, flow),
     }
 }
 
@@ -54,18 +81,18 @@ fn push_flow_at(
 pub fn push_entry_members(
     out: &mut Vec<u8>,
     config: &Config,
-    lines: &[Vec<usize>],
+    origins: &[Vec<Origin>],
     table: u8,
     place: usize,
 ) -> Result<(), AllocError>
-    ensures { OnOk result (out.new.items ≡ out.old.items ++ entry_members (view_lines lines.now) config.now.tables table place) }
+    ensures { OnOk result (out.new.items ≡ out.old.items ++ entry_members (view_origins origins.now) config.now.tables table place) }
 {
     push_key(out, b"table")?;
     push_decimal(out, u128::from(table))?;
     push_number_member(out, b"entry", place as u128)?;
     push_flow_at(
         out,
-        line_at(lines, table, place),
+        origin_at(origins, table, place),
         entries_of(config, table),
         place,
     )
@@ -75,14 +102,14 @@ pub fn push_entry_members(
 fn push_entry_object(
     out: &mut Vec<u8>,
     config: &Config,
-    lines: &[Vec<usize>],
+    origins: &[Vec<Origin>],
     table: u8,
     place: usize,
 ) -> Result<(), AllocError>
-    ensures { OnOk result (out.new.items ≡ out.old.items ++ entry_object (view_lines lines.now) config.now.tables table place) }
+    ensures { OnOk result (out.new.items ≡ out.old.items ++ entry_object (view_origins origins.now) config.now.tables table place) }
 {
     out.push(b'{')?;
-    push_entry_members(out, config, lines, table, place)?;
+    push_entry_members(out, config, origins, table, place)?;
     out.push(b'}')?;
     Ok(())
 }
@@ -90,16 +117,16 @@ fn push_entry_object(
 fn push_further_objects(
     out: &mut Vec<u8>,
     config: &Config,
-    lines: &[Vec<usize>],
+    origins: &[Vec<Origin>],
     table: u8,
     places: &[usize],
 ) -> Result<(), AllocError>
     ensures { OnOk result (out.new.items ≡ out.old.items ++
-        flat_map (λ place. 44 ∷ entry_object (view_lines lines.now) config.now.tables table place) places.now) }
+        flat_map (λ place. 44 ∷ entry_object (view_origins origins.now) config.now.tables table place) places.now) }
 {
     for place in places {
         out.push(b',')?;
-        push_entry_object(out, config, lines, table, *place)?;
+        push_entry_object(out, config, origins, table, *place)?;
     }
     Ok(())
 }
@@ -108,17 +135,17 @@ fn push_further_objects(
 fn push_entry_objects(
     out: &mut Vec<u8>,
     config: &Config,
-    lines: &[Vec<usize>],
+    origins: &[Vec<Origin>],
     table: u8,
     places: &[usize],
 ) -> Result<(), AllocError>
-    ensures { OnOk result (out.new.items ≡ out.old.items ++ listed (entry_object (view_lines lines.now) config.now.tables table) places.now) }
+    ensures { OnOk result (out.new.items ≡ out.old.items ++ listed (entry_object (view_origins origins.now) config.now.tables table) places.now) }
 {
     match places {
         [] => Ok(()),
         [first, others @ ..] => {
-            push_entry_object(out, config, lines, table, *first)?;
-            push_further_objects(out, config, lines, table, others)
+            push_entry_object(out, config, origins, table, *first)?;
+            push_further_objects(out, config, origins, table, others)
         }
     }
 }
@@ -128,14 +155,14 @@ fn push_entry_objects(
 pub fn push_entry_array(
     out: &mut Vec<u8>,
     config: &Config,
-    lines: &[Vec<usize>],
+    origins: &[Vec<Origin>],
     table: u8,
     places: &[usize],
 ) -> Result<(), AllocError>
-    ensures { OnOk result (out.new.items ≡ out.old.items ++ entry_array (view_lines lines.now) config.now.tables table places.now) }
+    ensures { OnOk result (out.new.items ≡ out.old.items ++ entry_array (view_origins origins.now) config.now.tables table places.now) }
 {
     out.push(b'[')?;
-    push_entry_objects(out, config, lines, table, places)?;
+    push_entry_objects(out, config, origins, table, places)?;
     out.push(b']')?;
     Ok(())
 }

@@ -3,13 +3,13 @@ ghost use Rattle.std.specs.Prelude.{◌≡◌, ◌++◌, ◌∷◌, OnOk, decima
 ghost use Rattle.std.specs.List.{flat_map};
 ghost use Rattle.of_json.specs.Parts.{key, listed, number_member};
 ghost use Rattle.of_report.specs.Json.{remark_member, remark_members, remark_object};
-ghost use Rattle.of_report.specs.Files.{view_lines};
+ghost use Rattle.of_values.specs.Origins.{view_origins};
 
 use crate::json_entries::push_entry_members;
 use of_json::{push_key, push_number_member, push_text_member};
 use of_remarks::Remark;
 use of_text::Config;
-use of_values::push_decimal;
+use of_values::{Origin, push_decimal};
 use std::alloc::AllocError;
 
 // Appends a number with its name, and what is remarked of it.
@@ -38,10 +38,10 @@ fn push_further(
 fn push_remark(
     out: &mut Vec<u8>,
     config: &Config,
-    lines: &[Vec<usize>],
+    origins: &[Vec<Origin>],
     remark: &Remark,
 ) -> Result<(), AllocError>
-    ensures { OnOk result (out.new.items ≡ out.old.items ++ remark_members (view_lines lines.now) config.now.tables remark.now) }
+    ensures { OnOk result (out.new.items ≡ out.old.items ++ remark_members (view_origins origins.now) config.now.tables remark.now) }
 {
     match *remark {
         Remark::Unreachable { table } => {
@@ -51,7 +51,7 @@ fn push_remark(
             push_named(out, b"table", u128::from(table), b"no table-miss entry")
         }
         Remark::EmptyGoto { table, place, to } => {
-            push_entry_members(out, config, lines, table, place)?;
+            push_entry_members(out, config, origins, table, place)?;
             push_further(
                 out,
                 b"goto to a table without entries",
@@ -60,7 +60,7 @@ fn push_remark(
             )
         }
         Remark::IngressOutput { table, place, port } => {
-            push_entry_members(out, config, lines, table, place)?;
+            push_entry_members(out, config, origins, table, place)?;
             push_further(
                 out,
                 b"output to the ingress port",
@@ -73,7 +73,7 @@ fn push_remark(
             place,
             count,
         } => {
-            push_entry_members(out, config, lines, table, place)?;
+            push_entry_members(out, config, origins, table, place)?;
             push_further(out, b"last actions unseen", b"count", count as u128)
         }
         Remark::UnusedGroup { id } => push_named(out, b"group", u128::from(id), b"unused"),
@@ -85,13 +85,13 @@ fn push_remark(
 fn push_remark_object(
     out: &mut Vec<u8>,
     config: &Config,
-    lines: &[Vec<usize>],
+    origins: &[Vec<Origin>],
     remark: &Remark,
 ) -> Result<(), AllocError>
-    ensures { OnOk result (out.new.items ≡ out.old.items ++ remark_object (view_lines lines.now) config.now.tables remark.now) }
+    ensures { OnOk result (out.new.items ≡ out.old.items ++ remark_object (view_origins origins.now) config.now.tables remark.now) }
 {
     out.push(b'{')?;
-    push_remark(out, config, lines, remark)?;
+    push_remark(out, config, origins, remark)?;
     out.push(b'}')?;
     Ok(())
 }
@@ -99,15 +99,15 @@ fn push_remark_object(
 fn push_further_remarks(
     out: &mut Vec<u8>,
     config: &Config,
-    lines: &[Vec<usize>],
+    origins: &[Vec<Origin>],
     remarks: &[Remark],
 ) -> Result<(), AllocError>
     ensures { OnOk result (out.new.items ≡ out.old.items ++
-        flat_map (λ r. 44 ∷ remark_object (view_lines lines.now) config.now.tables r) remarks.now) }
+        flat_map (λ r. 44 ∷ remark_object (view_origins origins.now) config.now.tables r) remarks.now) }
 {
     for remark in remarks {
         out.push(b',')?;
-        push_remark_object(out, config, lines, remark)?;
+        push_remark_object(out, config, origins, remark)?;
     }
     Ok(())
 }
@@ -116,16 +116,16 @@ fn push_further_remarks(
 pub fn push_remark_objects(
     out: &mut Vec<u8>,
     config: &Config,
-    lines: &[Vec<usize>],
+    origins: &[Vec<Origin>],
     remarks: &[Remark],
 ) -> Result<(), AllocError>
-    ensures { OnOk result (out.new.items ≡ out.old.items ++ listed (remark_object (view_lines lines.now) config.now.tables) remarks.now) }
+    ensures { OnOk result (out.new.items ≡ out.old.items ++ listed (remark_object (view_origins origins.now) config.now.tables) remarks.now) }
 {
     match remarks {
         [] => Ok(()),
         [first, others @ ..] => {
-            push_remark_object(out, config, lines, first)?;
-            push_further_remarks(out, config, lines, others)
+            push_remark_object(out, config, origins, first)?;
+            push_further_remarks(out, config, origins, others)
         }
     }
 }

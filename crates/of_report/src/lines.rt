@@ -1,10 +1,11 @@
 //! The lines of flow entries in a flow text.
-ghost use Rattle.std.specs.Prelude.{◌≡◌, ◌++◌, IfOk, OnOk};
-ghost use Rattle.of_report.specs.Files.{view_lines};
-ghost use Rattle.of_report.specs.Lines.{begins_flow_of_table as is_flow_line, flow_lines as flow_lines_in, lines_below, number_if};
+ghost use Rattle.std.specs.Prelude.{◌≡◌, ◌++◌, map, IfOk, OnOk};
+ghost use Rattle.of_values.specs.Origins.{view_origin, view_origins};
+ghost use Rattle.of_report.specs.Lines.{at_line, begins_flow_of_table as is_flow_line, flow_lines as flow_lines_in, number_if, text_origins as origins_in_table, text_origins_below};
 
 use itoa::Buffer;
 use of_text::{cut, is};
+use of_values::Origin;
 use of_wire::limits::TABLES;
 use std::alloc::{AllocError, Global};
 
@@ -43,14 +44,36 @@ fn flow_lines(alloc: Global, table: u8, text: &[u8]) -> Result<Vec<usize>, Alloc
     Ok(numbers)
 }
 
-/// The lines of a flow text that begin its entries, from 1: for each of the sixteen tables, by age.
-#[tactic(auto, unfolding(crate::specs::Lines::lines_below))]
-pub fn lines_by_table(alloc: Global, text: &[u8]) -> Result<Vec<Vec<usize>>, AllocError>
-    ensures { IfOk result (λ lines. view_lines lines.items ≡ lines_below 16 text.now) }
+// Entries that begin at these lines.
+fn origins_at(alloc: Global, numbers: &[usize]) -> Result<Vec<Origin>, AllocError>
+    ensures { IfOk result (λ origins. map view_origin origins.items ≡ map at_line numbers.now) }
 {
-    let mut lines = Vec::new(alloc);
-    for table in 0..TABLES {
-        lines.push(flow_lines(alloc, table, text)?)?;
+    let mut origins = Vec::new(alloc);
+    for number in numbers {
+        origins.push(Origin {
+            line: *number,
+            counters: Vec::new(alloc),
+        })?;
     }
-    Ok(lines)
+    Ok(origins)
+}
+
+// Where the entries of a table come from.
+fn origins_of_table(alloc: Global, table: u8, text: &[u8]) -> Result<Vec<Origin>, AllocError>
+    ensures { IfOk result (λ origins. map view_origin origins.items ≡ origins_in_table table text.now) }
+{
+    let numbers = flow_lines(alloc, table, text)?;
+    origins_at(alloc, &numbers)
+}
+
+/// Where the entries of a flow text come from, the lines at which they begin, from 1: for each of the sixteen tables, by age.
+#[tactic(auto, unfolding(crate::specs::Lines::text_origins_below))]
+pub fn text_origins(alloc: Global, text: &[u8]) -> Result<Vec<Vec<Origin>>, AllocError>
+    ensures { IfOk result (λ origins. view_origins origins.items ≡ text_origins_below 16 text.now) }
+{
+    let mut origins = Vec::new(alloc);
+    for table in 0..TABLES {
+        origins.push(origins_of_table(alloc, table, text)?)?;
+    }
+    Ok(origins)
 }

@@ -3,12 +3,12 @@ ghost use Rattle.std.specs.Prelude.{◌≡◌, ◌++◌, OnOk, decimal};
 ghost use Rattle.std.specs.List.{flat_map, list_any};
 ghost use Rattle.of_values.specs.Numbers.{port_in_words};
 ghost use Rattle.of_report.specs.Report.{report_group_words, is_finding as is_finding_among, reported_remark_line, reported_remark_words, says_unreachable as is_saying_unreachable, report_table_words};
-ghost use Rattle.of_report.specs.Files.{view_lines};
+ghost use Rattle.of_values.specs.Origins.{view_origins};
 
 use crate::entries::push_entry;
 use of_remarks::Remark;
 use of_text::Config;
-use of_values::{push_decimal, push_port};
+use of_values::{Origin, push_decimal, push_port};
 use std::alloc::AllocError;
 
 // Whether a remark says that no packet comes to a table.
@@ -102,10 +102,10 @@ fn push_around_port(
 fn push_remark(
     out: &mut Vec<u8>,
     config: &Config,
-    lines: &[Vec<usize>],
+    origins: &[Vec<Origin>],
     remark: &Remark,
 ) -> Result<(), AllocError>
-    ensures { OnOk result (out.new.items ≡ out.old.items ++ reported_remark_words (view_lines lines.now) config.now.tables remark.now) }
+    ensures { OnOk result (out.new.items ≡ out.old.items ++ reported_remark_words (view_origins origins.now) config.now.tables remark.now) }
 {
     match *remark {
         Remark::Unreachable { table } => {
@@ -121,7 +121,7 @@ fn push_remark(
             b" has no table-miss entry: packets that match none of its entries are dropped",
         ),
         Remark::EmptyGoto { table, place, to } => {
-            push_entry(out, config, lines, table, place)?;
+            push_entry(out, config, origins, table, place)?;
             push_around(
                 out,
                 b" goes to table ",
@@ -130,7 +130,7 @@ fn push_remark(
             )
         }
         Remark::IngressOutput { table, place, port } => {
-            push_entry(out, config, lines, table, place)?;
+            push_entry(out, config, origins, table, place)?;
             push_around_port(
                 out,
                 b" sends to port ",
@@ -143,7 +143,7 @@ fn push_remark(
             place,
             count,
         } => {
-            push_entry(out, config, lines, table, place)?;
+            push_entry(out, config, origins, table, place)?;
             push_around(
                 out,
                 b" has at the end of its apply ",
@@ -165,15 +165,15 @@ fn push_remark(
 fn push_line(
     out: &mut Vec<u8>,
     config: &Config,
-    lines: &[Vec<usize>],
+    origins: &[Vec<Origin>],
     all: bool,
     remarks: &[Remark],
     remark: &Remark,
 ) -> Result<(), AllocError>
-    ensures { OnOk result (out.new.items ≡ out.old.items ++ reported_remark_line all remarks.now (view_lines lines.now) config.now.tables remark.now) }
+    ensures { OnOk result (out.new.items ≡ out.old.items ++ reported_remark_line all remarks.now (view_origins origins.now) config.now.tables remark.now) }
 {
     if all || is_finding(remarks, remark) {
-        push_remark(out, config, lines, remark)?;
+        push_remark(out, config, origins, remark)?;
         out.push(b'\n')?;
     }
     Ok(())
@@ -183,15 +183,15 @@ fn push_line(
 pub fn push_remarks(
     out: &mut Vec<u8>,
     config: &Config,
-    lines: &[Vec<usize>],
+    origins: &[Vec<Origin>],
     all: bool,
     remarks: &[Remark],
 ) -> Result<(), AllocError>
     ensures { OnOk result (out.new.items ≡
-        out.old.items ++ flat_map (reported_remark_line all remarks.now (view_lines lines.now) config.now.tables) remarks.now) }
+        out.old.items ++ flat_map (reported_remark_line all remarks.now (view_origins origins.now) config.now.tables) remarks.now) }
 {
     for remark in remarks {
-        push_line(out, config, lines, all, remarks, remark)?;
+        push_line(out, config, origins, all, remarks, remark)?;
     }
     Ok(())
 }

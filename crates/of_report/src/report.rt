@@ -1,7 +1,7 @@
 //! The report in words.
 ghost use Rattle.std.specs.Prelude.{◌≡◌, ◌++◌, IfOk, OnOk};
 ghost use Rattle.of_report.specs.Report.{counted_words, report_words, summary, wins_if};
-ghost use Rattle.of_report.specs.Files.{view_lines};
+ghost use Rattle.of_values.specs.Origins.{view_origins};
 
 use crate::counting::{count_open, count_shadowed, count_wins};
 use crate::remarks::push_remarks;
@@ -9,7 +9,7 @@ use crate::words::{push_nevers, push_opens, push_wins};
 use of_check::Finding;
 use of_remarks::Remark;
 use of_text::Config;
-use of_values::push_decimal;
+use of_values::{Origin, push_decimal};
 use std::alloc::{AllocError, Global};
 
 #[tactic(auto, unfolding(crate::specs::Report::counted_words))]
@@ -37,36 +37,38 @@ fn push_wins_if(
     alloc: Global,
     out: &mut Vec<u8>,
     all: bool,
+    words: bool,
     config: &Config,
-    lines: &[Vec<usize>],
+    origins: &[Vec<Origin>],
     findings: &[Finding],
 ) -> Result<(), AllocError>
-    ensures { OnOk result (out.new.items ≡ out.old.items ++ wins_if all (view_lines lines.now) config.now.tables findings.now) }
+    ensures { OnOk result (out.new.items ≡ out.old.items ++ wins_if all words (view_origins origins.now) config.now.tables findings.now) }
 {
     if all {
-        push_wins(alloc, out, config, lines, findings)?;
+        push_wins(alloc, out, words, config, origins, findings)?;
     }
     Ok(())
 }
 
-/// The report on findings and remarks in words, for a configuration whose entries have these lines: what is found, then a summary, then, with
-/// `all`, the entries that win.
+/// The report on findings and remarks in words, for a configuration whose entries come from these lines: what is found, then a summary, then,
+/// with `all`, the entries that win, with their packets in words if these are asked for.
 #[tactic(auto, unfolding(crate::specs::Report::report_words))]
 pub fn words_of(
     alloc: Global,
     all: bool,
+    words: bool,
     config: &Config,
-    lines: &[Vec<usize>],
+    origins: &[Vec<Origin>],
     findings: &[Finding],
     remarks: &[Remark],
 ) -> Result<Vec<u8>, AllocError>
-    ensures { IfOk result (λ text. text.items ≡ report_words all (view_lines lines.now) config.now.tables findings.now remarks.now) }
+    ensures { IfOk result (λ text. text.items ≡ report_words all words (view_origins origins.now) config.now.tables findings.now remarks.now) }
 {
     let mut out = Vec::new(alloc);
-    push_nevers(&mut out, config, lines, findings)?;
-    push_opens(&mut out, config, lines, findings)?;
-    push_remarks(&mut out, config, lines, all, remarks)?;
+    push_nevers(&mut out, config, origins, findings)?;
+    push_opens(&mut out, config, origins, findings)?;
+    push_remarks(&mut out, config, origins, all, remarks)?;
     push_summary(&mut out, findings)?;
-    push_wins_if(alloc, &mut out, all, config, lines, findings)?;
+    push_wins_if(alloc, &mut out, all, words, config, origins, findings)?;
     Ok(out)
 }

@@ -1,7 +1,8 @@
 //! The report on the flow tables of a switch.
 ghost use Rattle.std.specs.Prelude.{◌≡◌, ◌<◌, ◌↔◌, IfOk};
 ghost use Rattle.of_replay.specs.FileRuns.{Writes, ended_as};
-ghost use Rattle.of_report.specs.Files.{IsCheckReport, check_report_text, view_lines};
+ghost use Rattle.of_values.specs.Origins.{view_origins};
+ghost use Rattle.of_report.specs.Files.{IsCheckReport, check_report_text};
 
 use crate::counting::is_found;
 use crate::json::json_of;
@@ -12,6 +13,7 @@ use of_remarks::{Remark, remarks_on};
 use of_replay::{Ended, Sink, write_all};
 use of_switch::Switch;
 use of_text::Config;
+use of_values::Origin;
 use std::alloc::{AllocError, Global};
 
 /// How a report is written.
@@ -21,6 +23,8 @@ pub enum Form {
     Findings,
     /// In words, and after these the entries that win, each with a packet. All remarks are findings.
     All,
+    /// The same, with packets as words that `trace` takes, if there are such.
+    AllInWords,
     /// As a JSON document (docs/JSON.md).
     Json,
 }
@@ -30,34 +34,35 @@ fn text_of(
     alloc: Global,
     form: Form,
     config: &Config,
-    lines: &[Vec<usize>],
+    origins: &[Vec<Origin>],
     findings: &[Finding],
     remarks: &[Remark],
 ) -> Result<Vec<u8>, AllocError>
-    ensures { IfOk result (λ text. text.items ≡ check_report_text form (view_lines lines.now) config.now.tables findings.now remarks.now) }
+    ensures { IfOk result (λ text. text.items ≡ check_report_text form (view_origins origins.now) config.now.tables findings.now remarks.now) }
 {
     match form {
-        Form::Findings => words_of(alloc, false, config, lines, findings, remarks),
-        Form::All => words_of(alloc, true, config, lines, findings, remarks),
-        Form::Json => json_of(alloc, config, lines, findings, remarks),
+        Form::Findings => words_of(alloc, false, false, config, origins, findings, remarks),
+        Form::All => words_of(alloc, true, false, config, origins, findings, remarks),
+        Form::AllInWords => words_of(alloc, true, true, config, origins, findings, remarks),
+        Form::Json => json_of(alloc, config, origins, findings, remarks),
     }
 }
 
-/// Writes the report on the entries of a switch, each after at most so many steps, and on its configuration, whose entries have these lines, by
-/// table, then by age. Ok says whether something was found.
+/// Writes the report on the entries of a switch, each after at most so many steps, and on its configuration, whose entries come from these lines,
+/// by table, then by age. Ok says whether something was found.
 ///
 /// Err is `WriteFault`, where a write failed and a prefix of the text was written; or `NoMemory`, where nothing was.
 pub fn write_report<L: Lookup, W: Sink>(
     alloc: Global,
     switch: &Switch<L>,
     config: &Config,
-    lines: &[Vec<usize>],
+    origins: &[Vec<Origin>],
     steps: usize,
     form: Form,
     writer: &mut W,
 ) -> Result<bool, Ended>
     requires { W.failures writer.old ≡ 0 }
-    ensures output { Writes (IsCheckReport result steps form (view_lines lines.now) switch.now.core.forwarding.tables config.now) (ended_as result)
+    ensures output { Writes (IsCheckReport result steps form (view_origins origins.now) switch.now.core.forwarding.tables config.now) (ended_as result)
         (W.taken writer.old) (W.taken writer.new) }
     ensures write_fault { (ended_as result ≡ Ended.WriteFault) ↔ (0 < W.failures writer.new) }
 {
@@ -67,7 +72,7 @@ pub fn write_report<L: Lookup, W: Sink>(
     let Ok(remarks) = remarks_on(alloc, config) else {
         return Err(Ended::NoMemory);
     };
-    let Ok(text) = text_of(alloc, form, config, lines, &findings, &remarks) else {
+    let Ok(text) = text_of(alloc, form, config, origins, &findings, &remarks) else {
         return Err(Ended::NoMemory);
     };
     if write_all(writer, &text) {

@@ -1,13 +1,13 @@
 //! Findings in words.
 ghost use Rattle.std.specs.Prelude.{◌≡◌, ◌++◌, ◌∷◌, OnOk};
-ghost use Rattle.of_report.specs.Report.{never_words, of_findings, open_words, reported_packet_words, tie_words, shadow_line, shadow_lines, win_words};
-ghost use Rattle.of_report.specs.Files.{view_lines};
+ghost use Rattle.of_report.specs.Report.{never_words, of_findings, open_words, tie_words, shadow_line, shadow_lines, win_words};
+ghost use Rattle.of_values.specs.Origins.{view_origins};
 
 use crate::entries::push_entry;
-use of_build::push_hex;
+use crate::packets::push_packet;
 use of_check::{Finding, Verdict};
 use of_text::Config;
-use of_values::{push_hexadecimal, push_port};
+use of_values::Origin;
 use std::alloc::{AllocError, Global};
 
 // Appends that an entry never wins.
@@ -30,14 +30,14 @@ fn push_reason(out: &mut Vec<u8>, tie: bool) -> Result<(), AllocError>
 fn push_shadow(
     out: &mut Vec<u8>,
     config: &Config,
-    lines: &[Vec<usize>],
+    origins: &[Vec<Origin>],
     table: u8,
     place: usize,
 ) -> Result<(), AllocError>
-    ensures { OnOk result (out.new.items ≡ out.old.items ++ shadow_line (view_lines lines.now) config.now.tables table place) }
+    ensures { OnOk result (out.new.items ≡ out.old.items ++ shadow_line (view_origins origins.now) config.now.tables table place) }
 {
     out.extend_from_slice(b"    ")?;
-    push_entry(out, config, lines, table, place)?;
+    push_entry(out, config, origins, table, place)?;
     out.push(b'\n')?;
     Ok(())
 }
@@ -46,14 +46,14 @@ fn push_shadow(
 fn push_shadows(
     out: &mut Vec<u8>,
     config: &Config,
-    lines: &[Vec<usize>],
+    origins: &[Vec<Origin>],
     table: u8,
     places: &[usize],
 ) -> Result<(), AllocError>
-    ensures { OnOk result (out.new.items ≡ out.old.items ++ shadow_lines (view_lines lines.now) config.now.tables table places.now) }
+    ensures { OnOk result (out.new.items ≡ out.old.items ++ shadow_lines (view_origins origins.now) config.now.tables table places.now) }
 {
     for place in places {
-        push_shadow(out, config, lines, table, *place)?;
+        push_shadow(out, config, origins, table, *place)?;
     }
     Ok(())
 }
@@ -63,17 +63,17 @@ fn push_shadows(
 fn push_never(
     out: &mut Vec<u8>,
     config: &Config,
-    lines: &[Vec<usize>],
+    origins: &[Vec<Origin>],
     finding: &Finding,
 ) -> Result<(), AllocError>
     ensures { OnOk result (out.new.items ≡ out.old.items ++
-        never_words (view_lines lines.now) config.now.tables finding.now.table finding.now.place finding.now.verdict) }
+        never_words (view_origins origins.now) config.now.tables finding.now.table finding.now.place finding.now.verdict) }
 {
     match &finding.verdict {
         Verdict::Never { by, tie } => {
-            push_entry(out, config, lines, finding.table, finding.place)?;
+            push_entry(out, config, origins, finding.table, finding.place)?;
             push_reason(out, *tie)?;
-            push_shadows(out, config, lines, finding.table, by)
+            push_shadows(out, config, origins, finding.table, by)
         }
         Verdict::Wins { .. } | Verdict::Open => Ok(()),
     }
@@ -84,38 +84,19 @@ fn push_never(
 fn push_open(
     out: &mut Vec<u8>,
     config: &Config,
-    lines: &[Vec<usize>],
+    origins: &[Vec<Origin>],
     finding: &Finding,
 ) -> Result<(), AllocError>
     ensures { OnOk result (out.new.items ≡ out.old.items ++
-        open_words (view_lines lines.now) config.now.tables finding.now.table finding.now.place finding.now.verdict) }
+        open_words (view_origins origins.now) config.now.tables finding.now.table finding.now.place finding.now.verdict) }
 {
     match &finding.verdict {
         Verdict::Open => {
-            push_entry(out, config, lines, finding.table, finding.place)?;
+            push_entry(out, config, origins, finding.table, finding.place)?;
             out.extend_from_slice(b" is undecided\n")
         }
         Verdict::Wins { .. } | Verdict::Never { .. } => Ok(()),
     }
-}
-
-// Appends the packet with which an entry wins.
-#[tactic(auto, unfolding(crate::specs::Report::reported_packet_words))]
-fn push_packet(
-    alloc: Global,
-    out: &mut Vec<u8>,
-    frame: &[u8],
-    in_port: u32,
-    metadata: u64,
-) -> Result<(), AllocError>
-    ensures { OnOk result (out.new.items ≡ out.old.items ++ reported_packet_words frame.now in_port metadata) }
-{
-    out.extend_from_slice(b"in_port ")?;
-    push_port(out, u128::from(in_port))?;
-    out.extend_from_slice(b", metadata ")?;
-    push_hexadecimal(out, 1, u128::from(metadata))?;
-    out.extend_from_slice(b", frame ")?;
-    push_hex(alloc, out, frame)
 }
 
 // Appends an entry that wins.
@@ -123,12 +104,13 @@ fn push_packet(
 fn push_win(
     alloc: Global,
     out: &mut Vec<u8>,
+    words: bool,
     config: &Config,
-    lines: &[Vec<usize>],
+    origins: &[Vec<Origin>],
     finding: &Finding,
 ) -> Result<(), AllocError>
     ensures { OnOk result (out.new.items ≡ out.old.items ++
-        win_words (view_lines lines.now) config.now.tables finding.now.table finding.now.place finding.now.verdict) }
+        win_words words (view_origins origins.now) config.now.tables finding.now.table finding.now.place finding.now.verdict) }
 {
     match &finding.verdict {
         Verdict::Wins {
@@ -136,9 +118,9 @@ fn push_win(
             in_port,
             metadata,
         } => {
-            push_entry(out, config, lines, finding.table, finding.place)?;
+            push_entry(out, config, origins, finding.table, finding.place)?;
             out.extend_from_slice(b" wins: ")?;
-            push_packet(alloc, out, frame, *in_port, *metadata)?;
+            push_packet(alloc, out, words, frame, *in_port, *metadata)?;
             out.push(b'\n')?;
             Ok(())
         }
@@ -150,13 +132,13 @@ fn push_win(
 pub fn push_nevers(
     out: &mut Vec<u8>,
     config: &Config,
-    lines: &[Vec<usize>],
+    origins: &[Vec<Origin>],
     findings: &[Finding],
 ) -> Result<(), AllocError>
-    ensures { OnOk result (out.new.items ≡ out.old.items ++ of_findings (never_words (view_lines lines.now) config.now.tables) findings.now) }
+    ensures { OnOk result (out.new.items ≡ out.old.items ++ of_findings (never_words (view_origins origins.now) config.now.tables) findings.now) }
 {
     for finding in findings {
-        push_never(out, config, lines, finding)?;
+        push_never(out, config, origins, finding)?;
     }
     Ok(())
 }
@@ -165,29 +147,30 @@ pub fn push_nevers(
 pub fn push_opens(
     out: &mut Vec<u8>,
     config: &Config,
-    lines: &[Vec<usize>],
+    origins: &[Vec<Origin>],
     findings: &[Finding],
 ) -> Result<(), AllocError>
-    ensures { OnOk result (out.new.items ≡ out.old.items ++ of_findings (open_words (view_lines lines.now) config.now.tables) findings.now) }
+    ensures { OnOk result (out.new.items ≡ out.old.items ++ of_findings (open_words (view_origins origins.now) config.now.tables) findings.now) }
 {
     for finding in findings {
-        push_open(out, config, lines, finding)?;
+        push_open(out, config, origins, finding)?;
     }
     Ok(())
 }
 
-/// Appends the entries that win.
+/// Appends the entries that win, each with a packet, in words if these are asked for.
 pub fn push_wins(
     alloc: Global,
     out: &mut Vec<u8>,
+    words: bool,
     config: &Config,
-    lines: &[Vec<usize>],
+    origins: &[Vec<Origin>],
     findings: &[Finding],
 ) -> Result<(), AllocError>
-    ensures { OnOk result (out.new.items ≡ out.old.items ++ of_findings (win_words (view_lines lines.now) config.now.tables) findings.now) }
+    ensures { OnOk result (out.new.items ≡ out.old.items ++ of_findings (win_words words (view_origins origins.now) config.now.tables) findings.now) }
 {
     for finding in findings {
-        push_win(alloc, out, config, lines, finding)?;
+        push_win(alloc, out, words, config, origins, finding)?;
     }
     Ok(())
 }

@@ -1,5 +1,5 @@
 -- What is asked of the frame that came in is a field of a match in normal form, or one that agrees with each value; and what is open is unknown.
-use Rattle.std.proofs.Common.{◌≡◌, ℕ, ◌-◌, ◌/◌, ◌%◌, ◌^◌, ◌≤◌, ◌≢◌, inl, inr, Bool, true, false, cond, eqb, Option, Some, None, refl, sym, ap, ◌∙◌, arith}
+use Rattle.std.proofs.Common.{◌≡◌, ℕ, ◌-◌, ◌/◌, ◌%◌, ◌^◌, ◌≤◌, ◌≢◌, Bool, true, false, cond, eqb, Option, Some, None, refl, sym, ap, ◌∙◌, arith}
 use Rattle.std.specs.Prelude.{bit_and, IfSome, not, slice_get, unwrap_or, ◌&&◌, ◌||◌, ⊤}
 use Rattle.std.proofs.lemmas.Bool.{eqb-false}
 use Rattle.std.proofs.lemmas.Nat.{and_mask, and_mod}
@@ -20,6 +20,7 @@ use Rattle.of_symbolic.specs.declared.overlay.TagNumber.{TagNumber}
 use Rattle.of_symbolic.specs.declared.overlay.TagNumber.TheVariants.{Value, Received, IfTagged, Unknown}
 use Rattle.of_symbolic.specs.Asking.{any_value, asked_at, by_tag, field_asked, own_pcp, own_vid, pcp_asked, pushed_pcp, pushed_vid, vid_asked, vid_bits, with_tag, without_tag}
 use Rattle.of_regions.specs.Conditions.{IsCondition}
+use Rattle.of_regions.proofs.NarrowingLemmas.{any_value as any_value_condition, kept_condition}
 use Rattle.of_symbolic.specs.Overlaid.{is_number_known}
 use Rattle.of_symbolic.specs.Pulling.{is_pcp_unknown, is_unknown_at, is_vid_unknown, is_received}
 use Rattle.of_symbolic.proofs.Holding.{IsVid}
@@ -55,16 +56,16 @@ without_kept = record { value = omega arith; mask = record { maskable = refl; so
 
 by_tag_kept : (a b : Bool) → KeptIfAsked (by_tag a b)
 by_tag_kept true true = tt
-by_tag_kept true false = inl with_kept
-by_tag_kept false true = inl without_kept
+by_tag_kept true false = kept_condition with_tag with_kept
+by_tag_kept false true = kept_condition without_tag without_kept
 by_tag_kept false false = tt
 
 set_kept : (f : Field) (b : Bool) → KeptIfAsked (cond b (Asks (any_value f)) Never)
-set_kept f true = inr (refl, refl)
+set_kept f true = any_value_condition (any_value f) refl refl
 set_kept f false = tt
 
 field_kept : (s : Option ℕ) (e : MatchField) → IsKept e → KeptIfAsked (field_asked s e)
-field_kept None e h = inl h
+field_kept None e h = kept_condition e h
 field_kept (Some n) e h = set_kept e.field (agrees e (Some n))
 
 vid_bits_kept : (e : MatchField) → IsVid e → eqb (bits_looked_at e % 4096) 0 ≡ false → IsKept (vid_bits e)
@@ -94,12 +95,12 @@ vid_kept (Some p) own e h at = by_number p.vid
     by_number : (k : TagNumber) → KeptIfAsked (pushed_vid k e)
     by_number (Value n) = by_tag_kept _ _
     by_number (IfTagged n) = by_tag_kept _ _
-    by_number Received = tagged_kept e (Asks (vid_bits e)) (eqb (bits_looked_at e / 4096) (e.value / 4096)) (eqb (bits_looked_at e % 4096) 0) (λ n. inl (vid_bits_kept e (kept_vid e h at) n))
+    by_number Received = tagged_kept e (Asks (vid_bits e)) (eqb (bits_looked_at e / 4096) (e.value / 4096)) (eqb (bits_looked_at e % 4096) 0) (λ n. kept_condition (vid_bits e) (vid_bits_kept e (kept_vid e h at) n))
     by_number Unknown = tagged_kept e Open (eqb (bits_looked_at e / 4096) (e.value / 4096)) (eqb (bits_looked_at e % 4096) 0) (λ n. tt)
 vid_kept None (Some own) e h at = by_number own.vid
   where
     by_number : (k : Option ℕ) → KeptIfAsked (own_vid k e)
-    by_number None = inl h
+    by_number None = kept_condition e h
     by_number (Some n) = by_tag_kept _ _
 vid_kept None None e h at = tt
 
@@ -108,7 +109,7 @@ pcp_kept (Some p) own e h = by_number p.pcp
   where
     by_test : (b : Bool) → KeptIfAsked (cond b Open (Asks e))
     by_test true = tt
-    by_test false = inl h
+    by_test false = kept_condition e h
 
     by_number : (k : TagNumber) → KeptIfAsked (pushed_pcp k e)
     by_number (Value n) = by_tag_kept _ _
@@ -118,7 +119,7 @@ pcp_kept (Some p) own e h = by_number p.pcp
 pcp_kept None (Some own) e h = by_number own.pcp
   where
     by_number : (k : Option ℕ) → KeptIfAsked (own_pcp k e)
-    by_number None = inl h
+    by_number None = kept_condition e h
     by_number (Some n) = by_tag_kept _ _
 pcp_kept None None e h = tt
 
@@ -127,7 +128,7 @@ metadata_kept true = tt
 metadata_kept false = tt
 
 pub at_kept : (o : Overlay) (metadata : ℕ) (e : MatchField) → IsKept e → (f : Field) → e.field ≡ f → KeptIfAsked (asked_at o metadata e f)
-at_kept o metadata e h InPort at = inl h
+at_kept o metadata e h InPort at = kept_condition e h
 at_kept o metadata e h Metadata at = metadata_kept (agrees e (Some metadata))
 at_kept o metadata e h VlanVid at = vid_kept (slice_get o.pushed.items 0) o.own e h at
 at_kept o metadata e h VlanPcp at = pcp_kept (slice_get o.pushed.items 0) o.own e h

@@ -1,5 +1,6 @@
 use of_import::{Mode, Why, import_tables};
-use of_import_report::{Answer, flow_lines_of, import_as_json, why_words};
+use of_import_report::{Answer, import_as_json, table_origins, why_words};
+use of_values::{Origin, push_counter_words, push_decimal};
 use std::alloc::Global;
 use std::test::Fail;
 
@@ -142,28 +143,39 @@ fn reasons_are_those_that_are_displayed(rt: HostRuntime) -> Result<(), Fail> {
 
 /// A flow takes the place of an older one, and is the youngest then.
 const REPLACED: &[u8] = b"priority=1,actions=1
-table=2,priority=1,actions=1
+ cookie=0x0, duration=5.2s, table=2, n_packets=0, n_bytes=0, priority=1 actions=1
 
 priority=2,actions=1
 priority=1,actions=2
 ";
 
-// The lines of the entries of a table.
-fn lines_in(alloc: Global, text: &[u8], table: usize) -> Result<Vec<usize>, Fail> {
+// Origins, each in a line: a line of the dump, and counters.
+fn said(alloc: Global, origins: &[Origin]) -> Result<Vec<u8>, Fail> {
+    let mut out = Vec::new(alloc);
+    for origin in origins {
+        push_decimal(&mut out, origin.line as u128)?;
+        push_counter_words(&mut out, &origin.counters)?;
+        out.push(b'\n')?;
+    }
+    Ok(out)
+}
+
+// Where the entries of a table come from.
+fn origins_in(alloc: Global, text: &[u8], table: usize) -> Result<Vec<u8>, Fail> {
     let done = import_tables(alloc, text, PLAIN);
     let done = done.ok().ok_or("refused")?;
-    let mut lines = flow_lines_of(alloc, &done.kept.flows)?;
-    let mut found = None;
-    if table < lines.len() {
-        found = Some(lines.swap_remove(table));
-    }
-    Ok(found.ok_or("no such table")?)
+    let origins = table_origins(alloc, &done.kept.flows)?;
+    let origins = origins.get(table).ok_or("no such table")?;
+    said(alloc, origins)
 }
 
 #[test]
-fn entries_have_the_lines_of_their_flows(rt: HostRuntime) -> Result<(), Fail> {
-    assert!(rt; lines_in(rt.alloc(), REPLACED, 0)?.as_slice() == [4, 5].as_slice());
-    assert!(rt; lines_in(rt.alloc(), REPLACED, 2)?.as_slice() == [2].as_slice());
-    assert!(rt; lines_in(rt.alloc(), REPLACED, 15)?.is_empty());
+fn entries_come_from_the_lines_of_their_flows(rt: HostRuntime) -> Result<(), Fail> {
+    assert!(rt; origins_in(rt.alloc(), REPLACED, 0)?.as_slice() == b"4\n5\n");
+    assert!(rt;
+        origins_in(rt.alloc(), REPLACED, 2)?.as_slice()
+            == b"2, duration=5.2s, n_packets=0, n_bytes=0\n"
+    );
+    assert!(rt; origins_in(rt.alloc(), REPLACED, 15)?.is_empty());
     Ok(())
 }

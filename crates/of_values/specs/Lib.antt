@@ -3,3 +3,4 @@ pub mod Ipv6
 pub mod Masks
 pub mod Values
 pub mod Entries
+pub mod Origins

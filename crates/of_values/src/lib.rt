@@ -2,16 +2,20 @@
 #![tactic(auto)]
 
 mod addresses;
+mod characters;
 mod digits;
 mod entries;
 mod form;
 mod ipv6;
+mod origins;
 mod ports;
 mod prefixes;
 mod values;
 
+pub use characters::{printable, push_printable};
 pub use digits::{push_decimal, push_hexadecimal};
 pub use entries::{push_entry_words, push_field_words};
 pub use form::{Form, form_of};
+pub use origins::{Origin, push_counter_words};
 pub use ports::push_port;
 pub use values::push_value_words;

@@ -1,18 +1,24 @@
 //! Reports of `check`.
 use crate::hinting::Seen;
-use crate::importing::{NotImported, import_of, read_whole};
+use crate::importing::{NotImported, import_of, read_whole, text_of};
 use crate::lookups::Lookups;
 use crate::parts::print_part;
 use crate::standard_input::StandardInput;
 use of_classifier::Scan;
 use of_command_line::{Check, CheckOutput, FileKind};
-use of_import::{Import, Mode};
-use of_import_report::flow_lines_of;
+use of_import::{Import, ImportText, Mode};
+use of_import_report::table_origins;
 use of_replay::Ended;
 use of_replay::streams::{ReaderSource, WriterSink};
-use of_report::{Content, Form, content_of, lines_by_table, report_events, report_flows};
+use of_report::{Content, Form, Origin, content_of, report_events, report_flows, text_origins};
 use std::fs::File;
 use std::io;
+
+/// A file of ovs-ofctl is read without leaving anything out.
+const WHOLE: Mode = Mode {
+    skip: false,
+    renumber: false,
+};
 
 /// Why there is no report, or no trace.
 #[derive(Drop)]
@@ -42,6 +48,7 @@ fn form_of(output: CheckOutput) -> Form {
     match output {
         CheckOutput::Lines | CheckOutput::Report => Form::Findings,
         CheckOutput::All => Form::All,
+        CheckOutput::AllInWords => Form::AllInWords,
         CheckOutput::Json => Form::Json,
     }
 }
@@ -56,12 +63,12 @@ pub fn content_as(kind: FileKind, bytes: &[u8]) -> Content {
     }
 }
 
-// Prints the report on a flow text, whose entries have these lines.
+// Prints the report on a flow text, whose entries come from these lines.
 fn flows_reported(
     rt: &HostRuntime,
     asked: &Check,
     text: &[u8],
-    lines: &[Vec<usize>],
+    origins: &[Vec<Origin>],
 ) -> Result<bool, Ended> {
     if asked.output != CheckOutput::Json {
         print_part(rt, text)?;
@@ -69,7 +76,7 @@ fn flows_reported(
     let mut reader = ReaderSource::new(text);
     let mut writer = WriterSink::new(rt.stdout());
     let (steps, form) = (asked.steps as usize, form_of(asked.output));
-    report_flows::<Scan, _, _>(rt.alloc(), &mut reader, lines, steps, form, &mut writer)
+    report_flows::<Scan, _, _>(rt.alloc(), &mut reader, origins, steps, form, &mut writer)
 }
 
 fn events_reported(rt: &HostRuntime, asked: &Check, bytes: &[u8]) -> Result<bool, Ended> {
@@ -79,18 +86,28 @@ fn events_reported(rt: &HostRuntime, asked: &Check, bytes: &[u8]) -> Result<bool
     report_events::<Lookups, _, _>(rt.alloc(), &mut reader, steps, form, &mut writer)
 }
 
-/// The import of what ovs-ofctl prints, whole.
-pub fn import_whole(rt: &HostRuntime, kind: FileKind, bytes: &[u8]) -> Result<Import, NoReport> {
-    let mode = Mode {
-        skip: false,
-        renumber: false,
-    };
-    match import_of(rt, bytes, mode) {
+/// The flow text of what ovs-ofctl prints, whole.
+pub fn text_whole(rt: &HostRuntime, kind: FileKind, bytes: &[u8]) -> Result<ImportText, NoReport> {
+    match text_of(rt, bytes, WHOLE) {
         Ok(done) => Ok(done),
-        Err(NotImported::Ended(ended)) => Err(NoReport::Ended(ended)),
-        Err(NotImported::Faults) => {
+        Err(why) => Err(no_import(rt, kind, why)),
+    }
+}
+
+// The same, with its flows.
+fn import_whole(rt: &HostRuntime, kind: FileKind, bytes: &[u8]) -> Result<Import, NoReport> {
+    match import_of(rt, bytes, WHOLE) {
+        Ok(done) => Ok(done),
+        Err(why) => Err(no_import(rt, kind, why)),
+    }
+}
+
+fn no_import(rt: &HostRuntime, kind: FileKind, why: NotImported) -> NoReport {
+    match why {
+        NotImported::Ended(ended) => NoReport::Ended(ended),
+        NotImported::Faults => {
             say_guess(rt, kind);
-            Err(NoReport::Faults)
+            NoReport::Faults
         }
     }
 }
@@ -106,16 +123,16 @@ fn say_guess(rt: &HostRuntime, kind: FileKind) {
 
 // The report on a flow text.
 fn text_reported(rt: &HostRuntime, asked: &Check, text: &[u8]) -> Result<bool, Ended> {
-    match lines_by_table(rt.alloc(), text) {
-        Ok(lines) => flows_reported(rt, asked, text, &lines),
+    match text_origins(rt.alloc(), text) {
+        Ok(origins) => flows_reported(rt, asked, text, &origins),
         Err(_) => Err(Ended::NoMemory),
     }
 }
 
-// The report on what ovs-ofctl prints: its entries have the lines of their flows there.
+// The report on what ovs-ofctl prints: its entries come from the lines of their flows there.
 fn table_reported(rt: &HostRuntime, asked: &Check, done: &Import) -> Result<bool, Ended> {
-    match flow_lines_of(rt.alloc(), &done.kept.flows) {
-        Ok(lines) => flows_reported(rt, asked, &done.text, &lines),
+    match table_origins(rt.alloc(), &done.kept.flows) {
+        Ok(origins) => flows_reported(rt, asked, &done.text, &origins),
         Err(_) => Err(Ended::NoMemory),
     }
 }

@@ -2,7 +2,10 @@
 
 use crate::hinting::say_refusal;
 use of_hints::import_hint;
-use of_import::{Import, ImportError, LineFaults, LineRefusal, Mode, import_tables, name_of};
+use of_import::{
+    Import, ImportError, ImportText, LineFaults, LineRefusal, Mode, import_tables, import_text,
+    name_of,
+};
 use of_import_report::{import_as_json, left_out};
 use of_replay::streams::{ReaderSource, WriterSink};
 use of_replay::{Ended, READ_SIZE, ended_by, read_file, write_all, zeros};
@@ -57,10 +60,10 @@ pub fn imported<R: Read + Drop>(
     mode: Mode,
 ) -> Result<u128, NotImported> {
     let bytes = read_whole(rt.alloc(), reader).map_err(NotImported::Ended)?;
-    let done = import_of(rt, &bytes, mode)?;
+    let done = text_of(rt, &bytes, mode)?;
     print_text(rt, &done.text)?;
-    say_faults(rt, &done.faults, &done.kept.refused);
-    Ok(left_out(&done))
+    say_faults(rt, &done.faults, &done.refused);
+    Ok(left_out(&done.faults, &done.refused, done.changed))
 }
 
 /// The same as one JSON document, which also says what is refused; standard error names nothing.
@@ -80,15 +83,25 @@ pub fn imported_as_json<R: Read + Drop>(
     }
 }
 
-/// The import of a table; if there is none, standard error says why.
+/// The flow text of a table; if there is none, standard error says why.
+pub fn text_of(rt: &HostRuntime, bytes: &[u8], mode: Mode) -> Result<ImportText, NotImported> {
+    match import_text(rt.alloc(), bytes, mode) {
+        Ok(done) => Ok(done),
+        Err(error) => Err(say_no_import(rt, bytes, &error)),
+    }
+}
+
+/// The import of a table, with its flows; if there is none, standard error says why.
 pub fn import_of(rt: &HostRuntime, bytes: &[u8], mode: Mode) -> Result<Import, NotImported> {
     match import_tables(rt.alloc(), bytes, mode) {
         Ok(done) => Ok(done),
-        Err(error) => {
-            say_import_hint(rt, bytes);
-            Err(say_error(rt, &error))
-        }
+        Err(error) => Err(say_no_import(rt, bytes, &error)),
     }
+}
+
+fn say_no_import(rt: &HostRuntime, bytes: &[u8], error: &ImportError) -> NotImported {
+    say_import_hint(rt, bytes);
+    say_error(rt, error)
 }
 
 // What the whole text is, if it is none of ovs-ofctl.

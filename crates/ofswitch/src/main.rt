@@ -25,9 +25,10 @@ use of_asking::Answering;
 use of_check::{check_events, check_file};
 use of_classifier::Scan;
 use of_command_line::{
-    Check, CheckOutput, FileKind, Live, NoRequest, Request, Serve, Trace, read_request,
+    Check, CheckOutput, FileKind, Live, NoRequest, ReplayOutput, Request, Serve, Trace,
+    read_request,
 };
-use of_explain::Explaining;
+use of_explain::{Explaining, ExplainingJson};
 use of_import::Mode;
 use of_replay::streams::{ReaderSource, WriterSink};
 use of_replay::{Ended, Plain, RowPrinter, Sink, Source, asm, dis, print_file, status};
@@ -394,18 +395,23 @@ fn run<R: Read + Drop>(rt: &HostRuntime, request: &Request, reader: R) -> Ended 
     match request {
         Request::Replay {
             dpid,
-            explain,
+            output,
             ask,
             reads,
             ..
         } => {
             let (dpid, reads) = (*dpid, *reads);
             let (from, to) = (&mut reader, &mut writer);
-            match (*explain, *ask) {
-                (false, false) => play(rt, dpid, reads, &Plain, from, to),
-                (true, false) => play(rt, dpid, reads, &Explaining, from, to),
-                (false, true) => play(rt, dpid, reads, &Answering { rows: Plain }, from, to),
-                (true, true) => play(rt, dpid, reads, &Answering { rows: Explaining }, from, to),
+            match (*output, *ask) {
+                (ReplayOutput::Effects, false) => play(rt, dpid, reads, &Plain, from, to),
+                (ReplayOutput::Explained, false) => play(rt, dpid, reads, &Explaining, from, to),
+                (ReplayOutput::Json, _) => play(rt, dpid, reads, &ExplainingJson, from, to),
+                (ReplayOutput::Effects, true) => {
+                    play(rt, dpid, reads, &Answering { rows: Plain }, from, to)
+                }
+                (ReplayOutput::Explained, true) => {
+                    play(rt, dpid, reads, &Answering { rows: Explaining }, from, to)
+                }
             }
         }
         Request::Assemble { .. } => asm(rt.alloc(), &mut reader, &mut writer),

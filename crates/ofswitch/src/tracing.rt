@@ -1,7 +1,7 @@
 //! Traces of frames.
 ghost use Rattle.std.specs.Prelude.{◌≡◌};
 
-use crate::checking::{NoReport, bytes_of, content_as, import_whole};
+use crate::checking::{NoReport, bytes_of, content_as, text_whole};
 use crate::hinting::Seen;
 use crate::lookups::Lookups;
 use of_command_line::{Asked, FileKind, Trace};
@@ -86,7 +86,7 @@ pub fn traced_by_content(rt: &HostRuntime, asked: &Trace) -> Result<(Ended, Seen
             traced_on_flows(rt, asked, &mut reader)
         }
         Content::OvsTable => {
-            let done = import_whole(rt, asked.kind, &bytes)?;
+            let done = text_whole(rt, asked.kind, &bytes)?;
             let mut reader = ReaderSource::new(done.text.as_slice());
             traced_on_flows(rt, asked, &mut reader)
         }

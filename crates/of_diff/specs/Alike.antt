@@ -1,0 +1,69 @@
+-- WHAT LEAVES A SWITCH for a frame that comes in, and whether two switches send the same (OpenFlow 1.3.5, 5.1).
+use Rattle.std.specs.Prelude.{◌≡◌, ℕ, ◌≤◌, ◌==◌, Bool, true, false, List, [], ◌∷◌, length, filter, Some, if◌then◌else◌}
+use Rattle.of_rewrite.specs.Frames.{IsFrame}
+use Rattle.of_ports.specs.declared.port.Port.{Port}
+use Rattle.of_ports.specs.Ports.{may_receive, port_at}
+use Rattle.of_machine.specs.declared.data.Item.{Item}
+use Rattle.of_machine.specs.declared.data.Item.TheVariants.{PacketIn, Sent}
+use Rattle.of_machine.specs.declared.data.ToController.{ToController}
+use Rattle.of_machine.specs.TheWorld.{TheWorld}
+use Rattle.of_machine.specs.Rows.{Lookup, entering}
+use Rattle.of_machine.specs.Runs.{run_of}
+use Rattle.of_diff.specs.declared.alike.Compared.{Compared}
+use Rattle.of_diff.specs.declared.alike.Compared.TheVariants.{All}
+use Rattle.of_diff.specs.declared.alike.Where.{Where}
+use Rattle.of_diff.specs.declared.alike.Where.TheVariants.{Controller, Port as ByPort}
+
+-- a frame of 14 to 9,216 bytes that comes in by a port that receives: no other takes a step (4.4)
+pub record IsReceivedAt (w : TheWorld) (frame : List ℕ) (port : ℕ) : Type 0 where
+  pub frame_is : IsFrame frame
+  pub short : length frame ≤ 9216
+  pub ingress : Port
+  pub there : port_at w.ports port ≡ Some ingress
+  pub receives : may_receive ingress ≡ true
+
+-- what its run emits, in order
+abbrev pub items_at : TheWorld → List ℕ → ℕ → List Item
+items_at w frame port = (run_of w (entering frame port) (Lookup 0 ∷ [])).items
+
+-- ---- what leaves
+
+-- the frames that leave by a port, in order
+abbrev pub sent_by : ℕ → List Item → List (List ℕ)
+sent_by q [] = []
+sent_by q (Sent port frame ∷ items) = if port == q then frame ∷ sent_by q items else sent_by q items
+sent_by q (PacketIn p ∷ items) = sent_by q items
+
+-- the packets to the controller, in order
+abbrev pub to_controller : List Item → List ToController
+to_controller [] = []
+to_controller (Sent port frame ∷ items) = to_controller items
+to_controller (PacketIn p ∷ items) = p ∷ to_controller items
+
+-- By each port the same frames leave in the same order, and the controller gets the same packets in the same order, if these are compared. Between ports there is no order.
+pub record LeavesAlike (c : Compared) (a b : List Item) : Type 0 where
+  pub sent : (q : ℕ) → sent_by q a ≡ sent_by q b
+  pub told : c ≡ All → to_controller a ≡ to_controller b
+
+-- ---- at one place
+
+-- the same leaves there
+abbrev pub IsAlikeAt : Where → List Item → List Item → Type 0
+IsAlikeAt (ByPort q) a b = sent_by q a ≡ sent_by q b
+IsAlikeAt Controller a b = to_controller a ≡ to_controller b
+
+-- something else leaves there, which is compared
+abbrev pub DiffersAt : Compared → Where → List Item → List Item → Type 0
+DiffersAt c (ByPort q) a b = ¬ (sent_by q a ≡ sent_by q b)
+DiffersAt c Controller a b = (c ≡ All) × (¬ (to_controller a ≡ to_controller b))
+
+-- the item leaves there
+abbrev pub leaves_at : Where → Item → Bool
+leaves_at (ByPort q) (Sent port frame) = port == q
+leaves_at (ByPort q) (PacketIn p) = false
+leaves_at Controller (Sent port frame) = false
+leaves_at Controller (PacketIn p) = true
+
+-- the items that do, in order
+abbrev pub leaving : Where → List Item → List Item
+leaving at items = filter (leaves_at at) items

@@ -1,0 +1,9 @@
+use Rattle.std.proofs.Common.{◌≡◌, ◌++◌}
+use Rattle.std.specs.Prelude.{map}
+use Rattle.of_import.proofs.import.take_groups.Given as goal
+
+abbrev pub invariant-loop-it : goal.invariant-loop-it
+invariant-loop-it l = record {
+  lines : l.lines.items ≡ l.fn.lines.items ++ map (λ g. g.line) l.yielded;
+  groups : l.made.items ≡ map (λ g. g.group) l.yielded;
+}

@@ -1,7 +1,0 @@
-use Rattle.std.proofs.Common.{◌≡◌, ◌++◌, drop}
-use Rattle.std.specs.List.{flat_map}
-use Rattle.of_import_report.specs.Strings.{escaped}
-use Rattle.of_import_report.proofs.strings.push_all_escaped.Given as goal
-
-abbrev pub invariant-loop-byte : goal.invariant-loop-byte
-invariant-loop-byte l = l.out.items ++ flat_map (escaped) (drop l.byte-index l.text) ≡ l.fn.out.items ++ flat_map (escaped) l.text

@@ -1,0 +1,11 @@
+use Rattle.std.proofs.Common.{◌≡◌, ◌++◌, ◌∷◌, ℕ, List, length}
+use Rattle.std.specs.List.{flat_map}
+use Rattle.of_text.specs.Lines.{lines_of}
+use Rattle.of_json.specs.Strings.{line_string}
+use Rattle.of_json.proofs.lines.push_further_lines.Given as goal
+
+abbrev pub decreases-loop-rest : goal.decreases-loop-rest
+decreases-loop-rest l = length l.rest
+
+abbrev pub invariant-loop-rest : goal.invariant-loop-rest
+invariant-loop-rest l = l.out.items ++ flat_map (λ (x : List ℕ). 44 ∷ line_string l.indent x) (lines_of l.rest) ≡ l.fn.out.items ++ flat_map (λ (x : List ℕ). 44 ∷ line_string l.indent x) (lines_of l.text)

@@ -1,0 +1,84 @@
+//! Strings of JSON with any bytes.
+ghost use Rattle.std.specs.Prelude.{◌≡◌, ◌++◌, ◌∷◌, [], OnOk};
+ghost use Rattle.std.specs.List.{flat_map};
+ghost use Rattle.of_json.specs.Parts.{key, listed};
+ghost use Rattle.of_json.specs.Strings.{escaped, string, string_member, string_of};
+
+use crate::parts::push_key;
+use of_values::printable;
+use std::alloc::AllocError;
+
+fn push_escaped(out: &mut Vec<u8>, byte: u8) -> Result<(), AllocError>
+    ensures { OnOk result (out.new.items ≡ out.old.items ++ escaped byte) }
+{
+    if byte == b'"' || byte == b'\\' {
+        out.push(b'\\')?;
+        out.push(byte)?;
+    } else {
+        out.push(printable(byte))?;
+    }
+    Ok(())
+}
+
+fn push_all_escaped(out: &mut Vec<u8>, text: &[u8]) -> Result<(), AllocError>
+    ensures { OnOk result (out.new.items ≡ out.old.items ++ flat_map escaped text.now) }
+{
+    for byte in text {
+        push_escaped(out, *byte)?;
+    }
+    Ok(())
+}
+
+/// Appends a string.
+#[tactic(auto, unfolding(crate::specs::Strings::string))]
+pub fn push_string(out: &mut Vec<u8>, text: &[u8]) -> Result<(), AllocError>
+    ensures { OnOk result (out.new.items ≡ out.old.items ++ string text.now) }
+{
+    out.push(b'"')?;
+    push_all_escaped(out, text)?;
+    out.push(b'"')?;
+    Ok(())
+}
+
+fn push_further_strings(out: &mut Vec<u8>, words: &[Vec<u8>]) -> Result<(), AllocError>
+    ensures { OnOk result (out.new.items ≡ out.old.items ++ flat_map (λ w. 44 ∷ string_of w) words.now) }
+{
+    for word in words {
+        out.push(b',')?;
+        push_string(out, word)?;
+    }
+    Ok(())
+}
+
+/// Appends strings, with commas between them.
+pub fn push_strings(out: &mut Vec<u8>, words: &[Vec<u8>]) -> Result<(), AllocError>
+    ensures { OnOk result (out.new.items ≡ out.old.items ++ listed string_of words.now) }
+{
+    match words {
+        [] => Ok(()),
+        [first, others @ ..] => {
+            push_string(out, first)?;
+            push_further_strings(out, others)
+        }
+    }
+}
+
+/// Appends the name of a further member that is an array, and its bracket.
+pub fn begin_array(out: &mut Vec<u8>, name: &[u8]) -> Result<(), AllocError>
+    ensures { OnOk result (out.new.items ≡ out.old.items ++ 44 ∷ key name.now ++ 91 ∷ []) }
+{
+    out.push(b',')?;
+    push_key(out, name)?;
+    out.push(b'[')?;
+    Ok(())
+}
+
+/// Appends a further member: a string with any bytes.
+#[tactic(auto, unfolding(crate::specs::Strings::string_member))]
+pub fn push_string_member(out: &mut Vec<u8>, name: &[u8], text: &[u8]) -> Result<(), AllocError>
+    ensures { OnOk result (out.new.items ≡ out.old.items ++ string_member name.now text.now) }
+{
+    out.push(b',')?;
+    push_key(out, name)?;
+    push_string(out, text)
+}
