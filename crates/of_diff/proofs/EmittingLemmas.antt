@@ -62,8 +62,10 @@ module _ (p q : SymbolicPacket) (frame : List ℕ) (ingress : ℕ) where
     where
       sent : SymbolicPacket → Emitted
       sent r = record { items = Sent port.number (packet_for r frame ingress).frame ∷ []; counts = [] }
+
       dropped : Emitted
       dropped = record { items = []; counts = TxDropped port.number ∷ [] }
+
       by_test : (b : Bool) → (cond {A = Emitted} b (sent p) dropped).items ≡ (cond {A = Emitted} b (sent q) dropped).items
       by_test true = rw e refl
       by_test false = refl
@@ -78,10 +80,10 @@ pub same_outputs : (p q : SymbolicPacket) (port max_len : ℕ) → SameOutputs p
 same_outputs p q port max_len h ps qs same frame ingress =
     same_emission ps qs same (packet_for p frame ingress) port max_len
     ∙ chosen_same (port == OFPP_IN_PORT) ((port == OFPP_FLOOD) || (port == OFPP_ALL)) (port == OFPP_CONTROLLER) (port == ingress) _ _ _ _ _ _ _ _
-      (to_port_same p q frame ingress h.rewrites (port_at qs ingress))
-      (rw h.rewrites refl)
-      (λ is. told_same p q frame ingress (Some max_len) (h.told (eqb-true port OFPP_CONTROLLER is)))
-      (to_port_same p q frame ingress h.rewrites (port_at qs port))
+    (to_port_same p q frame ingress h.rewrites (port_at qs ingress))
+    (rw h.rewrites refl)
+    (λ is. told_same p q frame ingress (Some max_len) (h.told (eqb-true port OFPP_CONTROLLER is)))
+    (to_port_same p q frame ingress h.rewrites (port_at qs port))
 
 pub both_outputs : (x y : Emission) (p q : SymbolicPacket) (port by max_len most : ℕ) → x ≡ Output p port max_len → y ≡ Output q by most → port ≡ by → max_len ≡ most → SameOutputs p q port → EmitTheSame x y
 both_outputs x y p q port by max_len most left right same long h = rw (left, right, sym same, sym long) (same_outputs p q port max_len h)

@@ -1,5 +1,7 @@
 -- What is known of two switches while pairs are left.
-use Rattle.std.proofs.Common.{◌≡◌, ℕ, ◌⊎◌, List, [], ◌∷◌, ◌++◌, refl, sym, ap, ◌∙◌, subst, inl, inr}
+use Rattle.std.proofs.Common.{arith, length, ◌+◌, ◌<◌, ◌≤◌, Option, Some, None, Result, Ok, Err, Global, ◌≡◌, ℕ, ◌⊎◌, List, [], ◌∷◌, ◌++◌, refl, sym, ap, ◌∙◌, subst, inl, inr}
+use Rattle.std.specs.Prelude.{OnOk, if◌then◌else◌, is_ok}
+use Rattle.std.specs.Global.{Vec}
 use Rattle.std.specs.List.{Contains}
 use Rattle.std.proofs.lemmas.List.Elements.{Contains-append_left, Contains-append_right, Contains-append_cases, Contains-push, Contains-push_cases}
 use Rattle.of_machine.specs.TheWorld.{TheWorld}
@@ -12,6 +14,20 @@ use Rattle.of_diff.specs.declared.pair.Pair.{Pair}
 use Rattle.of_diff.specs.Alike.{IsReceivedAt}
 use Rattle.of_diff.specs.Differences.{AreDifferences, InDifferences, InUndecided, IsDifference, IsTreatedAlike}
 use Rattle.of_diff.specs.Pairs.{ArePairs, Holds, InPairs, IsSoFar}
+
+pub on_appended : {X Y E : Type 0} (r : Result Y E) (new old more : List X) (Q : Type 0) → new ≡ (if is_ok r then old ++ more else old) → (new ≡ old ++ more → Q) → OnOk r Q
+on_appended (Ok x) new old more Q is f = f is
+on_appended (Err e) new old more Q is f = tt
+
+no_items : {X : Type 0} (xs : List X) → length xs ≡ 0 → xs ≡ []
+no_items [] h = refl
+no_items (x ∷ xs) h = absurd (omega (arith, h))
+
+pub no_length : {X : Type 0} (xs : Vec X) → xs.len ≡ 0 → xs.items ≡ []
+no_length xs h = no_items xs.items (omega (arith, h, xs.ok.0))
+
+pub first_of_none : {X : Type 0} (none new : List X) (x : X) → none ≡ [] → new ≡ none ++ x ∷ [] → new ≡ x ∷ []
+first_of_none none new x is more = rw is at more
 
 module _ (c : Compared) (w v : TheWorld) where
   -- where a frame is that is received
@@ -108,17 +124,18 @@ module _ (c : Compared) (w v : TheWorld) where
   }
     where
       nothing : (d : Difference) → Contains [] d → ⊥
-      nothing d h = absurd cc
+      nothing d h = absurd (omega (arith, h.1))
+
       one : (pair p : Pair) → Contains (pair ∷ []) p → pair ≡ p
       one pair p at = by_place (Contains-push_cases [] pair p at)
         where
           by_place : Contains [] p ⊎ (pair ≡ p) → pair ≡ p
-          by_place (inl before) = absurd cc
+          by_place (inl before) = absurd (omega (arith, before.1))
           by_place (inr same) = same
 
   pub ends : (ds : Differences) → IsSoFar c w v [] ds → AreDifferences c w v ds
   ends ds h = record { real = h.real; all = λ frame port received. by_place frame port (h.all frame port received) }
     where
       by_place : (frame : List ℕ) (port : ℕ) → IsSomewhere [] ds frame port → InDifferences ds.found.items frame port ⊎ (InUndecided ds.undecided.items frame port ⊎ IsTreatedAlike c w v frame port)
-      by_place frame port (inl p) = absurd cc
+      by_place frame port (inl p) = absurd (omega (arith, p.1.1))
       by_place frame port (inr rest) = rest

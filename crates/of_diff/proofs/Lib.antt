@@ -10,3 +10,6 @@ mod ChangedLemmas
 pub mod HitLemmas
 pub mod PairLemmas
 pub mod FindingLemmas
+pub mod ReceivedLemmas
+pub mod EndedLemmas
+pub mod GroupedLemmas

@@ -19,7 +19,7 @@ use crate::pair::{Next, Pair, step_first, step_second};
 use crate::ports::{absent_ports, have_same_ports};
 use of_classifier::Lookup;
 use of_datapath::Datapath;
-use of_symbolic_run::{FrameSet, received_state};
+use of_symbolic_run::{FrameSet, ended_states_give_runs, received_state};
 use std::alloc::{AllocError, Global};
 
 // Both runs are done: if the same was sent, all frames are treated alike; else one of them runs on both switches.
@@ -38,6 +38,7 @@ fn compare_ended<'a, L: Lookup>(
 {
     first.known_world();
     second.known_world();
+    ended_states_give_runs();
     if send_the_same(compared, &pair.first.emitted, &pair.second.emitted) {
         return Ok(Next::Alike);
     }
@@ -69,9 +70,10 @@ fn step_pair<'a, L: Lookup>(
 fn received_frames<L: Lookup>(alloc: Global, datapath: &Datapath<L>) -> Result<FrameSet, AllocError>
     ensures { IfOk result (λ frames. (frame : List ℕ) (port : ℕ) → IsReceivedAt (world_of (forwarding_of datapath.now)) frame port → InFrames frames frame port) }
 {
+    let absent = absent_ports(alloc, datapath.port_list())?;
     let mut frames = FrameSet::whole(alloc)?;
-    for fields in absent_ports(alloc, datapath.port_list())? {
-        frames = frames.without(alloc, &fields)?;
+    for index in 0..absent.len() {
+        frames = frames.without(alloc, &absent[index])?;
     }
     Ok(frames)
 }
@@ -106,7 +108,8 @@ fn put<'a>(
 fn give_up<'a>(pairs: Vec<Pair<'a>>, so_far: &mut Differences) -> Result<(), AllocError>
     ensures { OnOk result ((c : WhatIsCompared) (w v : TheWorld) → IsSoFar c w v pairs.entry.items so_far.old → AreDifferences c w v so_far.new) }
 {
-    for pair in pairs {
+    let mut pairs = pairs;
+    while let Some(pair) = pairs.pop() {
         so_far.undecided.push(Undecided {
             frames: pair.frames,
             why: Why::Steps,

@@ -6,6 +6,7 @@ mod difference;
 mod differing;
 mod emissions;
 mod ending;
+mod grouped;
 mod pair;
 mod ports;
 mod side;

@@ -6,6 +6,7 @@ ghost use Rattle.of_diff.specs.Pairs.{SideIs};
 ghost use Rattle.of_symbolic_run.specs.States.{answer_to_tasks};
 ghost use Rattle.of_symbolic_run.specs.declared.advance.Advance.TheVariants.{Lookup as WantsLookup};
 
+use crate::grouped::step_group;
 use of_classifier::Lookup;
 use of_datapath::Datapath;
 use of_symbolic_run::{
@@ -59,7 +60,10 @@ pub fn step_side<'a, L: Lookup>(
 {
     match advance_state(alloc, state)? {
         Advance::Done => Ok(Side::Advanced),
-        Advance::Group(_) => Ok(Side::Unknown),
+        Advance::Group(group) => {
+            step_group(alloc, datapath, state, group)?;
+            Ok(Side::Advanced)
+        }
         Advance::DecNwTtl => Ok(Side::Divided(divide_by_ttl(alloc, state, frames)?)),
         Advance::Lookup(table) => step_lookup(alloc, datapath, state, frames, table),
     }

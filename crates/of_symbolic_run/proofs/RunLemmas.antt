@@ -14,7 +14,7 @@ use Rattle.of_symbolic_run.specs.declared.advance.Advance.TheVariants as advance
 use Rattle.of_symbolic_run.specs.declared.state.SymbolicTask.{SymbolicTask}
 use Rattle.of_symbolic_run.specs.declared.state.SymbolicState.{SymbolicState}
 use Rattle.of_symbolic_run.specs.declared.state.Emission.{Emission}
-use Rattle.of_symbolic_run.specs.States.{Advances, AreTaskCopies, IsAt, IsTaskCopy, TakesStep, items_for, packet_for, row_for, task_for, work_for}
+use Rattle.of_symbolic_run.specs.States.{Advances, AreTaskCopies, IsAt, IsStateCopy, IsTaskCopy, TakesStep, items_for, packet_for, row_for, task_for, work_for}
 
 after_next : (w : TheWorld) (n : ℕ) (m : Machine) → after w (suc n) m ≡ step w (after w n m)
 unfolding after
@@ -78,6 +78,9 @@ same_tasks frame port (t ∷ ts) [] are = absurd are
 same_tasks frame port (t ∷ ts) (c ∷ copies) are =
     let first : task_for frame port c ≡ task_for frame port t = rw (are.0.0, are.0.1) refl in
     ap (λ (x : Task). x ∷ map (task_for frame port) copies) first ∙ ap (λ (xs : List Task). task_for frame port t ∷ xs) (same_tasks frame port ts copies are.1)
+
+pub copied_at : (w : TheWorld) (frame : List ℕ) (port : ℕ) (s copy : SymbolicState) → IsStateCopy s copy → IsAt w frame port s → IsAt w frame port copy
+copied_at w frame port s copy h at = record { steps = at.steps; tasks = at.tasks ∙ sym (same_tasks frame port s.tasks.items copy.tasks.items h.0); items = at.items ∙ ap (λ (es : List Emission). items_for w.ports es frame port) (sym h.1) }
 
 -- ---- the first state
 

@@ -86,10 +86,8 @@ fn cases_of<'a>(
     Ok(cases)
 }
 
-/// A lookup of the first packet in a table divides the frames by the entry that they hit (OpenFlow 1.3.5, 5.3).
-///
-/// None if the match of an entry asks what is not known of the packet.
-pub fn look_up<'a>(
+// The frames by the entry that they hit.
+fn cases_by_entry<'a>(
     alloc: Global,
     entries: Entries<'a>,
     state: &SymbolicState<'a>,
@@ -112,4 +110,23 @@ pub fn look_up<'a>(
             Ok(Some(cases))
         }
     }
+}
+
+/// A lookup of the first packet in a table divides the frames by the entry that they hit (OpenFlow 1.3.5, 5.3).
+///
+/// None if the match of an entry asks what is not known of the packet.
+pub fn look_up<'a>(
+    alloc: Global,
+    entries: Entries<'a>,
+    state: &SymbolicState<'a>,
+    frames: &FrameSet,
+    table: u8,
+) -> Result<Option<Vec<Case<'a>>>, AllocError>
+    requires first { answer_to_tasks state.now.tasks.items ≡ Lookup table }
+    ensures some { IfOk result (λ found. IfSome found (λ cases. (w : TheWorld) → IsTableOf w table (flows_of entries.entry) →
+        AreCases w frames.now state.now cases.items)) }
+    ensures none { IfOk result (λ found. IfNone found (AsksUnknownOf state.now.tasks.items (flows_of entries.entry))) }
+{
+    let found = cases_by_entry(alloc, entries, state, frames, table)?;
+    Ok(found)
 }

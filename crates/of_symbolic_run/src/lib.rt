@@ -26,7 +26,6 @@ pub use dividing::{Case, look_up};
 pub use finding::FrameFound;
 pub use frame_set::FrameSet;
 pub use grouping::run_group;
-pub use known_ttl::KnownTtl;
 pub use laws::ended_states_give_runs;
 pub use received::received_state;
 pub use rewrites::Rewrites;

@@ -1,6 +1,7 @@
 //! States of a symbolic run.
-ghost use Rattle.std.specs.Prelude.{◌≡◌, IfOk};
-ghost use Rattle.of_symbolic_run.specs.States.{IsStateCopy, IsTaskCopy};
+ghost use Rattle.std.specs.Prelude.{◌≡◌, ℕ, List, IfOk};
+ghost use Rattle.of_machine.specs.TheWorld.{TheWorld};
+ghost use Rattle.of_symbolic_run.specs.States.{IsAt, IsStateCopy, IsTaskCopy};
 
 use crate::copying::{copied_emissions, copied_tasks, copied_works};
 use crate::rewrites::Rewrites;
@@ -88,9 +89,12 @@ impl<'a> SymbolicTask<'a> {
 }
 
 impl<'a> SymbolicState<'a> {
-    /// A state with the same packets, which emitted the same: so it says the same about the run of each frame.
+    /// A state with the same packets, which emitted the same.
+    ///
+    /// `at`: so it says the same about the run of each frame.
     pub fn copy(&self, alloc: Global) -> Result<SymbolicState<'a>, AllocError>
-        ensures { IfOk result (IsStateCopy self.now) }
+        ensures same { IfOk result (IsStateCopy self.now) }
+        ensures at { IfOk result (λ copy. (w : TheWorld) (frame : List ℕ) (port : ℕ) → IsAt w frame port self.now → IsAt w frame port copy) }
     {
         Ok(SymbolicState {
             tasks: copied_tasks(alloc, &self.tasks)?,

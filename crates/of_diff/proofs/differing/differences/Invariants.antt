@@ -4,8 +4,8 @@ use Rattle.of_datapath.specs.Numbers.{forwarding_of}
 use Rattle.of_diff.specs.Pairs.{IsSoFar}
 use Rattle.of_diff.proofs.differing.differences.Given as goal
 
-abbrev pub invariant-loop : goal.invariant-loop
-invariant-loop g l = IsSoFar l.compared (world_of (forwarding_of l.first)) (world_of (forwarding_of l.second)) l.pairs.items l.so_far
+abbrev pub invariant-loop-left : goal.invariant-loop-left
+invariant-loop-left g l = IsSoFar l.compared (world_of (forwarding_of l.first)) (world_of (forwarding_of l.second)) l.pairs.items l.so_far
 
-abbrev pub decreases-loop : goal.decreases-loop
-decreases-loop g l = l.left
+abbrev pub decreases-loop-left : goal.decreases-loop-left
+decreases-loop-left g l = l.left

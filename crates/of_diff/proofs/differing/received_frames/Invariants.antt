@@ -5,5 +5,5 @@ use Rattle.of_symbolic_run.specs.FrameSets.{InFrames}
 use Rattle.of_diff.specs.Alike.{IsReceivedAt}
 use Rattle.of_diff.proofs.differing.received_frames.Given as goal
 
-abbrev pub invariant-loop-fields : goal.invariant-loop-fields
-invariant-loop-fields g l = (frame : List ℕ) (port : ℕ) → IsReceivedAt (world_of (forwarding_of l.datapath)) frame port → InFrames l.frames frame port
+abbrev pub invariant-loop-index : goal.invariant-loop-index
+invariant-loop-index g l = (frame : List ℕ) (port : ℕ) → IsReceivedAt (world_of (forwarding_of l.datapath)) frame port → InFrames l.frames frame port

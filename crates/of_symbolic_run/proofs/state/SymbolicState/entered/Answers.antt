@@ -4,4 +4,4 @@ use Rattle.of_symbolic_run.proofs.CaseLemmas.{entered_is}
 use Rattle.of_symbolic_run.proofs.state.SymbolicState.entered.Goals as goal
 
 pub returns : goal.returns
-returns c = entered_is c.args.table (found_flow c.args.found) c.args.self.now c.in_ok-state.state _ c.index_mut.result.now c.enter.new.self c.requires c.in_ok-state.ensures c.index_mut.ensures.value c.in_ok-enter.ensures refl refl
+returns c = entered_is c.args.table (found_flow c.args.found) c.args.self.now c.in_ok-state.state _ c.index_mut.result.now c.enter.new.self c.requires c.in_ok-state.ensures.same c.index_mut.ensures.value c.in_ok-enter.ensures refl refl

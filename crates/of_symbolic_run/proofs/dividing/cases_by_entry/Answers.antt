@@ -7,7 +7,7 @@ use Rattle.of_symbolic.specs.declared.branching.Branch.{Branch}
 use Rattle.of_symbolic.specs.Branches.{AreBranches, AsksUnknown, flows_listed}
 use Rattle.of_symbolic_run.specs.Cases.{AreCasesOf}
 use Rattle.of_symbolic_run.proofs.CaseLemmas.{cases_are, key_is, own_branches, unknown_first}
-use Rattle.of_symbolic_run.proofs.dividing.look_up.Goals as goal
+use Rattle.of_symbolic_run.proofs.dividing.cases_by_entry.Goals as goal
 
 pub returns-in-None-clause-none : goal.returns-in-None-clause-none
 returns-in-None-clause-none c =
