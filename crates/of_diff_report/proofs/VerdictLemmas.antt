@@ -1,5 +1,5 @@
 -- What a verdict means.
-use Rattle.std.proofs.Common.{◌≡◌, ℕ, suc, ◌<◌, ◌==◌, false, ◌⊎◌, inl, inr, List, [], ◌∷◌, length, refl, arith}
+use Rattle.std.proofs.Common.{◌≡◌, ℕ, suc, ◌<◌, ◌==◌, false, ◌⊎◌, inl, inr, List, [], ◌∷◌, length, refl, subst, arith}
 use Rattle.std.proofs.lemmas.Bool.Decides.{nat_tests}
 use Rattle.std.specs.Prelude.{Option, Some, None}
 use Rattle.std.specs.List.{Contains}
@@ -20,8 +20,8 @@ some_more n = grind (arith, nat_tests)
 -- a frame that is in no difference and is not undecided
 alike : {P : Type 0} (found : List Difference) (undecided : List Undecided) (frame : List ℕ) (port : ℕ) → found ≡ [] → undecided ≡ []
     → InDifferences found frame port ⊎ (InUndecided undecided frame port ⊎ P) → P
-alike found undecided frame port f u (inl h) = absurd (nothing_in h.0 (rw f at h.1))
-alike found undecided frame port f u (inr (inl h)) = absurd (nothing_in h.0 (rw u at h.1))
+alike found undecided frame port f u (inl h) = absurd (nothing_in h.0 (subst (λ (l : List Difference). Contains l h.0) f h.1))
+alike found undecided frame port f u (inr (inl h)) = absurd (nothing_in h.0 (subst (λ (l : List Undecided). Contains l h.0) u h.1))
 alike found undecided frame port f u (inr (inr h)) = h
 
 by_lists : (c : Compared) (f g : Forwarding) (ds : Differences) (found : List Difference) (undecided : List Undecided) → ds.found.items ≡ found → ds.undecided.items ≡ undecided

@@ -112,16 +112,10 @@ pub fn diffed<'a>(rt: &HostRuntime, asked: &'a Diff) -> Result<DiffVerdict, NoDi
     } else {
         DiffForm::Words
     };
+    let (alloc, steps) = (rt.alloc(), asked.steps as usize);
     let mut writer = WriterSink::new(rt.stdout());
-    let steps = asked.steps as usize;
-    write_differences(
-        rt.alloc(),
-        &first,
-        &second,
-        compared,
-        steps,
-        form,
-        &mut writer,
-    )
-    .map_err(NoDiff::Ended)
+    match write_differences(alloc, &first, &second, compared, steps, form, &mut writer) {
+        Ok(verdict) => Ok(verdict),
+        Err(ended) => Err(NoDiff::Ended(ended)),
+    }
 }
