@@ -19,7 +19,7 @@ use Rattle.of_symbolic_run.specs.States.{items_for, items_of_emission, packet_fo
 use Rattle.of_diff.specs.declared.alike.Compared.{Compared}
 use Rattle.of_diff.specs.declared.alike.Compared.TheVariants.{All, Frames}
 use Rattle.of_diff.specs.Alike.{LeavesAlike, sent_by, to_controller}
-use Rattle.of_diff.specs.Emitting.{AreSamePackets, ComparesFirst, ComparesNothing, EmitTheSame, SameIfRest, SameOutputs, SendTheSame, compares, told_in}
+use Rattle.of_diff.specs.Emitting.{AreSamePackets, ComparesFirst, ComparesNothing, EmitTheSame, SameIfRest, SameOutputs, SendTheSame, compares, is_for_controller}
 use Rattle.of_diff.specs.SamePorts.{SamePorts}
 use Rattle.of_diff.proofs.AlikeLemmas.{alike_self, sent_front, told_front}
 use Rattle.of_diff.proofs.EmissionLemmas.{same_emission}

@@ -13,7 +13,7 @@ use Rattle.of_diff.specs.declared.difference.Undecided.{Undecided}
 use Rattle.of_diff.specs.declared.pair.Pair.{Pair}
 use Rattle.of_diff.specs.Alike.{IsReceivedAt}
 use Rattle.of_diff.specs.Differences.{AreDifferences, InDifferences, InUndecided, IsDifference, IsTreatedAlike}
-use Rattle.of_diff.specs.Pairs.{ArePairs, Holds, InPairs, IsSoFar}
+use Rattle.of_diff.specs.Pairs.{ArePairs, AreStatesOfRuns, InPairs, IsSoFar}
 
 pub on_appended : {X Y E : Type 0} (r : Result Y E) (new old more : List X) (Q : Type 0) → new ≡ (if is_ok r then old ++ more else old) → (new ≡ old ++ more → Q) → OnOk r Q
 on_appended (Ok x) new old more Q is f = f is
@@ -34,10 +34,10 @@ module _ (c : Compared) (w v : TheWorld) where
   abbrev pub IsSomewhere : List Pair → Differences → List ℕ → ℕ → Type 0
   IsSomewhere pairs ds frame port = InPairs pairs frame port ⊎ (InDifferences ds.found.items frame port ⊎ (InUndecided ds.undecided.items frame port ⊎ IsTreatedAlike c w v frame port))
 
-  last_holds : (pairs : List Pair) (pair : Pair) (ds : Differences) → IsSoFar c w v (pairs ++ pair ∷ []) ds → Holds w v pair
+  last_holds : (pairs : List Pair) (pair : Pair) (ds : Differences) → IsSoFar c w v (pairs ++ pair ∷ []) ds → AreStatesOfRuns w v pair
   last_holds pairs pair ds h = h.hold pair (Contains-push pairs pair)
 
-  others_hold : (pairs : List Pair) (pair : Pair) (ds : Differences) → IsSoFar c w v (pairs ++ pair ∷ []) ds → (p : Pair) → Contains pairs p → Holds w v p
+  others_hold : (pairs : List Pair) (pair : Pair) (ds : Differences) → IsSoFar c w v (pairs ++ pair ∷ []) ds → (p : Pair) → Contains pairs p → AreStatesOfRuns w v p
   others_hold pairs pair ds h p at = h.hold p (Contains-append_left pairs (pair ∷ []) p at)
 
   -- a frame of the last pair, of another pair, or elsewhere
@@ -52,7 +52,7 @@ module _ (c : Compared) (w v : TheWorld) where
 
   pub put_pairs : (pairs more : List Pair) (pair : Pair) (ds : Differences) → ArePairs c w v pair more → IsSoFar c w v (pairs ++ pair ∷ []) ds → IsSoFar c w v (pairs ++ more) ds
   put_pairs pairs more pair ds are h = record {
-    hold = λ p at. elim (Contains-append_cases pairs more p at) as (λ x. Holds w v p) [
+    hold = λ p at. elim (Contains-append_cases pairs more p at) as (λ x. AreStatesOfRuns w v p) [
       | inl before ↦ others_hold pairs pair ds h p before
       | inr new ↦ are.hold (last_holds pairs pair ds h) p new
     ];
@@ -66,7 +66,7 @@ module _ (c : Compared) (w v : TheWorld) where
         (λ rest. inr rest);
   }
 
-  pub put_alike : (pairs : List Pair) (pair : Pair) (ds : Differences) → (Holds w v pair → (frame : List ℕ) (port : ℕ) → IsReceivedAt w frame port → InFrames pair.frames frame port → IsTreatedAlike c w v frame port) →
+  pub put_alike : (pairs : List Pair) (pair : Pair) (ds : Differences) → (AreStatesOfRuns w v pair → (frame : List ℕ) (port : ℕ) → IsReceivedAt w frame port → InFrames pair.frames frame port → IsTreatedAlike c w v frame port) →
       IsSoFar c w v (pairs ++ pair ∷ []) ds → IsSoFar c w v pairs ds
   put_alike pairs pair ds alike h = record {
     hold = others_hold pairs pair ds h;
@@ -116,9 +116,9 @@ module _ (c : Compared) (w v : TheWorld) where
 
   -- ---- the beginning and the end
 
-  pub begins : (pair : Pair) (ds : Differences) → ds.found.items ≡ [] → Holds w v pair → ((frame : List ℕ) (port : ℕ) → IsReceivedAt w frame port → InFrames pair.frames frame port) → IsSoFar c w v (pair ∷ []) ds
+  pub begins : (pair : Pair) (ds : Differences) → ds.found.items ≡ [] → AreStatesOfRuns w v pair → ((frame : List ℕ) (port : ℕ) → IsReceivedAt w frame port → InFrames pair.frames frame port) → IsSoFar c w v (pair ∷ []) ds
   begins pair ds none holds all = record {
-    hold = λ p at. (let same : pair ≡ p = one pair p at in subst (Holds w v) same holds);
+    hold = λ p at. (let same : pair ≡ p = one pair p at in subst (AreStatesOfRuns w v) same holds);
     real = λ d at. absurd (nothing d (subst (λ (l : List Difference). Contains l d) none at));
     all = λ frame port received. inl (pair, Contains-push [] pair, all frame port received);
   }

@@ -16,7 +16,7 @@ use Rattle.of_symbolic_run.specs.States.{AreTaskCopies, IsAt, IsStateCopy, task_
 use Rattle.of_diff.specs.declared.alike.Compared.{Compared}
 use Rattle.of_diff.specs.declared.pair.Pair.{Pair}
 use Rattle.of_diff.specs.Alike.{IsReceivedAt}
-use Rattle.of_diff.specs.Pairs.{AreByFirst, AreBySecond, ArePairs, Holds, InPairs}
+use Rattle.of_diff.specs.Pairs.{AreByFirst, AreBySecond, ArePairs, AreStatesOfRuns, InPairs}
 
 same_tasks : (frame : List ℕ) (port : ℕ) (ts cs : List SymbolicTask) → AreTaskCopies ts cs → map (task_for frame port) cs ≡ map (task_for frame port) ts
 same_tasks frame port [] [] h = refl
@@ -78,9 +78,9 @@ module _ (c : Compared) (w v : TheWorld) where
       by_place (inl before) = absurd (none_contained q before)
       by_place (inr same) = same
 
-  alone : (old new : Pair) → new.frames ≡ old.frames → (Holds w v old → Holds w v new) → ArePairs c w v old (new ∷ [])
+  alone : (old new : Pair) → new.frames ≡ old.frames → (AreStatesOfRuns w v old → AreStatesOfRuns w v new) → ArePairs c w v old (new ∷ [])
   alone old new frames holds = record {
-    hold = λ h p at. subst (Holds w v) (one_is new p at) (holds h);
+    hold = λ h p at. subst (AreStatesOfRuns w v) (one_is new p at) (holds h);
     all = λ h frame port received within. inl (new, Contains-push [] new, rw frames within);
   }
 

@@ -33,13 +33,13 @@ pub record SameOutputs (p q : SymbolicPacket) (port : ℕ) : Type 0 where
   pub told : port ≡ OFPP_CONTROLLER → AreSamePackets p q
 
 -- an emission to the controller
-abbrev pub told_in : Emission → Bool
-told_in (Output packet port max_len) = port == OFPP_CONTROLLER
-told_in (InvalidTtl packet) = true
+abbrev pub is_for_controller : Emission → Bool
+is_for_controller (Output packet port max_len) = port == OFPP_CONTROLLER
+is_for_controller (InvalidTtl packet) = true
 
 abbrev pub compares : Compared → Emission → Bool
 compares All e = true
-compares Frames e = not (told_in e)
+compares Frames e = not (is_for_controller e)
 
 -- what is compared begins with this emission, and the others follow
 abbrev pub ComparesFirst : Compared → List Emission → Emission → List Emission → Type 0

@@ -27,8 +27,8 @@ SideIs w frames old new (Divided cases) = AreCases w frames old cases.items
 SideIs w frames old new Unknown = ⊤
 
 -- both states are those of the runs of each frame
-abbrev pub Holds : TheWorld → TheWorld → Pair → Type 0
-Holds w v p = (frame : List ℕ) (port : ℕ) → IsFrame frame → InFrames p.frames frame port → IsAt w frame port p.first × IsAt v frame port p.second
+abbrev pub AreStatesOfRuns : TheWorld → TheWorld → Pair → Type 0
+AreStatesOfRuns w v p = (frame : List ℕ) (port : ℕ) → IsFrame frame → InFrames p.frames frame port → IsAt w frame port p.first × IsAt v frame port p.second
 
 abbrev pub InPairs : List Pair → List ℕ → ℕ → Type 0
 InPairs pairs frame port = (p : Pair) × Contains pairs p × InFrames p.frames frame port
@@ -45,19 +45,19 @@ pub record AreBySecond (first : SymbolicState) (cases : List Case) (pairs : List
 
 -- each frame of a pair is in one of these, whose states are those of its frames, or is treated alike
 pub record ArePairs (c : Compared) (w v : TheWorld) (old : Pair) (pairs : List Pair) : Type 0 where
-  pub hold : Holds w v old → (p : Pair) → Contains pairs p → Holds w v p
-  pub all : Holds w v old → (frame : List ℕ) (port : ℕ) → IsReceivedAt w frame port → InFrames old.frames frame port → InPairs pairs frame port ⊎ IsTreatedAlike c w v frame port
+  pub hold : AreStatesOfRuns w v old → (p : Pair) → Contains pairs p → AreStatesOfRuns w v p
+  pub all : AreStatesOfRuns w v old → (frame : List ℕ) (port : ℕ) → IsReceivedAt w frame port → InFrames old.frames frame port → InPairs pairs frame port ⊎ IsTreatedAlike c w v frame port
 
 -- what comes of a pair
 abbrev pub NextIs : Compared → TheWorld → TheWorld → Pair → Next → Type 0
 NextIs c w v old (next.Pairs pairs) = ArePairs c w v old pairs.items
-NextIs c w v old next.Alike = Holds w v old → (frame : List ℕ) (port : ℕ) → IsReceivedAt w frame port → InFrames old.frames frame port → IsTreatedAlike c w v frame port
+NextIs c w v old next.Alike = AreStatesOfRuns w v old → (frame : List ℕ) (port : ℕ) → IsReceivedAt w frame port → InFrames old.frames frame port → IsTreatedAlike c w v frame port
 NextIs c w v old (next.Differs d) = IsDifference c w v d × (d.frames ≡ old.frames)
 NextIs c w v old (next.Undecided u) = u.frames ≡ old.frames
 
 -- all that is known while pairs are left
 pub record IsSoFar (c : Compared) (w v : TheWorld) (pairs : List Pair) (ds : Differences) : Type 0 where
-  pub hold : (p : Pair) → Contains pairs p → Holds w v p
+  pub hold : (p : Pair) → Contains pairs p → AreStatesOfRuns w v p
   pub real : (d : Difference) → Contains ds.found.items d → IsDifference c w v d
   pub all : (frame : List ℕ) (port : ℕ) → IsReceivedAt w frame port →
       InPairs pairs frame port ⊎ (InDifferences ds.found.items frame port ⊎ (InUndecided ds.undecided.items frame port ⊎ IsTreatedAlike c w v frame port))

@@ -8,7 +8,7 @@ ghost use Rattle.of_diff.specs.Alike.{IsReceivedAt};
 ghost use Rattle.of_diff.specs.declared.alike.Compared.{Compared as WhatIsCompared};
 ghost use Rattle.of_diff.specs.declared.pair.Pair.{Pair as ThePair};
 ghost use Rattle.of_diff.specs.Differences.{AreDifferences};
-ghost use Rattle.of_diff.specs.Pairs.{Holds, IsSoFar, NextIs};
+ghost use Rattle.of_diff.specs.Pairs.{AreStatesOfRuns, IsSoFar, NextIs};
 ghost use Rattle.of_diff.specs.SamePorts.{SamePorts};
 
 use crate::alike::Compared;
@@ -68,7 +68,8 @@ fn step_pair<'a, L: Lookup>(
 
 // All frames that come in by a port that is there.
 fn received_frames<L: Lookup>(alloc: Global, datapath: &Datapath<L>) -> Result<FrameSet, AllocError>
-    ensures { IfOk result (λ frames. (frame : List ℕ) (port : ℕ) → IsReceivedAt (world_of (forwarding_of datapath.now)) frame port → InFrames frames frame port) }
+    ensures { IfOk result (λ frames. (frame : List ℕ) (port : ℕ) →
+        IsReceivedAt (world_of (forwarding_of datapath.now)) frame port → InFrames frames frame port) }
 {
     let absent = absent_ports(alloc, datapath.port_list())?;
     let mut frames = FrameSet::whole(alloc)?;
@@ -120,8 +121,9 @@ fn give_up<'a>(pairs: Vec<Pair<'a>>, so_far: &mut Differences) -> Result<(), All
 
 // The pair before any step.
 fn first_pair<'a, L: Lookup>(alloc: Global, datapath: &Datapath<L>) -> Result<Pair<'a>, AllocError>
-    ensures holds { IfOk result (λ pair. (w v : TheWorld) → Holds w v pair) }
-    ensures all { IfOk result (λ pair. (frame : List ℕ) (port : ℕ) → IsReceivedAt (world_of (forwarding_of datapath.now)) frame port → InFrames pair.frames frame port) }
+    ensures holds { IfOk result (λ pair. (w v : TheWorld) → AreStatesOfRuns w v pair) }
+    ensures all { IfOk result (λ pair. (frame : List ℕ) (port : ℕ) →
+        IsReceivedAt (world_of (forwarding_of datapath.now)) frame port → InFrames pair.frames frame port) }
 {
     Ok(Pair {
         frames: received_frames(alloc, datapath)?,

@@ -1,6 +1,6 @@
 //! Whether two runs emit the same, by what they did to the frame that came in.
 ghost use Rattle.std.specs.Prelude.{◌≡◌, ◌<◌, IfNone, IfSome, length, true};
-ghost use Rattle.of_diff.specs.Emitting.{AreSamePackets, ComparesFirst, ComparesNothing, EmitTheSame, SameOutputs, SendTheSame, compares, told_in};
+ghost use Rattle.of_diff.specs.Emitting.{AreSamePackets, ComparesFirst, ComparesNothing, EmitTheSame, SameOutputs, SendTheSame, compares, is_for_controller};
 
 use crate::alike::Compared;
 use crate::tables::are_same_actions;
@@ -20,7 +20,7 @@ fn are_same_packets(a: &SymbolicPacket, b: &SymbolicPacket) -> bool
 
 // Whether an emission goes to the controller.
 fn is_told(emission: &Emission) -> bool
-    ensures { result ≡ told_in emission.now }
+    ensures { result ≡ is_for_controller emission.now }
 {
     match emission {
         Emission::Output { port, .. } => *port == OFPP_CONTROLLER,

@@ -21,7 +21,8 @@ fn bucket_lists_at<'a, L: Lookup>(
     places: &[u8],
 ) -> Result<Vec<&'a [Action]>, AllocError>
     requires { AllBuckets (world_of (forwarding_of datapath.now)) group places.now }
-    ensures lists { IfOk result (λ buckets. lists_of buckets.items ≡ map (λ place. unwrap_or ((world_of (forwarding_of datapath.now)).bucket group place) []) places.now) }
+    ensures lists { IfOk result (λ buckets.
+        lists_of buckets.items ≡ map (λ place. unwrap_or ((world_of (forwarding_of datapath.now)).bucket group place) []) places.now) }
     ensures served { IfOk result (λ buckets. AreServedLists (lists_of buckets.items)) }
 {
     let mut lists = Vec::new(alloc);
