@@ -13,6 +13,7 @@ use Rattle.of_diff.specs.declared.difference.Undecided.{Undecided}
 use Rattle.of_diff.specs.declared.pair.Pair.{Pair}
 use Rattle.of_diff.specs.Alike.{IsReceivedAt}
 use Rattle.of_diff.specs.Differences.{AreDifferences, InDifferences, InUndecided, IsDifference, IsTreatedAlike}
+use Rattle.of_diff.specs.SamePorts.{SamePorts}
 use Rattle.of_diff.specs.Pairs.{ArePairs, AreStatesOfRuns, InPairs, IsSoFar}
 
 pub on_appended : {X Y E : Type 0} (r : Result Y E) (new old more : List X) (Q : Type 0) → new ≡ (if is_ok r then old ++ more else old) → (new ≡ old ++ more → Q) → OnOk r Q
@@ -133,8 +134,8 @@ module _ (c : Compared) (w v : TheWorld) where
           by_place (inl before) = absurd (omega (arith, before.1))
           by_place (inr same) = same
 
-  pub ends : (ds : Differences) → IsSoFar c w v [] ds → AreDifferences c w v ds
-  ends ds h = record { real = h.real; all = λ frame port received. by_place frame port (h.all frame port received) }
+  pub ends : (ds : Differences) → SamePorts w.ports v.ports → IsSoFar c w v [] ds → AreDifferences c w v ds
+  ends ds ports h = record { ports = ports; real = h.real; all = λ frame port received. by_place frame port (h.all frame port received) }
     where
       by_place : (frame : List ℕ) (port : ℕ) → IsSomewhere [] ds frame port → InDifferences ds.found.items frame port ⊎ (InUndecided ds.undecided.items frame port ⊎ IsTreatedAlike c w v frame port)
       by_place frame port (inl p) = absurd (omega (arith, p.1.1))

@@ -107,7 +107,8 @@ fn put<'a>(
 
 // The runs took as many steps as they may.
 fn give_up<'a>(pairs: Vec<Pair<'a>>, so_far: &mut Differences) -> Result<(), AllocError>
-    ensures { OnOk result ((c : WhatIsCompared) (w v : TheWorld) → IsSoFar c w v pairs.entry.items so_far.old → AreDifferences c w v so_far.new) }
+    ensures { OnOk result ((c : WhatIsCompared) (w v : TheWorld) → SamePorts w.ports v.ports →
+        IsSoFar c w v pairs.entry.items so_far.old → AreDifferences c w v so_far.new) }
 {
     let mut pairs = pairs;
     while let Some(pair) = pairs.pop() {

@@ -1,4 +1,4 @@
-use Rattle.std.proofs.Common.{[], ◌∷◌, List}
+use Rattle.std.proofs.Common.{[], ◌∷◌, List, sym}
 use Rattle.of_datapath.specs.Datapath.{world_of}
 use Rattle.of_datapath.specs.Numbers.{forwarding_of}
 use Rattle.of_diff.specs.declared.pair.Pair.{Pair}
@@ -16,4 +16,4 @@ loop-left-init g c =
 pub returns-in_default-clause-some : goal.returns-in_default-clause-some
 returns-in_default-clause-some g c =
     let none = no_length c.loop-left.pairs c.in_default.ensures.cases.0 in
-    ends c.args.compared (world_of (forwarding_of c.args.first.now)) (world_of (forwarding_of c.args.second.now)) c.loop-left.so_far (rw none at c.loop-left.invariant)
+    ends c.args.compared (world_of (forwarding_of c.args.first.now)) (world_of (forwarding_of c.args.second.now)) c.loop-left.so_far (rw (sym c.port_list.ensures, sym c.port_list-2.ensures) (c.have_same_ports.ensures.0 c.if-not-have_same_ports.false)) (rw none at c.loop-left.invariant)
