@@ -10,7 +10,7 @@
         switch.frame(1, frame)            # [Sent(port=2, frame=..)], or [Answer(PACKET_IN xid 0, ..)]
 
 `Bridge` connects a real controller in its own process. `Network` has several switches with links between them. `diff` finds the
-frames that two switches treat otherwise. The manuals are docs/TESTING.md and docs/LAB.md of the repository.
+frames that two switches treat differently. The manuals are docs/TESTING.md and docs/LAB.md of the repository.
 """
 
 from .bridge import Bridge

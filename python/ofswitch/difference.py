@@ -1,4 +1,4 @@
-"""Which frames two switches treat otherwise, as `ofswitch diff` finds them (docs/DIFF.md)."""
+"""Which frames two switches treat differently, as `ofswitch diff` finds them (docs/DIFF.md)."""
 
 from __future__ import annotations
 

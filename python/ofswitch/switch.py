@@ -175,7 +175,7 @@ class Switch:
         return self._ask(["check", "--events", "-"], b"", good=(0, _FOUND))
 
     def diff(self, other: Switch, *, frames: bool = False, steps: int | None = None) -> dict[str, Any]:
-        """The frames that this switch and another one treat otherwise, as they are now (docs/DIFF.md), as `ofswitch.diff` returns them."""
+        """The frames that this switch and another one treat differently, as they are now (docs/DIFF.md), as `ofswitch.diff` returns them."""
         # an empty text would be no event file
         mine, others = (it.log or f"{rows.at(0)}\n" for it in (self, other))
         return diff(mine, others, frames=frames, steps=steps, program=self._program)

@@ -8,7 +8,7 @@ const STATUSES: &str =
 `line N: syntax` or `line N: type T code C` for a flow text, and `line N: WORD: ...` for each line that `import` refuses \
 (`replay` has printed the effects of the rows before that line, the other commands print nothing); 3 `read fault`, `write fault` or \
 `no memory`; 4 `check` found something, `diff` found a difference, or `import --skip` left lines out; 5 `diff` found no difference, \
-but frames are undecided.";
+or `paths` found paths, but frames are undecided.";
 
 const EVENT_FILES: &str = "An event file has one event per line. Words are separated by one space:
 
@@ -151,6 +151,33 @@ are undecided. If a file is at fault, the status is 1, 2 or 3, and the name of t
 
   ofswitch diff examples/router.flows examples/router2.flows
   ovs-ofctl -O OpenFlow13 --no-names dump-flows br0 | ofswitch diff br0.flows -";
+
+const PATHS: &str =
+    "FILE is a flow text (`ofswitch asm --help`), an event file (`ofswitch replay --help`), or what ovs-ofctl prints (`ofswitch import
+--help`); the first word that is not in a comment says which. The switch of a flow text or a table of ovs-ofctl has its groups and
+flows, and ports 1 to 64, all of whose links are up; that of an event file is the one after its rows. All frames that it receives
+are divided into sets whose frames take the same steps. Sets whose steps differ only in which entries are hit are one path:
+
+  path: in_port 1, eth 00:00:00:00:00:00 > 02:00:00:00:00:a1, eth_type 0x0806, ...
+      frame: --port 1 0200000000a1...   a frame of the first set, as `trace` takes it; it was run
+      lookup 0 entry 2                  its steps, in the lines of `trace --flows`
+      apply
+      output 2 0
+      end
+      out by port 2: 0200...            what leaves: a frame, a packet to the controller, or nothing
+      and 2 more sets of frames, by other entries: 0:3, 0:4
+  undecided: 2 sets of frames: ...      why it is not known which steps frames take
+  7 paths, 2 undecided
+
+An entry is named by its table and its number by age, from 0. With --port, only frames that come in by this port are divided. With
+--to, only paths are printed that may leave by a port for some ingress port, that go to the controller, or of which nothing leaves.
+
+Exit status: 0 each frame is in a path; 5 frames are undecided. If the file is at fault, the status is 1, 2 or 3, and the name of
+the file is before the fault.
+
+  ofswitch paths examples/router.flows
+  ofswitch paths --to drop examples/router.flows
+  ofswitch paths --port 1 --to controller examples/office.txt";
 
 const IMPORTS: &str =
     "FILE has flows and groups, one per line, as `ovs-ofctl -O OpenFlow13 --no-names dump-flows` and `dump-groups` print them, or
@@ -458,6 +485,29 @@ const DIFF: [Argument; 5] = [
     },
 ];
 
+const PATHS_ARGUMENTS: [Argument; 4] = [
+    Argument {
+        name: "FILE",
+        kind: Kind::Positional,
+        help: "The file of the switch; - is standard input",
+    },
+    Argument {
+        name: "N",
+        kind: Kind::Optional("port", "N"),
+        help: "Only frames that come in by this port",
+    },
+    Argument {
+        name: "to",
+        kind: Kind::Optional("to", "PLACE"),
+        help: "Print only paths that may leave by a port, that go to the `controller`, or that `drop` the frame",
+    },
+    Argument {
+        name: "steps",
+        kind: Kind::Optional("steps", "N"),
+        help: "Leave frames undecided after N steps (by default 100000)",
+    },
+];
+
 const SERVE: [Argument; 6] = [
     Argument {
         name: "listen",
@@ -557,7 +607,7 @@ struct Subcommand {
     arguments: &'static [Argument],
 }
 
-const SUBCOMMANDS: [Subcommand; 10] = [
+const SUBCOMMANDS: [Subcommand; 11] = [
     Subcommand {
         name: "replay",
         about: "Runs an event file on a new switch and prints the effects",
@@ -602,9 +652,15 @@ const SUBCOMMANDS: [Subcommand; 10] = [
     },
     Subcommand {
         name: "diff",
-        about: "Finds frames that two switches treat otherwise",
+        about: "Finds frames that two switches treat differently",
         text: DIFFS,
         arguments: &DIFF,
+    },
+    Subcommand {
+        name: "paths",
+        about: "Divides all frames that a switch receives by the steps that they take",
+        text: PATHS,
+        arguments: &PATHS_ARGUMENTS,
     },
     Subcommand {
         name: "serve",

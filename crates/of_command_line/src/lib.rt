@@ -2,6 +2,7 @@
 #![tactic(auto)]
 
 mod command;
+mod dividing;
 
 ghost use Rattle.std.specs.Prelude.{◌≡◌};
 ghost use Rattle.std.specs.Iterator.{IsFinite};
@@ -10,6 +11,8 @@ ghost use Rattle.of_command_line.specs.declared.NoRequest.TheVariants.{NoMemory}
 use clap::ArgMatches;
 use clap::error::{Error, ErrorKind};
 use command::command;
+pub use dividing::{Leading, PathsAsked};
+use dividing::{paths_of, steps_of};
 use of_frame_words::{NoFrame, Received, is_frame_words, read_frame};
 use of_wire::limits::{OFPP_MAX, TABLES};
 use std::alloc::{AllocError, Global};
@@ -33,8 +36,6 @@ const VXLAN_PORT: u16 = 4789;
 const DEFAULT_TURNS: u32 = 1_000_000;
 
 const DEFAULT_READS: u32 = 1_000_000;
-
-const DEFAULT_STEPS: u32 = 100_000;
 
 const DEFAULT_DPID: u64 = 1;
 
@@ -88,8 +89,10 @@ pub enum Request {
     Trace(Trace),
     /// To print which flows of the switch of a file can win, and which never do; `-` is standard input.
     Check(Check),
-    /// To print which frames the switches of two files treat otherwise.
+    /// To print which frames the switches of two files treat differently.
     Diff(Diff),
+    /// To print which steps the frames take that the switch of a file receives; `-` is standard input.
+    Paths(PathsAsked),
     /// To serve controllers.
     Serve(Serve),
     /// To forward the frames of a network.
@@ -290,6 +293,7 @@ fn request_of<N: Net>(
         "trace" => Ok(Request::Trace(trace_of(alloc, matches)?)),
         "check" => check_of(alloc, matches),
         "diff" => Ok(Request::Diff(diff_of(alloc, matches)?)),
+        "paths" => Ok(Request::Paths(paths_of(alloc, matches)?)),
         _ => file_request_of(alloc, name, matches),
     }
 }
@@ -750,16 +754,6 @@ fn reads_of(alloc: Global, word: Option<&str>) -> Result<u32, NoRequest> {
     match number_in(word) {
         Some(reads) => Ok(reads),
         None => Err(refused(alloc, "bad reads: a 32-bit number\n")?),
-    }
-}
-
-fn steps_of(alloc: Global, word: Option<&str>) -> Result<u32, NoRequest> {
-    let Some(word) = word else {
-        return Ok(DEFAULT_STEPS);
-    };
-    match number_in(word) {
-        Some(steps) => Ok(steps),
-        None => Err(refused(alloc, "bad steps: a 32-bit number\n")?),
     }
 }
 

@@ -1,6 +1,6 @@
 -- The rest of two runs whose switches agree from a table on.
-use Rattle.std.proofs.Common.{◌≡◌, ℕ, suc, zero, ◌+◌, ◌<◌, ◌≤◌, ◌==◌, eqb, ltb, leb, Bool, true, false, ◌&&◌, List, [], ◌∷◌, ◌++◌, Option, Some, None, refl, sym, ◌∙◌, ap, length, arith, add_comm}
-use Rattle.std.specs.Prelude.{IsTrue, ⊤, unwrap_or, nat_lt, nat_le, ◌||◌}
+use Rattle.std.proofs.Common.{◌≡◌, ℕ, suc, ◌+◌, ◌≤◌, ◌==◌, true, false, List, [], ◌∷◌, ◌++◌, refl, sym, ◌∙◌, ap, arith, add_comm}
+use Rattle.std.specs.Prelude.{unwrap_or}
 use Rattle.std.specs.List.{AllByRecursion, list_all}
 use Rattle.std.proofs.lemmas.Bool.Decides.{nat_tests}
 use Rattle.std.proofs.lemmas.List.{append-nil}
@@ -12,18 +12,17 @@ use Rattle.of_actions.specs.declared.instruction.Instruction.TheVariants.{Apply,
 use Rattle.of_actions.specs.InstructionLists.{are_for, is_for, is_served_body}
 use Rattle.of_actions.specs.PortNumbers.{is_port}
 use Rattle.of_actions.specs.Supported.{are_supported, is_supported}
-use Rattle.of_table.specs.declared.flow.Flow.{Flow}
 use Rattle.of_machine.specs.declared.data.Packet.{Packet}
 use Rattle.of_machine.specs.declared.data.Item.{Item}
 use Rattle.of_machine.specs.TheWorld.{TheWorld}
-use Rattle.of_machine.specs.Rows.{Lookup, Task, task, entering}
+use Rattle.of_machine.specs.Rows.{Lookup, task}
 use Rattle.of_machine.specs.Runs.{Machine, after, run_of, starting}
 use Rattle.of_machine.specs.Sound.{AllBuckets, IsSound}
 use Rattle.of_machine.specs.Weights.{task_weight}
 use Rattle.of_machine.proofs.Ending.{after_plus, run_is_after, settled}
 use Rattle.of_machine.proofs.Whole.{frame_fits, run_ends, run_is}
-use Rattle.of_diff.specs.Agreeing.{AgreeFrom}
-use Rattle.of_diff.proofs.Agreeing.{AllFrom, AreNoTable, InstructionFrom, IsNoTable, IsOnward, StepsAgree, after_agrees}
+use Rattle.of_diff.specs.Agreeing.{AgreeFrom, AllFrom, AreNoTable, InstructionFrom, IsNoTable}
+use Rattle.of_diff.proofs.Agreeing.{IsOnward, StepsAgree, after_agrees}
 
 -- ---- what a switch installs goes to later tables, and no action of it is an OUTPUT to TABLE
 
@@ -39,19 +38,27 @@ pub all_no_table : (l : List Action) → list_all (is_supported false) l ≡ tru
 all_no_table [] h = tt
 all_no_table (a ∷ l) h = (is_no_table a (grind (arith, nat_tests)), all_no_table l (grind (arith, nat_tests)))
 
-supported_no_table : (l : List Action) → are_supported false l ≡ true → AreNoTable l
+pub supported_no_table : (l : List Action) → are_supported false l ≡ true → AreNoTable l
 supported_no_table l h = all_no_table l (grind (arith, nat_tests))
 
-one_from : (n t : ℕ) → n ≤ t → (i : Instruction) → is_served_body i ≡ true → is_for t i ≡ true → InstructionFrom n i
+one_from : (n t : ℕ) → n ≤ suc t → (i : Instruction) → is_served_body i ≡ true → is_for t i ≡ true → InstructionFrom n i
 one_from n t le (Apply l) h k = supported_no_table l h
 one_from n t le Clear h k = tt
 one_from n t le (Write l) h k = supported_no_table l h
 one_from n t le (Metadata value mask) h k = tt
 one_from n t le (Goto to) h k = grind (arith, nat_tests)
 
-all_from : (n t : ℕ) → n ≤ t → (is : List Instruction) → list_all is_served_body is ≡ true → are_for t is ≡ true → AllByRecursion (InstructionFrom n) is
+pub all_from : (n t : ℕ) → n ≤ suc t → (is : List Instruction) → list_all is_served_body is ≡ true → are_for t is ≡ true → AllByRecursion (InstructionFrom n) is
 all_from n t le [] h k = tt
 all_from n t le (i ∷ is) h k = (one_from n t le i (grind (arith, nat_tests)) (grind (arith, nat_tests)), all_from n t le is (grind (arith, nat_tests)) (grind (arith, nat_tests)))
+
+-- an instruction that leads to no table before this one
+pub served_from : (n : ℕ) (i : Instruction) → is_served_body i ≡ true → ((t : ℕ) → i ≡ Goto t → n ≤ t) → InstructionFrom n i
+served_from n (Apply l) h k = supported_no_table l h
+served_from n Clear h k = tt
+served_from n (Write l) h k = supported_no_table l h
+served_from n (Metadata value mask) h k = tt
+served_from n (Goto t) h k = k t refl
 
 buckets_from : (w : TheWorld) (g : ℕ) (places : List ℕ) → AllBuckets w g places → AllByRecursion (λ place. AreNoTable (unwrap_or (w.bucket g place) [])) places
 buckets_from w g [] h = tt
@@ -59,7 +66,7 @@ buckets_from w g (x ∷ xs) h = (rw h.0.there (supported_no_table h.0.actions h.
 
 pub from_sound : (n : ℕ) (w : TheWorld) → IsSound w → IsOnward n w
 from_sound n w sound = record {
-  flow = λ t place f le e. let kept = sound.kept t place f e in all_from n t le f.instructions (grind (arith, nat_tests)) (sound.onward t place f e);
+  flow = λ t place f le e. let kept = sound.kept t place f e in all_from n t (omega (arith, le)) f.instructions (grind (arith, nat_tests)) (sound.onward t place f e);
   bucket = λ g places e. buckets_from w g places (sound.buckets g places e);
 }
 

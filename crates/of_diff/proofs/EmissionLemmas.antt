@@ -9,7 +9,7 @@ use Rattle.of_machine.specs.declared.data.Item.TheVariants.{Sent}
 use Rattle.of_machine.specs.declared.data.Packet.{Packet}
 use Rattle.of_machine.specs.Rows.{Emitted, emission, to_port}
 use Rattle.of_machine.specs.TheWorld.{TheWorld}
-use Rattle.of_diff.specs.Alike.{IsReceivedAt}
+use Rattle.of_symbolic_switch.specs.Received.{IsReceivedAt}
 use Rattle.of_diff.specs.SamePorts.{PortKey, SamePorts, port_key}
 
 -- the first port and the others

@@ -1,17 +1,16 @@
 -- What two runs emit, by the actions on the frame.
-use Rattle.std.proofs.Common.{◌≡◌, ℕ, ◌+◌, ◌<◌, ◌≤◌, ◌==◌, eqb, cond, Bool, true, false, List, [], ◌∷◌, ◌++◌, length, Option, Some, None, refl, sym, ap, subst, ◌∙◌, append_assoc, arith, if◌then◌else◌}
-use Rattle.std.specs.Prelude.{map, not, ◌||◌, ◌&&◌}
+use Rattle.std.proofs.Common.{◌≡◌, ℕ, ◌==◌, cond, Bool, true, false, List, [], ◌∷◌, ◌++◌, Option, Some, None, refl, sym, ap, subst, ◌∙◌, if◌then◌else◌}
+use Rattle.std.specs.Prelude.{not, ◌||◌}
 use Rattle.std.proofs.lemmas.Bool.{eqb-true}
-use Rattle.std.proofs.lemmas.List.{append-nil}
 use Rattle.of_wire.specs.declared.limits.TheConstants.{OFPP_ALL, OFPP_CONTROLLER, OFPP_FLOOD, OFPP_IN_PORT}
 use Rattle.of_wire.specs.declared.reasons.PacketInReason.{PacketInReason}
 use Rattle.of_wire.specs.declared.reasons.PacketInReason.TheVariants as reasons
 use Rattle.of_ports.specs.declared.port.Port.{Port}
-use Rattle.of_ports.specs.Ports.{may_send, other_ports, port_at}
+use Rattle.of_ports.specs.Ports.{may_send, port_at}
 use Rattle.of_machine.specs.declared.data.Item.{Item}
 use Rattle.of_machine.specs.declared.data.Item.TheVariants.{Sent}
 use Rattle.of_machine.specs.declared.data.Count.TheVariants.{TxDropped}
-use Rattle.of_machine.specs.Rows.{Emitted, emission, empty_emitted, flooded, output_reason, packet_in_emitted, to_port}
+use Rattle.of_machine.specs.Rows.{Emitted, empty_emitted, output_reason, packet_in_emitted, to_port}
 use Rattle.of_symbolic_run.specs.declared.state.Emission.{Emission}
 use Rattle.of_symbolic_run.specs.declared.state.Emission.TheVariants.{InvalidTtl, Output}
 use Rattle.of_symbolic_run.specs.declared.state.SymbolicPacket.{SymbolicPacket}
@@ -19,8 +18,7 @@ use Rattle.of_symbolic_run.specs.States.{items_for, items_of_emission, packet_fo
 use Rattle.of_diff.specs.declared.alike.Compared.{Compared}
 use Rattle.of_diff.specs.declared.alike.Compared.TheVariants.{All, Frames}
 use Rattle.of_diff.specs.Alike.{LeavesAlike, sent_by, to_controller}
-use Rattle.of_diff.specs.Emitting.{AreSamePackets, ComparesFirst, ComparesNothing, EmitTheSame, SameIfRest, SameOutputs, SendTheSame, compares, is_for_controller}
-use Rattle.of_diff.specs.SamePorts.{SamePorts}
+use Rattle.of_diff.specs.Emitting.{AreSamePackets, ComparesFirst, ComparesNothing, EmitTheSame, SameIfRest, SameOutputs, SendTheSame, compares}
 use Rattle.of_diff.proofs.AlikeLemmas.{alike_self, sent_front, told_front}
 use Rattle.of_diff.proofs.EmissionLemmas.{same_emission}
 

@@ -1,6 +1,5 @@
 -- Runs that are done.
-use Rattle.std.proofs.Common.{◌≡◌, ℕ, List, [], ◌∷◌, refl, sym, ap, subst, ◌∙◌}
-use Rattle.of_machine.specs.declared.data.Item.{Item}
+use Rattle.std.proofs.Common.{◌≡◌, ℕ, List, [], ◌∷◌}
 use Rattle.of_machine.specs.TheWorld.{TheWorld}
 use Rattle.of_machine.specs.Rows.{Lookup, entering}
 use Rattle.of_machine.specs.Runs.{run_of}
@@ -10,7 +9,7 @@ use Rattle.of_symbolic_run.specs.FrameSets.{InFrames}
 use Rattle.of_symbolic_run.specs.States.{IsAt, items_for}
 use Rattle.of_diff.specs.declared.alike.Compared.{Compared}
 use Rattle.of_diff.specs.declared.pair.Pair.{Pair}
-use Rattle.of_diff.specs.Alike.{IsReceivedAt, LeavesAlike, items_at}
+use Rattle.of_symbolic_switch.specs.Received.{IsReceivedAt, items_at}
 use Rattle.of_diff.specs.Differences.{IsTreatedAlike}
 use Rattle.of_diff.specs.Emitting.{SendTheSame}
 use Rattle.of_diff.specs.Pairs.{AreStatesOfRuns}

@@ -1,5 +1,5 @@
 -- What is known of two switches while pairs are left.
-use Rattle.std.proofs.Common.{arith, length, ◌+◌, ◌<◌, ◌≤◌, Option, Some, None, Result, Ok, Err, Global, ◌≡◌, ℕ, ◌⊎◌, List, [], ◌∷◌, ◌++◌, refl, sym, ap, ◌∙◌, subst, inl, inr}
+use Rattle.std.proofs.Common.{arith, length, Result, Ok, Err, ◌≡◌, ℕ, ◌⊎◌, List, [], ◌∷◌, ◌++◌, refl, sym, subst, inl, inr}
 use Rattle.std.specs.Prelude.{OnOk, if◌then◌else◌, is_ok}
 use Rattle.std.specs.Global.{Vec}
 use Rattle.std.specs.List.{Contains}
@@ -11,7 +11,7 @@ use Rattle.of_diff.specs.declared.difference.Difference.{Difference}
 use Rattle.of_diff.specs.declared.difference.Differences.{Differences}
 use Rattle.of_diff.specs.declared.difference.Undecided.{Undecided}
 use Rattle.of_diff.specs.declared.pair.Pair.{Pair}
-use Rattle.of_diff.specs.Alike.{IsReceivedAt}
+use Rattle.of_symbolic_switch.specs.Received.{IsReceivedAt}
 use Rattle.of_diff.specs.Differences.{AreDifferences, InDifferences, InUndecided, IsDifference, IsTreatedAlike}
 use Rattle.of_diff.specs.SamePorts.{SamePorts}
 use Rattle.of_diff.specs.Pairs.{ArePairs, AreStatesOfRuns, InPairs, IsSoFar}

@@ -1,7 +1,5 @@
 mod ActionLemmas
-pub mod Pairing
 pub mod AlikeLemmas
-pub mod PortLemmas
 pub mod EmissionLemmas
 pub mod Agreeing
 pub mod AgreeingRuns
@@ -10,6 +8,11 @@ mod ChangedLemmas
 pub mod HitLemmas
 pub mod PairLemmas
 pub mod FindingLemmas
-pub mod ReceivedLemmas
+pub mod TaskLemmas
 pub mod EndedLemmas
-pub mod GroupedLemmas
+pub mod SameGroupLemmas
+pub mod SameRunLemmas
+pub mod JoiningLemmas
+pub mod AgreementLemmas
+pub mod CutLemmas
+pub mod ChangingLemmas

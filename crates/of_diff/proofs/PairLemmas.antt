@@ -3,11 +3,8 @@ use Rattle.std.proofs.Common.{arith, ◌≡◌, ℕ, ◌⊎◌, List, [], ◌∷
 use Rattle.std.specs.Prelude.{map}
 use Rattle.std.specs.List.{Contains}
 use Rattle.std.proofs.lemmas.List.Elements.{Contains-append_left, Contains-push, Contains-push_cases}
-use Rattle.of_rewrite.specs.Frames.{IsFrame}
 use Rattle.of_machine.specs.TheWorld.{TheWorld}
-use Rattle.of_machine.specs.Rows.{Task}
 use Rattle.of_symbolic_run.specs.declared.dividing.Case.{Case}
-use Rattle.of_symbolic_run.specs.declared.frame_set.FrameSet.{FrameSet}
 use Rattle.of_symbolic_run.specs.declared.state.SymbolicState.{SymbolicState}
 use Rattle.of_symbolic_run.specs.declared.state.SymbolicTask.{SymbolicTask}
 use Rattle.of_symbolic_run.specs.Cases.{AreCases}
@@ -15,17 +12,16 @@ use Rattle.of_symbolic_run.specs.FrameSets.{InFrames}
 use Rattle.of_symbolic_run.specs.States.{AreTaskCopies, IsAt, IsStateCopy, task_for}
 use Rattle.of_diff.specs.declared.alike.Compared.{Compared}
 use Rattle.of_diff.specs.declared.pair.Pair.{Pair}
-use Rattle.of_diff.specs.Alike.{IsReceivedAt}
-use Rattle.of_diff.specs.Pairs.{AreByFirst, AreBySecond, ArePairs, AreStatesOfRuns, InPairs}
+use Rattle.of_diff.specs.Pairs.{AreByFirst, AreBySecond, ArePairs, AreStatesOfRuns}
 
-same_tasks : (frame : List ℕ) (port : ℕ) (ts cs : List SymbolicTask) → AreTaskCopies ts cs → map (task_for frame port) cs ≡ map (task_for frame port) ts
+pub same_tasks : (frame : List ℕ) (port : ℕ) (ts cs : List SymbolicTask) → AreTaskCopies ts cs → map (task_for frame port) cs ≡ map (task_for frame port) ts
 same_tasks frame port [] [] h = refl
 same_tasks frame port [] (c ∷ cs) h = absurd h
 same_tasks frame port (t ∷ ts) [] h = absurd h
 same_tasks frame port (t ∷ ts) (c ∷ cs) h = rw (h.0.0, h.0.1, same_tasks frame port ts cs h.1) refl
 
 pub copy_at : (w : TheWorld) (frame : List ℕ) (port : ℕ) (s c : SymbolicState) → IsStateCopy s c → IsAt w frame port s → IsAt w frame port c
-copy_at w frame port s c h at = record { steps = at.steps; tasks = at.tasks ∙ sym (same_tasks frame port s.tasks.items c.tasks.items h.0); items = rw h.1 at.items }
+copy_at w frame port s c h at = record { steps = at.steps; tasks = at.tasks ∙ sym (same_tasks frame port s.tasks.items c.tasks.items h.0); items = rw h.1 at.items; lines = at.lines ∙ sym h.2 }
 
 -- ---- the cases of one run
 
@@ -63,10 +59,6 @@ second_more first cases pairs c p frames state copy h = record {
     | inr same ↦ (p, Contains-push pairs p, frames ∙ ap (λ (x : Case). x.frames) same)
   ];
 }
-
--- a step before that kept the state of each run
-pub cases_from : (w : TheWorld) (frames : FrameSet) (old new : SymbolicState) (cases : List Case) → ((frame : List ℕ) (port : ℕ) → IsAt w frame port old → IsAt w frame port new) → AreCases w frames new cases → AreCases w frames old cases
-cases_from w frames old new cases keeps h = record { within = h.within; all = h.all; at = λ c there frame port is within at. h.at c there frame port is within (keeps frame port at) }
 
 -- ---- what comes of a pair
 

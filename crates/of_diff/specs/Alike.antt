@@ -1,30 +1,12 @@
--- WHAT LEAVES A SWITCH for a frame that comes in, and whether two switches send the same (OpenFlow 1.3.5, 5.1).
-use Rattle.std.specs.Prelude.{◌≡◌, ℕ, ◌≤◌, ◌==◌, Bool, true, false, List, [], ◌∷◌, length, filter, Some, if◌then◌else◌}
-use Rattle.of_rewrite.specs.Frames.{IsFrame}
-use Rattle.of_ports.specs.declared.port.Port.{Port}
-use Rattle.of_ports.specs.Ports.{may_receive, port_at}
+-- WHAT LEAVES A SWITCH for a frame, and whether two switches send the same (OpenFlow 1.3.5, 5.1).
+use Rattle.std.specs.Prelude.{◌≡◌, ℕ, ◌==◌, Bool, true, false, List, [], ◌∷◌, filter, if◌then◌else◌}
 use Rattle.of_machine.specs.declared.data.Item.{Item}
 use Rattle.of_machine.specs.declared.data.Item.TheVariants.{PacketIn, Sent}
 use Rattle.of_machine.specs.declared.data.ToController.{ToController}
-use Rattle.of_machine.specs.TheWorld.{TheWorld}
-use Rattle.of_machine.specs.Rows.{Lookup, entering}
-use Rattle.of_machine.specs.Runs.{run_of}
 use Rattle.of_diff.specs.declared.alike.Compared.{Compared}
 use Rattle.of_diff.specs.declared.alike.Compared.TheVariants.{All}
 use Rattle.of_diff.specs.declared.alike.Where.{Where}
 use Rattle.of_diff.specs.declared.alike.Where.TheVariants.{Controller, Port as ByPort}
-
--- a frame of 14 to 9,216 bytes that comes in by a port that receives: no other takes a step (4.4)
-pub record IsReceivedAt (w : TheWorld) (frame : List ℕ) (port : ℕ) : Type 0 where
-  pub frame_is : IsFrame frame
-  pub short : length frame ≤ 9216
-  pub ingress : Port
-  pub there : port_at w.ports port ≡ Some ingress
-  pub receives : may_receive ingress ≡ true
-
--- what its run emits, in order
-abbrev pub items_at : TheWorld → List ℕ → ℕ → List Item
-items_at w frame port = (run_of w (entering frame port) (Lookup 0 ∷ [])).items
 
 -- ---- what leaves
 

@@ -3,7 +3,8 @@ use Rattle.std.specs.Prelude.{◌≡◌, ℕ, ◌⊎◌, List}
 use Rattle.std.specs.List.{Contains}
 use Rattle.of_machine.specs.TheWorld.{TheWorld}
 use Rattle.of_symbolic_run.specs.FrameSets.{InFrames}
-use Rattle.of_diff.specs.Alike.{DiffersAt, IsReceivedAt, LeavesAlike, items_at}
+use Rattle.of_symbolic_switch.specs.Received.{IsReceivedAt, items_at}
+use Rattle.of_diff.specs.Alike.{DiffersAt, LeavesAlike}
 use Rattle.of_diff.specs.SamePorts.{SamePorts}
 use Rattle.of_diff.specs.declared.alike.Compared.{Compared}
 use Rattle.of_diff.specs.declared.difference.Difference.{Difference}

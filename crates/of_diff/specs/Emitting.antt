@@ -1,5 +1,5 @@
 -- For contracts inside this crate: what two runs emit, for all frames that came in.
-use Rattle.std.specs.Prelude.{◌≡◌, ℕ, ◌==◌, Bool, true, false, not, List, [], ◌∷◌, ◌++◌}
+use Rattle.std.specs.Prelude.{◌≡◌, ℕ, ◌==◌, Bool, true, not, List, [], ◌++◌}
 use Rattle.of_wire.specs.declared.limits.TheConstants.{OFPP_CONTROLLER}
 use Rattle.of_ports.specs.declared.port.Port.{Port}
 use Rattle.of_symbolic_run.specs.declared.state.Emission.{Emission}

@@ -1,7 +1,9 @@
 pub mod Alike
 pub mod SamePorts
+pub mod SameGroups
 pub mod SameTables
 pub mod Agreeing
 pub mod Emitting
 pub mod Differences
 pub mod Pairs
+pub mod Changing

@@ -1,15 +1,14 @@
 -- For contracts inside this crate: the states of both runs for some frames.
-use Rattle.std.specs.Prelude.{◌≡◌, ℕ, ◌⊎◌, ⊤, List}
+use Rattle.std.specs.Prelude.{◌≡◌, ℕ, ◌⊎◌, List}
 use Rattle.std.specs.List.{Contains}
 use Rattle.of_rewrite.specs.Frames.{IsFrame}
 use Rattle.of_machine.specs.TheWorld.{TheWorld}
 use Rattle.of_symbolic_run.specs.declared.dividing.Case.{Case}
-use Rattle.of_symbolic_run.specs.declared.frame_set.FrameSet.{FrameSet}
+use Rattle.of_symbolic_run.specs.declared.joint.JointCase.{JointCase}
 use Rattle.of_symbolic_run.specs.declared.state.SymbolicState.{SymbolicState}
-use Rattle.of_symbolic_run.specs.Cases.{AreCases}
 use Rattle.of_symbolic_run.specs.FrameSets.{InFrames}
 use Rattle.of_symbolic_run.specs.States.{IsAt, IsStateCopy}
-use Rattle.of_diff.specs.Alike.{IsReceivedAt}
+use Rattle.of_symbolic_switch.specs.Received.{IsReceivedAt}
 use Rattle.of_diff.specs.Differences.{InDifferences, InUndecided, IsTreatedAlike, IsDifference}
 use Rattle.of_diff.specs.declared.alike.Compared.{Compared}
 use Rattle.of_diff.specs.declared.difference.Difference.{Difference}
@@ -17,14 +16,6 @@ use Rattle.of_diff.specs.declared.difference.Differences.{Differences}
 use Rattle.of_diff.specs.declared.pair.Pair.{Pair}
 use Rattle.of_diff.specs.declared.pair.Next.{Next}
 use Rattle.of_diff.specs.declared.pair.Next.TheVariants as next
-use Rattle.of_diff.specs.declared.side.Side.{Side}
-use Rattle.of_diff.specs.declared.side.Side.TheVariants.{Advanced, Divided, Unknown}
-
--- what becomes of one state for some frames
-abbrev pub SideIs : TheWorld → FrameSet → SymbolicState → SymbolicState → Side → Type 0
-SideIs w frames old new Advanced = (frame : List ℕ) (port : ℕ) → IsAt w frame port old → IsAt w frame port new
-SideIs w frames old new (Divided cases) = AreCases w frames old cases.items
-SideIs w frames old new Unknown = ⊤
 
 -- both states are those of the runs of each frame
 abbrev pub AreStatesOfRuns : TheWorld → TheWorld → Pair → Type 0
@@ -47,6 +38,10 @@ pub record AreBySecond (first : SymbolicState) (cases : List Case) (pairs : List
 pub record ArePairs (c : Compared) (w v : TheWorld) (old : Pair) (pairs : List Pair) : Type 0 where
   pub hold : AreStatesOfRuns w v old → (p : Pair) → Contains pairs p → AreStatesOfRuns w v p
   pub all : AreStatesOfRuns w v old → (frame : List ℕ) (port : ℕ) → IsReceivedAt w frame port → InFrames old.frames frame port → InPairs pairs frame port ⊎ IsTreatedAlike c w v frame port
+
+-- the pair of a case of both states
+abbrev pub pair_of_case : JointCase → Pair
+pair_of_case c = record { frames = c.frames; first = c.first; second = c.second }
 
 -- what comes of a pair
 abbrev pub NextIs : Compared → TheWorld → TheWorld → Pair → Next → Type 0

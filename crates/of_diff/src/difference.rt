@@ -4,7 +4,7 @@ use crate::alike::Where;
 use of_machine::Items;
 use of_symbolic_run::FrameSet;
 
-/// Frames that two switches treat otherwise, or may: one of them was run on both.
+/// Frames that two switches treat differently, or may: one of them was run on both.
 #[derive(Drop)]
 pub struct Difference {
     /// It is one of these. Some of these may be treated alike.

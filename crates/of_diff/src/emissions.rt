@@ -7,8 +7,8 @@ use crate::tables::are_same_actions;
 use of_symbolic_run::{Emission, SymbolicPacket};
 use of_wire::limits::OFPP_CONTROLLER;
 
-// Whether the packets are the same for each frame that came in.
-fn are_same_packets(a: &SymbolicPacket, b: &SymbolicPacket) -> bool
+/// Whether the packets are the same for each frame that came in, except their action sets.
+pub fn are_same_packets(a: &SymbolicPacket, b: &SymbolicPacket) -> bool
     ensures { result ≡ true → AreSamePackets a.now b.now }
 {
     are_same_actions(a.rewrites.as_slice(), b.rewrites.as_slice())

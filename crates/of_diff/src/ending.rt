@@ -12,10 +12,10 @@ ghost use Rattle.of_diff.specs.Pairs.{NextIs};
 use crate::alike::{Compared, first_difference};
 use crate::difference::{Difference, Undecided, Why};
 use crate::pair::Next;
-use crate::ports::receiving_port;
 use of_classifier::Lookup;
 use of_datapath::Datapath;
 use of_symbolic_run::{FrameFound, FrameSet};
+use of_symbolic_switch::receiving_port;
 use std::alloc::{AllocError, Global};
 
 /// It is not known whether these frames are treated alike.

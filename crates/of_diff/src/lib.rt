@@ -1,20 +1,25 @@
-//! Which frames two switches treat otherwise.
+//! Which frames two switches treat differently.
 #![tactic(auto)]
 
+mod agreement;
 mod alike;
+mod changing;
+mod continuing;
+mod cutting;
 mod difference;
 mod differing;
 mod emissions;
 mod ending;
-mod grouped;
+mod joining;
 mod pair;
 mod ports;
-mod side;
+mod stepping;
 mod tables;
+mod turns;
 
 pub use alike::{Compared, Where, first_difference};
 pub use difference::{Difference, Differences, Undecided, Why};
 pub use differing::differences;
 pub use emissions::send_the_same;
-pub use ports::{absent_ports, have_same_ports, receiving_port};
+pub use ports::have_same_ports;
 pub use tables::{Changed, are_same_entries, changed_entries, have_same_entries};

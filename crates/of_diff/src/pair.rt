@@ -8,10 +8,10 @@ ghost use Rattle.of_machine.specs.TheWorld.{TheWorld};
 
 use crate::difference::{Difference, Undecided, Why};
 use crate::ending::not_decided;
-use crate::side::{Side, step_side};
 use of_classifier::Lookup;
 use of_datapath::Datapath;
 use of_symbolic_run::{Case, FrameSet, SymbolicState};
+use of_symbolic_switch::{Side, step_side};
 use std::alloc::{AllocError, Global};
 
 /// The states of the runs of two switches, for all frames of a set.
@@ -33,8 +33,8 @@ pub enum Next<'a> {
     Undecided(Undecided),
 }
 
-// The cases of the first run.
-fn pairs_by_first<'a>(
+/// The cases of the first run, each with the state of the second.
+pub fn pairs_by_first<'a>(
     alloc: Global,
     cases: Vec<Case<'a>>,
     second: &SymbolicState<'a>,

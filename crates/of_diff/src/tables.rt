@@ -15,7 +15,8 @@ pub fn are_same_actions(xs: &[Action], ys: &[Action]) -> bool
     xs == ys
 }
 
-fn is_same_instruction(a: &Instruction, b: &Instruction) -> bool
+/// Whether two instructions are the same.
+pub fn is_same_instruction(a: &Instruction, b: &Instruction) -> bool
     ensures { IsTrue result ↔ (a.now ≡ b.now) }
 {
     match (a, b) {
@@ -94,14 +95,24 @@ enum Move {
     Second,
 }
 
+/// How many changed entries of a table are looked at one by one.
+const MOST_CHANGED: usize = 64;
+
 impl Changed {
-    fn none(alloc: Global) -> Changed
+    /// No entries, and so no marks.
+    pub fn none(alloc: Global) -> Changed
         ensures { (result.a.items ≡ []) × (result.b.items ≡ []) }
     {
         Changed {
             a: Vec::new(alloc),
             b: Vec::new(alloc),
         }
+    }
+
+    /// Whether so few entries are marked that it pays to divide the frames by these alone.
+    pub fn are_few(&self) -> bool {
+        self.a.iter().filter(|mark| **mark).count() <= MOST_CHANGED
+            && self.b.iter().filter(|mark| **mark).count() <= MOST_CHANGED
     }
 
     // Marks the entries that are passed.

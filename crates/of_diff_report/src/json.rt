@@ -4,12 +4,12 @@ ghost use Rattle.std.specs.List.{flat_map};
 ghost use Rattle.of_json.specs.Parts.{listed};
 ghost use Rattle.of_diff_report.specs.DiffJson.{at_member, diff_document, diff_head, diff_json, difference_members, difference_object, found_array, found_member, other_ports_json, same_in_json, undecided_member, undecided_string, why_name};
 
-use crate::json_items::{push_controller_place, push_items_member, push_port_place};
 use crate::words::is_same;
 use of_diff::{Difference, Differences, Undecided, Where, Why};
 use of_json::{
     begin_array, push_bytes_member, push_key, push_number_member, push_quoted, push_truth,
 };
+use of_leaving::{push_controller_place, push_items_member, push_port_place};
 use std::alloc::{AllocError, Global};
 
 #[tactic(auto, unfolding(crate::specs::DiffJson::at_member))]

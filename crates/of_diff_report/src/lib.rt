@@ -1,9 +1,7 @@
-//! The report of `diff`: which frames two switches treat otherwise, in words or as JSON.
+//! The report of `diff`: which frames two switches treat differently, in words or as JSON.
 #![tactic(auto)]
 
-mod items;
 mod json;
-mod json_items;
 mod words;
 mod writing;
 

@@ -1,12 +1,11 @@
 //! What is found about two switches, in words.
 ghost use Rattle.std.specs.Prelude.{◌≡◌, ◌++◌, ◌∷◌, IfOk, OnOk};
 ghost use Rattle.std.specs.List.{flat_map};
-ghost use Rattle.of_diff_report.specs.DiffWords.{are_same, count_why, diff_summary, diff_words, difference_count, difference_words, frame_line, is_why, set_words, undecided_count, undecided_line, undecided_sets, undecided_words, where_words, undecided_why};
+ghost use Rattle.of_diff_report.specs.DiffWords.{are_same, count_why, diff_summary, diff_words, difference_count, difference_words, is_why, set_words, undecided_count, undecided_line, undecided_sets, undecided_words, where_words, undecided_why};
 
-use crate::items::push_side;
-use of_build::push_hex;
 use of_classifier::Lookup;
 use of_diff::{Difference, Differences, Undecided, Where, Why};
+use of_leaving::{push_frame_line, push_side};
 use of_switch::Switch;
 use of_trace::push_heading;
 use of_values::push_decimal;
@@ -25,24 +24,6 @@ fn push_where(out: &mut Vec<u8>, at: Where) -> Result<(), AllocError>
         }
         Where::Controller => out.extend_from_slice(b"differs to the controller: "),
     }
-}
-
-// Appends the port and the bytes of a frame, as `trace` takes them.
-#[tactic(auto, unfolding(crate::specs::DiffWords::frame_line))]
-fn push_frame_line(
-    alloc: Global,
-    out: &mut Vec<u8>,
-    port: u32,
-    frame: &[u8],
-) -> Result<(), AllocError>
-    ensures { OnOk result (out.new.items ≡ out.old.items ++ frame_line port frame.now) }
-{
-    out.extend_from_slice(b"    frame: --port ")?;
-    push_decimal(out, u128::from(port))?;
-    out.push(b' ')?;
-    push_hex(alloc, out, frame)?;
-    out.push(b'\n')?;
-    Ok(())
 }
 
 #[tactic(auto, unfolding(crate::specs::DiffWords::difference_words))]

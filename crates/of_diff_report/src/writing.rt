@@ -2,7 +2,7 @@
 ghost use Rattle.std.specs.Prelude.{◌≡◌, ◌<◌, ◌↔◌, ℕ, List, IfOk, Ok, None, Some};
 ghost use Rattle.of_datapath.specs.Datapath.{Forwarding, world_of};
 ghost use Rattle.of_replay.specs.FileRuns.{Writes, ended_as};
-ghost use Rattle.of_diff.specs.Alike.{IsReceivedAt};
+ghost use Rattle.of_symbolic_switch.specs.Received.{IsReceivedAt};
 ghost use Rattle.of_diff.specs.Differences.{IsDifference, IsTreatedAlike};
 ghost use Rattle.of_diff.specs.declared.alike.Compared.{Compared as WhatIsCompared};
 ghost use Rattle.of_diff.specs.declared.difference.Difference.{Difference};
@@ -114,7 +114,7 @@ fn verdict_of(found: &Option<Differences>) -> DiffVerdict
     }
 }
 
-/// Writes which frames two switches treat otherwise (OpenFlow 1.3.5, 5.1). The runs of all frames take at most so many steps together, and each
+/// Writes which frames two switches treat differently (OpenFlow 1.3.5, 5.1). The runs of all frames take at most so many steps together, and each
 /// search for a frame as many. Ok says whether the switches treat all frames alike.
 ///
 /// Err is `WriteFault`, where a write failed and a prefix of the text was written; or `NoMemory`, where nothing was.

@@ -1,6 +1,7 @@
 //! Peers and a clock in memory, of which each accept, read and write can be made to fail.
 ghost use Rattle.std.specs.Bool.{OnTrue};
-ghost use Rattle.std.specs.Prelude.{◌≡◌, ◌++◌, ◌+◌, ◌<◌, ◌≤◌, ◌^◌, ◌∷◌, [], None, Some, length, take, min, IfOk, OnOk, OnErr};
+ghost use Rattle.std.specs.Option.{option_map};
+ghost use Rattle.std.specs.Prelude.{◌≡◌, ◌++◌, ◌+◌, ◌<◌, ◌≤◌, ◌^◌, ◌∷◌, [], None, Some, length, slice_get, take, min, IfOk, OnOk, OnErr};
 
 use crate::peers::{Accepted, Clock, Peers};
 use of_replay::{Reading, Writing};
@@ -133,7 +134,9 @@ impl MemoryPeers {
     }
 
     /// The bytes that the connection of that place took, the newest first.
-    pub fn taken(&self, place: usize) -> Option<&[u8]> {
+    pub fn taken(&self, place: usize) -> Option<&[u8]>
+        ensures { option_map (λ bytes. bytes.now) result ≡ slice_get self.now.taken.items place }
+    {
         Some(&self.taken.get(place)?.bytes)
     }
 }

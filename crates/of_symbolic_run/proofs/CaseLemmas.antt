@@ -15,6 +15,7 @@ use Rattle.of_table.specs.declared.flow.Flow.{Flow}
 use Rattle.of_table.specs.Table.{FlowEntry, flow_at, winner_place}
 use Rattle.of_machine.specs.declared.data.Packet.{Packet}
 use Rattle.of_machine.specs.declared.data.Item.{Item}
+use Rattle.of_machine.specs.declared.data.Step.{Step}
 use Rattle.of_machine.specs.TheWorld.{TheWorld}
 use Rattle.of_machine.specs.Rows.{Row, Task, at_entry, entry_row, lookup_row, task, works}
 use Rattle.of_machine.specs.Rows as rows
@@ -32,7 +33,7 @@ use Rattle.of_symbolic_run.specs.declared.state.SymbolicState.{SymbolicState}
 use Rattle.of_symbolic_run.specs.declared.state.SymbolicTask.{SymbolicTask}
 use Rattle.of_symbolic_run.specs.declared.state.Work.{Work}
 use Rattle.of_symbolic_run.specs.declared.state.Work.TheVariants.{Do, Lookup, RunSet}
-use Rattle.of_symbolic_run.specs.Cases.{AreCases, AreCasesOf, AsksUnknownOf, IsAtEntry, IsCaseOf, IsEntered, IsTableOf, first_key, flow_found, flow_named, goes_to_table}
+use Rattle.of_symbolic_run.specs.Cases.{AreCases, AreCasesOf, AsksUnknownOf, IsAtEntry, IsCaseOf, IsEntered, IsTableOf, first_key, flow_found, flow_named, goes_to_table, lookup_line, flow_with_number}
 use Rattle.of_symbolic_run.specs.States.{IsStateCopy, answer_to_tasks, items_for, packet_for, row_for, task_for, work_for}
 use Rattle.of_symbolic_run.proofs.FirstLemmas.{copy_stepped, first_item, firsts, is_lookup, some_lookup}
 
@@ -75,36 +76,43 @@ instructions_done l k old new le e h =
 
 -- ---- the packet at an entry
 
-abbrev left_at : ℕ → Packet → Option Flow → List Task
+abbrev left_at : ℕ → Packet → Option (ℕ × Flow) → List Task
 left_at table p None = task p [] ∷ []
-left_at table p (Some f) = task (at_entry table f p) (works f.instructions) ∷ []
+left_at table p (Some f) = task (at_entry table f.1 p) (works f.1.instructions) ∷ []
 
-entry_is : (p : Packet) (table n : ℕ) (found : Option Flow) → ((entry_row p table n found).left ≡ left_at table p found) × ((entry_row p table n found).items ≡ [])
-entry_is p table n None = (refl, refl)
-entry_is p table n (Some f) = (refl, refl)
+record IsLookup (table : ℕ) (p : Packet) (found : Option (ℕ × Flow)) (r : Row) : Type 0 where
+  left : r.left ≡ left_at table p found
+  items : r.items ≡ []
+  line : r.line ≡ lookup_line table found
 
-lookup_is : (w : TheWorld) (p : Packet) (table : ℕ) (win : Option ℕ) (found : Option Flow) → flow_found w table win ≡ found → ((lookup_row w p table win).left ≡ left_at table p found) × ((lookup_row w p table win).items ≡ [])
-lookup_is w p table None found is = (ap (left_at table p) is, refl)
-lookup_is w p table (Some n) found is = (let e = entry_is p table n (w.flow table n) in (e.0 ∙ ap (left_at table p) is, e.1))
+entry_is : (p : Packet) (table n : ℕ) (found : Option Flow) → IsLookup table p (flow_with_number n found) (entry_row p table n found)
+entry_is p table n None = record { left = refl; items = refl; line = refl }
+entry_is p table n (Some f) = record { left = refl; items = refl; line = refl }
 
-at_left : (table : ℕ) (found : Option Flow) (frame : List ℕ) (port : ℕ) (t x t' : SymbolicTask) → x.packet ≡ t.packet → IsAtEntry table found x t' → left_at table (packet_for t.packet frame port) found ≡ task_for frame port t' ∷ []
+lookup_is : (w : TheWorld) (p : Packet) (table : ℕ) (win : Option ℕ) (found : Option (ℕ × Flow)) → flow_found w table win ≡ found → IsLookup table p found (lookup_row w p table win)
+lookup_is w p table None found is = subst (λ (o : Option (ℕ × Flow)). IsLookup table p o (lookup_row w p table None)) is (record { left = refl; items = refl; line = refl })
+lookup_is w p table (Some n) found is = subst (λ (o : Option (ℕ × Flow)). IsLookup table p o (lookup_row w p table (Some n))) is (entry_is p table n (w.flow table n))
+
+at_left : (table : ℕ) (found : Option (ℕ × Flow)) (frame : List ℕ) (port : ℕ) (t x t' : SymbolicTask) → x.packet ≡ t.packet → IsAtEntry table found x t' → left_at table (packet_for t.packet frame port) found ≡ task_for frame port t' ∷ []
 at_left table None frame port t x t' same h = rw (h.0 ∙ same, h.1) refl
-at_left table (Some f) frame port t x t' same h = rw (h.0 ∙ ap (λ (q : SymbolicPacket). record q { cookie = f.cookie; table = table; miss = rows.is_miss f }) same, h.1) refl
+at_left table (Some f) frame port t x t' same h = rw (h.0 ∙ ap (λ (q : SymbolicPacket). record q { cookie = f.1.cookie; table = table; miss = rows.is_miss f.1 }) same, h.1) refl
 
-pub entered_is : (table : ℕ) (found : Option Flow) (old copy new : SymbolicState) (x t' : SymbolicTask) → answer_to_tasks old.tasks.items ≡ advances.Lookup table → IsStateCopy old copy → x ≡ get_or copy.tasks.items 0 x →
-    IsAtEntry table found x t' → new.tasks.items ≡ set copy.tasks.items 0 t' → new.emitted.items ≡ copy.emitted.items → IsEntered table found old new
-entered_is table found old copy new x t' answer copied is entry tasks emitted w frame port hit at =
+pub entered_is : (table : ℕ) (found : Option (ℕ × Flow)) (old copy new : SymbolicState) (x t' : SymbolicTask) → answer_to_tasks old.tasks.items ≡ advances.Lookup table → IsStateCopy old copy → x ≡ get_or copy.tasks.items 0 x →
+    IsAtEntry table found x t' → new.tasks.items ≡ set copy.tasks.items 0 t' → new.emitted.items ≡ copy.emitted.items → new.steps.items ≡ copy.steps.items ++ lookup_line table found ∷ [] → IsEntered table found old new
+entered_is table found old copy new x t' answer copied is entry tasks emitted steps w frame port hit at =
     let f = firsts old.tasks.items copy.tasks.items copied.0 (some_lookup old.tasks.items table answer) in
     let p = packet_for f.t.packet frame port in
     let same : x.packet ≡ f.t.packet = ap (λ (y : SymbolicTask). y.packet) (first_item copy.tasks.items x f.copy f.others is f.copied) ∙ f.same.0 in
     let work : f.t.work.items ≡ Lookup table ∷ drop 1 f.t.work.items = is_lookup f.t.work.items table (ap answer_to_tasks (sym f.first) ∙ answer) in
     let found_is : flow_found w table (w.winner table (rows.key_of p)) ≡ found = ap (λ (ts : List SymbolicTask). flow_found w table (w.winner table (first_key ts frame port))) (sym f.first) ∙ hit in
     let row_is = lookup_is w p table (w.winner table (rows.key_of p)) found found_is in
-    let left : (row_for w frame port f.t).left ≡ task_for frame port t' ∷ [] = rw work (row_is.0 ∙ at_left table found frame port f.t x t' same entry) in
-    let sent : (row_for w frame port f.t).items ≡ [] = rw work row_is.1 in
+    let left : (row_for w frame port f.t).left ≡ task_for frame port t' ∷ [] = rw work (row_is.left ∙ at_left table found frame port f.t x t' same entry) in
+    let sent : (row_for w frame port f.t).items ≡ [] = rw work row_is.items in
+    let told : (row_for w frame port f.t).line ≡ lookup_line table found = rw work row_is.line in
+    let lines : new.steps.items ≡ old.steps.items ++ (row_for w frame port f.t).line ∷ [] = steps ∙ ap (λ (l : List Step). l ++ lookup_line table found ∷ []) copied.2 ∙ ap (λ (x : Step). old.steps.items ++ x ∷ []) (sym told) in
     let more : items_for w.ports new.emitted.items frame port ≡ items_for w.ports old.emitted.items frame port ++ (row_for w frame port f.t).items =
     ap (λ (es : List Emission). items_for w.ports es frame port) (emitted ∙ copied.1) ∙ sym (append-nil (items_for w.ports old.emitted.items frame port)) ∙ ap (λ (is : List Item). items_for w.ports old.emitted.items frame port ++ is) (sym sent) in
-    copy_stepped w frame port old new f.t t' f.rest f.others f.first (tasks ∙ ap (λ (ts : List SymbolicTask). set ts 0 t') f.copied) f.behind left more at
+    copy_stepped w frame port old new f.t t' f.rest f.others f.first (tasks ∙ ap (λ (ts : List SymbolicTask). set ts 0 t') f.copied) f.behind left more lines at
 
 -- ---- entries by their places
 
@@ -122,20 +130,20 @@ past_flow [] (suc k) le = refl
 past_flow (e ∷ listed) zero le = absurd (omega (arith, le))
 past_flow (e ∷ listed) (suc k) le = past_flow listed k (omega (arith, le))
 
-pub named_is : (listed : List (Bor Entry)) (place : Option ℕ) (k : ℕ) (x : Bor Entry) → place ≡ Some k → x ≡ get_or listed k x → k < length listed → Some x.now.flow ≡ flow_named (flows_listed listed) place
-named_is listed place k x is at lt = rw is (sym (listed_flow listed k x (slice_get-get_or listed k x lt ∙ ap Some (sym at))))
+pub named_is : (listed : List (Bor Entry)) (place : Option ℕ) (k : ℕ) (x : Bor Entry) → place ≡ Some k → x ≡ get_or listed k x → k < length listed → Some (k, x.now.flow) ≡ flow_named (flows_listed listed) place
+named_is listed place k x is at lt = rw is (sym (ap (flow_with_number k) (listed_flow listed k x (slice_get-get_or listed k x lt ∙ ap Some (sym at)))))
 
 pub named_past : (listed : List (Bor Entry)) (place : Option ℕ) (k : ℕ) → place ≡ Some k → length listed ≤ k → None ≡ flow_named (flows_listed listed) place
-named_past listed place k is le = rw is (sym (past_flow listed k le))
+named_past listed place k is le = rw is (sym (ap (flow_with_number k) (past_flow listed k le)))
 
 -- ---- the case of a branch
 
-pub case_is : (table : ℕ) (flows : List FlowEntry) (frames : FrameSet) (state : SymbolicState) (b : Branch) (c : Case) (found : Option Flow) → ((fields : Field → Option ℕ) → InPart b.part fields → InPart frames.part fields) →
+pub case_is : (table : ℕ) (flows : List FlowEntry) (frames : FrameSet) (state : SymbolicState) (b : Branch) (c : Case) (found : Option (ℕ × Flow)) → ((fields : Field → Option ℕ) → InPart b.part fields → InPart frames.part fields) →
     c.frames.part ≡ b.part → c.frames.ttl_from ≡ frames.ttl_from → c.frames.ttl_to ≡ frames.ttl_to → found ≡ flow_named flows b.entry → IsEntered table found state c.state → IsCaseOf table flows frames state b c
 case_is table flows frames state b c found inside part least most is entered = record {
   within = λ frame port h. (let own : InPart b.part (received_fields frame port) = rw (sym part) h.part in (record { part = inside (received_fields frame port) own; ttl = rw (sym least, sym most) h.ttl }, own));
   all = λ frame port h own. record { part = rw part own; ttl = rw (least, most) h.ttl };
-  entered = subst (λ (o : Option Flow). IsEntered table o state c.state) is entered;
+  entered = subst (λ (o : Option (ℕ × Flow)). IsEntered table o state c.state) is entered;
 }
 
 module _ (table : ℕ) (flows : List FlowEntry) (frames : FrameSet) (state : SymbolicState) where
@@ -176,7 +184,7 @@ module _ (table : ℕ) (flows : List FlowEntry) (frames : FrameSet) (state : Sym
 
   found_named : (w : TheWorld) → IsTableOf w table flows → (o : Option ℕ) → flow_found w table o ≡ flow_named flows o
   found_named w is None = refl
-  found_named w is (Some n) = is.flow n
+  found_named w is (Some n) = ap (flow_with_number n) (is.flow n)
 
   pub cases_are : (w : TheWorld) (l : List Action) (metadata : ℕ) (branches : List Branch) (cases : List Case) → IsTableOf w table flows → ((frame : List ℕ) (port : ℕ) → first_key state.tasks.items frame port ≡ rewritten_fields l metadata frame port) →
       AreBranches flows l metadata frames.part branches → AreCasesOf table flows frames state branches cases → AreCases w frames state cases

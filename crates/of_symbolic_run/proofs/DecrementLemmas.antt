@@ -11,6 +11,8 @@ use Rattle.of_actions.specs.declared.action.Action.TheVariants as actions
 use Rattle.of_wire.specs.declared.reasons.PacketInReason.TheVariants as reasons
 use Rattle.of_machine.specs.declared.data.Packet.{Packet}
 use Rattle.of_machine.specs.declared.data.Item.{Item}
+use Rattle.of_machine.specs.declared.data.Step.{Step}
+use Rattle.of_machine.specs.declared.data.Step.TheVariants.{Act as DidAct, TtlExpired}
 use Rattle.of_machine.specs.TheWorld.{TheWorld}
 use Rattle.of_machine.specs.Rows.{Row, Task, dec_ttl_row, packet_in_emitted, task}
 use Rattle.of_machine.specs.Rows as rows
@@ -37,14 +39,14 @@ use Rattle.of_symbolic_run.proofs.StepLemmas.{frames_more, items_more}
 
 -- ---- rows
 
-last_row : (p : Packet) (rest : List rows.Work) (o : Option ℕ) → is_last o ≡ true → ((dec_ttl_row p rest (dec_ttl_result o)).left ≡ task p [] ∷ []) × ((dec_ttl_row p rest (dec_ttl_result o)).items ≡ (packet_in_emitted reasons.InvalidTtl None p).items)
+last_row : (p : Packet) (rest : List rows.Work) (o : Option ℕ) → is_last o ≡ true → ((dec_ttl_row p rest (dec_ttl_result o)).left ≡ task p [] ∷ []) × ((dec_ttl_row p rest (dec_ttl_result o)).items ≡ (packet_in_emitted reasons.InvalidTtl None p).items) × ((dec_ttl_row p rest (dec_ttl_result o)).line ≡ TtlExpired)
 last_row p rest None h = absurd cc
-last_row p rest (Some t) h = rw h (refl, refl)
+last_row p rest (Some t) h = rw h (refl, refl, refl)
 
 alive_row : (p : Packet) (rest : List rows.Work) (o : Option ℕ) → is_last o ≡ false → (o ≡ None → frame_ttl_decremented p.frame ≡ p.frame) →
-    ((dec_ttl_row p rest (dec_ttl_result o)).left ≡ task (record p { frame = frame_ttl_decremented p.frame }) rest ∷ []) × ((dec_ttl_row p rest (dec_ttl_result o)).items ≡ [])
-alive_row p rest None h stays = (ap (λ (frame : List ℕ). task (record p { frame = frame }) rest ∷ []) (sym (stays refl)), refl)
-alive_row p rest (Some t) h stays = rw h (refl, refl)
+    ((dec_ttl_row p rest (dec_ttl_result o)).left ≡ task (record p { frame = frame_ttl_decremented p.frame }) rest ∷ []) × ((dec_ttl_row p rest (dec_ttl_result o)).items ≡ []) × ((dec_ttl_row p rest (dec_ttl_result o)).line ≡ DidAct actions.DecNwTtl)
+alive_row p rest None h stays = (ap (λ (frame : List ℕ). task (record p { frame = frame }) rest ∷ []) (sym (stays refl)), refl, refl)
+alive_row p rest (Some t) h stays = rw h (refl, refl, refl)
 
 -- ---- states
 
@@ -52,8 +54,8 @@ first_work : (t : SymbolicTask) (rest ts : List SymbolicTask) → ts ≡ t ∷ r
 first_work t rest ts first answer = is_decrement t.work.items (ap answer_to_tasks (sym first) ∙ answer)
 
 pub expired_is : (old copy new : SymbolicState) (x y : SymbolicTask) (packet : SymbolicPacket) (t' : SymbolicTask) → answer_to_tasks old.tasks.items ≡ advances.DecNwTtl → IsStateCopy old copy → x ≡ get_or copy.tasks.items 0 x → y ≡ get_or copy.tasks.items 0 y → packet ≡ x.packet →
-    t'.packet ≡ y.packet → t'.work.items ≡ [] → new.tasks.items ≡ set copy.tasks.items 0 t' → new.emitted.items ≡ copy.emitted.items ++ InvalidTtl packet ∷ [] → IsDecremented true old new
-expired_is old copy new x y packet t' answer copied is again own kept none tasks emitted w frame port is_frame last at =
+    t'.packet ≡ y.packet → t'.work.items ≡ [] → new.tasks.items ≡ set copy.tasks.items 0 t' → new.emitted.items ≡ copy.emitted.items ++ InvalidTtl packet ∷ [] → new.steps.items ≡ copy.steps.items ++ TtlExpired ∷ [] → IsDecremented true old new
+expired_is old copy new x y packet t' answer copied is again own kept none tasks emitted steps w frame port is_frame last at =
     let f = firsts old.tasks.items copy.tasks.items copied.0 (some_decrement old.tasks.items answer) in
     let p = packet_for f.t.packet frame port in
     let same : x.packet ≡ f.t.packet = ap (λ (z : SymbolicTask). z.packet) (first_item copy.tasks.items x f.copy f.others is f.copied) ∙ f.same.0 in
@@ -62,14 +64,16 @@ expired_is old copy new x y packet t' answer copied is again own kept none tasks
     let row_is = last_row p (map work_for (drop 1 f.t.work.items)) (ttl_of (layers_of p.frame)) (ap (λ (ts : List SymbolicTask). is_last (first_ttl ts frame)) (sym f.first) ∙ last) in
     let left : (row_for w frame port f.t).left ≡ task_for frame port t' ∷ [] = rw (work, kept ∙ same_again, none) row_is.0 in
     let sent : (row_for w frame port f.t).items ≡ (packet_in_emitted reasons.InvalidTtl None p).items = rw work row_is.1 in
+    let told : (row_for w frame port f.t).line ≡ TtlExpired = rw work row_is.2 in
+    let lines : new.steps.items ≡ old.steps.items ++ (row_for w frame port f.t).line ∷ [] = steps ∙ ap (λ (l : List Step). l ++ TtlExpired ∷ []) copied.2 ∙ ap (λ (s : Step). old.steps.items ++ s ∷ []) (sym told) in
     let more : items_for w.ports new.emitted.items frame port ≡ items_for w.ports old.emitted.items frame port ++ (row_for w frame port f.t).items =
     ap (λ (es : List Emission). items_for w.ports es frame port) (emitted ∙ ap (λ (es : List Emission). es ++ InvalidTtl packet ∷ []) copied.1 ∙ ap (λ (q : SymbolicPacket). old.emitted.items ++ InvalidTtl q ∷ []) (own ∙ same))
     ∙ items_more f.t f.t [] w.ports old.emitted.items (InvalidTtl f.t.packet) frame port ∙ ap (λ (is : List Item). items_for w.ports old.emitted.items frame port ++ is) (sym sent) in
-    copy_stepped w frame port old new f.t t' f.rest f.others f.first (tasks ∙ ap (λ (ts : List SymbolicTask). set ts 0 t') f.copied) f.behind left more at
+    copy_stepped w frame port old new f.t t' f.rest f.others f.first (tasks ∙ ap (λ (ts : List SymbolicTask). set ts 0 t') f.copied) f.behind left more lines at
 
 pub decremented_is : (old copy new : SymbolicState) (x t' : SymbolicTask) → answer_to_tasks old.tasks.items ≡ advances.DecNwTtl → IsStateCopy old copy → x ≡ get_or copy.tasks.items 0 x →
-    IsOneMoreRewrite actions.DecNwTtl x t' → new.tasks.items ≡ set copy.tasks.items 0 t' → new.emitted.items ≡ copy.emitted.items → IsDecremented false old new
-decremented_is old copy new x t' answer copied is one tasks emitted w frame port is_frame last at =
+    IsOneMoreRewrite actions.DecNwTtl x t' → new.tasks.items ≡ set copy.tasks.items 0 t' → new.emitted.items ≡ copy.emitted.items → new.steps.items ≡ copy.steps.items ++ DidAct actions.DecNwTtl ∷ [] → IsDecremented false old new
+decremented_is old copy new x t' answer copied is one tasks emitted steps w frame port is_frame last at =
     let f = firsts old.tasks.items copy.tasks.items copied.0 (some_decrement old.tasks.items answer) in
     let p = packet_for f.t.packet frame port in
     let item : x ≡ f.copy = first_item copy.tasks.items x f.copy f.others is f.copied in
@@ -84,9 +88,11 @@ decremented_is old copy new x t' answer copied is one tasks emitted w frame port
     rw (packet, one.1, same_work, frames_more f.t.packet.rewrites actions.DecNwTtl frame) refl in
     let left : (row_for w frame port f.t).left ≡ task_for frame port t' ∷ [] = rw work (row_is.0 ∙ ap (λ (y : Task). y ∷ []) (sym next)) in
     let sent : (row_for w frame port f.t).items ≡ [] = rw work row_is.1 in
+    let told : (row_for w frame port f.t).line ≡ DidAct actions.DecNwTtl = rw work row_is.2 in
+    let lines : new.steps.items ≡ old.steps.items ++ (row_for w frame port f.t).line ∷ [] = steps ∙ ap (λ (l : List Step). l ++ DidAct actions.DecNwTtl ∷ []) copied.2 ∙ ap (λ (s : Step). old.steps.items ++ s ∷ []) (sym told) in
     let more : items_for w.ports new.emitted.items frame port ≡ items_for w.ports old.emitted.items frame port ++ (row_for w frame port f.t).items =
     ap (λ (es : List Emission). items_for w.ports es frame port) (emitted ∙ copied.1) ∙ sym (append-nil (items_for w.ports old.emitted.items frame port)) ∙ ap (λ (is : List Item). items_for w.ports old.emitted.items frame port ++ is) (sym sent) in
-    copy_stepped w frame port old new f.t t' f.rest f.others f.first (tasks ∙ ap (λ (ts : List SymbolicTask). set ts 0 t') f.copied) f.behind left more at
+    copy_stepped w frame port old new f.t t' f.rest f.others f.first (tasks ∙ ap (λ (ts : List SymbolicTask). set ts 0 t') f.copied) f.behind left more lines at
 
 -- ---- cases
 

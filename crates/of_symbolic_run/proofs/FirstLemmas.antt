@@ -95,8 +95,9 @@ first_item ts x t rest is first = is ∙ ap (λ (xs : List SymbolicTask). get_or
 -- ---- a step of the first packet, on a copy
 
 pub copy_stepped : (w : TheWorld) (frame : List ℕ) (port : ℕ) (old new : SymbolicState) (t t' : SymbolicTask) (rest others : List SymbolicTask) → old.tasks.items ≡ t ∷ rest → new.tasks.items ≡ t' ∷ others → AreTaskCopies rest others →
-    (row_for w frame port t).left ≡ task_for frame port t' ∷ [] → items_for w.ports new.emitted.items frame port ≡ items_for w.ports old.emitted.items frame port ++ (row_for w frame port t).items → IsAt w frame port old → IsAt w frame port new
-copy_stepped w frame port old new t t' rest others first next behind left items at =
+    (row_for w frame port t).left ≡ task_for frame port t' ∷ [] → items_for w.ports new.emitted.items frame port ≡ items_for w.ports old.emitted.items frame port ++ (row_for w frame port t).items →
+    new.steps.items ≡ old.steps.items ++ (row_for w frame port t).line ∷ [] → IsAt w frame port old → IsAt w frame port new
+copy_stepped w frame port old new t t' rest others first next behind left items lines at =
     let all : map (task_for frame port) new.tasks.items ≡ (row_for w frame port t).left ++ map (task_for frame port) rest =
     ap (map (task_for frame port)) next ∙ ap (λ (xs : List Task). task_for frame port t' ∷ xs) (same_tasks frame port rest others behind) ∙ ap (λ (xs : List Task). xs ++ map (task_for frame port) rest) (sym left) in
-    taken_at w frame port old new t rest first all items at
+    taken_at w frame port old new t rest first all items lines at

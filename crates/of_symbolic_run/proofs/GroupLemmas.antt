@@ -8,6 +8,8 @@ use Rattle.of_actions.specs.declared.action.Action.{Action}
 use Rattle.of_actions.specs.declared.action.Action.TheVariants as actions
 use Rattle.of_actions.specs.Supported.{is_supported}
 use Rattle.of_machine.specs.declared.data.Item.{Item}
+use Rattle.of_machine.specs.declared.data.Step.{Step}
+use Rattle.of_machine.specs.declared.data.Step.TheVariants.{Act as DidAct}
 use Rattle.of_machine.specs.TheWorld.{TheWorld}
 use Rattle.of_machine.specs.Rows.{Task, copies, group_action_row, task}
 use Rattle.of_machine.specs.Rows as rows
@@ -54,18 +56,18 @@ module _ (w : TheWorld) (frame : List ℕ) (port : ℕ) (group : ℕ) (packet : 
       ap (λ (x : Task). x ∷ copies w group (packet_for packet frame port) places) (sym first) ∙ ap (λ (xs : List Task). task_for frame port t ∷ xs) (copies_are places ts are.1)
 
   group_left : (rest : List rows.Work) (chosen : Option (List ℕ)) (buckets : Option (List (List Action))) (ts : List SymbolicTask) → option_map (map (λ place. unwrap_or (w.bucket group place) [])) chosen ≡ buckets → AreGroupTasks packet buckets ts →
-      ((group_action_row w (packet_for packet frame port) rest group chosen).left ≡ map (task_for frame port) ts ++ task (packet_for packet frame port) rest ∷ []) × ((group_action_row w (packet_for packet frame port) rest group chosen).items ≡ [])
+      ((group_action_row w (packet_for packet frame port) rest group chosen).left ≡ map (task_for frame port) ts ++ task (packet_for packet frame port) rest ∷ []) × ((group_action_row w (packet_for packet frame port) rest group chosen).items ≡ []) × ((group_action_row w (packet_for packet frame port) rest group chosen).line ≡ DidAct (actions.Group group))
   group_left rest None buckets ts is are =
       let none : ts ≡ [] = subst (λ (o : Option (List (List Action))). AreGroupTasks packet o ts) (sym is) are in
-      (ap (λ (xs : List SymbolicTask). map (task_for frame port) xs ++ task (packet_for packet frame port) rest ∷ []) (sym none), refl)
+      (ap (λ (xs : List SymbolicTask). map (task_for frame port) xs ++ task (packet_for packet frame port) rest ∷ []) (sym none), refl, refl)
   group_left rest (Some places) buckets ts is are =
       let own : AreBucketTasks packet (map (λ place. unwrap_or (w.bucket group place) []) places) ts = subst (λ (o : Option (List (List Action))). AreGroupTasks packet o ts) (sym is) are in
-      (ap (λ (xs : List Task). xs ++ task (packet_for packet frame port) rest ∷ []) (copies_are places ts own), refl)
+      (ap (λ (xs : List Task). xs ++ task (packet_for packet frame port) rest ∷ []) (copies_are places ts own), refl, refl)
 
 pub group_ran : (group : ℕ) (buckets : Option (List (List Action))) (old new : SymbolicState) (first next : SymbolicTask) (rest ts : List SymbolicTask) → answer_to_tasks old.tasks.items ≡ advances.Group group → first ≡ get_or old.tasks.items 0 first → rest ≡ drop 1 old.tasks.items →
-    next.packet ≡ first.packet → next.work.items ≡ drop 1 first.work.items → AreGroupTasks next.packet buckets ts → new.tasks.items ≡ (ts ++ next ∷ []) ++ rest → new.emitted.items ≡ old.emitted.items →
+    next.packet ≡ first.packet → next.work.items ≡ drop 1 first.work.items → AreGroupTasks next.packet buckets ts → new.tasks.items ≡ (ts ++ next ∷ []) ++ rest → new.emitted.items ≡ old.emitted.items → new.steps.items ≡ old.steps.items ++ DidAct (actions.Group group) ∷ [] →
     (w : TheWorld) (frame : List ℕ) (port : ℕ) → IsGroupOf w group buckets → IsAt w frame port old → IsAt w frame port new
-group_ran group buckets old new first next rest ts answer is behind packet work are tasks emitted w frame port of at =
+group_ran group buckets old new first next rest ts answer is behind packet work are tasks emitted steps w frame port of at =
     by_list old.tasks.items refl
   where
     by_list : (l : List SymbolicTask) → old.tasks.items ≡ l → IsAt w frame port new
@@ -85,4 +87,6 @@ group_ran group buckets old new first next rest ts answer is behind packet work 
         let sent : (row_for w frame port t).items ≡ [] = rw work_is row_is.1 in
         let more : items_for w.ports new.emitted.items frame port ≡ items_for w.ports old.emitted.items frame port ++ (row_for w frame port t).items =
         ap (λ (es : List Emission). items_for w.ports es frame port) emitted ∙ sym (append-nil (items_for w.ports old.emitted.items frame port)) ∙ ap (λ (xs : List Item). items_for w.ports old.emitted.items frame port ++ xs) (sym sent) in
-        taken_at w frame port old new t l e left more at
+        let told : (row_for w frame port t).line ≡ DidAct (actions.Group group) = rw work_is row_is.2 in
+        let lines : new.steps.items ≡ old.steps.items ++ (row_for w frame port t).line ∷ [] = steps ∙ ap (λ (s : Step). old.steps.items ++ s ∷ []) (sym told) in
+        taken_at w frame port old new t l e left more lines at

@@ -8,3 +8,4 @@ pub mod TtlFrameLemmas
 pub mod DecrementLemmas
 pub mod CaseLemmas
 pub mod GroupLemmas
+pub mod CopyLemmas

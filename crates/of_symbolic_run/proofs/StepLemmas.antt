@@ -1,5 +1,5 @@
 -- What each kind of work leaves of a packet.
-use Rattle.std.proofs.Common.{◌≡◌, ℕ, false, List, [], ◌∷◌, ◌++◌, refl, sym, ◌∙◌, ap, drop, Some, length, get_or, ◌<◌, ◌≤◌, ◌+◌, append_assoc}
+use Rattle.std.proofs.Common.{◌≡◌, ℕ, Bool, true, false, cond, List, [], ◌∷◌, ◌++◌, refl, sym, ◌∙◌, ap, subst, drop, Option, Some, None, length, get_or, ◌<◌, ◌≤◌, ◌+◌, append_assoc}
 use Rattle.std.specs.Prelude.{map, IsTrue, slice_get}
 use Rattle.std.proofs.lemmas.List.{append-nil, map-append, drop_all}
 use Rattle.std.proofs.lemmas.Option.{slice_get-get_or}
@@ -7,14 +7,21 @@ use Rattle.of_actions.specs.declared.action.Action.{Action}
 use Rattle.of_actions.specs.declared.action.Action.TheVariants as actions
 use Rattle.of_action_set.specs.Sets.{with_action, with_actions}
 use Rattle.of_actions.specs.declared.instruction.Instruction.TheVariants.{Apply, Write, Goto}
+use Rattle.of_actions.specs.declared.instruction.Instruction.TheVariants as instructions
 use Rattle.of_action_set.specs.Sets.{in_order}
 use Rattle.of_ports.specs.declared.port.Port.{Port}
+use Rattle.of_machine.specs.declared.data.Packet.{Packet}
+use Rattle.of_machine.specs.declared.data.Step.{Step}
+use Rattle.of_machine.specs.declared.data.Step.TheVariants.{End}
+use Rattle.of_machine.specs.declared.data.Step.TheVariants as step
+use Rattle.of_machine.specs.TheWorld.{TheWorld}
 use Rattle.of_machine.specs.Rows.{acts, emission, no_cookie}
 use Rattle.of_machine.specs.Rows as rows
 use Rattle.of_machine.proofs.Moving.{acts_at}
 use Rattle.of_actions.specs.Supported.{is_supported}
 use Rattle.of_machine.proofs.Promises.{out_of_tables, settable, tag_type}
 use Rattle.of_symbolic.specs.Actions.{AreRewriting, IsRewriting, call_of, frame_by, frame_of_actions}
+use Rattle.of_symbolic_run.specs.declared.advance.Advance.{Advance}
 use Rattle.of_symbolic_run.specs.declared.advance.Advance.TheVariants.{Done}
 use Rattle.of_symbolic_run.specs.declared.state.SymbolicTask.{SymbolicTask}
 use Rattle.of_symbolic_run.specs.declared.state.Emission.{Emission}
@@ -22,7 +29,7 @@ use Rattle.of_symbolic_run.specs.declared.state.Emission.TheVariants as emission
 use Rattle.of_symbolic_run.specs.declared.state.Work.{Work}
 use Rattle.of_symbolic_run.specs.declared.state.Work.TheVariants.{Lookup, Do, RunSet, Act}
 use Rattle.of_symbolic_run.specs.Rewriting.{rewrites_alike, rewrites_frames}
-use Rattle.of_symbolic_run.specs.States.{TakesRow, answer_to, items_for, items_of_emission, packet_for, row_for, work_for}
+use Rattle.of_symbolic_run.specs.States.{TakesRow, TellsAdvance, TellsStep, answer_to, items_for, items_of_emission, work_line, packet_for, row_for, with_step_line, work_for}
 
 pub first_is : (l : List Work) (x : Work) → slice_get l 0 ≡ Some x → l ≡ x ∷ drop 1 l
 first_is [] x h = cc
@@ -114,3 +121,70 @@ works_more l i a old new at lt e h =
 
 pub works_done : (l : List Action) (i : ℕ) (works : List Work) → length l ≤ i → map work_for works ++ acts (drop i l) ≡ acts l → map work_for works ≡ acts l
 works_done l i works le h = sym (append-nil (map work_for works)) ∙ rw (drop_all i l le) at h
+
+-- ---- lines
+
+quiet : (x : Work) → work_line x ≡ None → (ts : List SymbolicTask) (l : List Step) → TellsAdvance (answer_to x) ts l l
+quiet (Lookup t) h ts l = refl
+quiet (Do (Apply list)) h ts l = absurd cc
+quiet (Do instructions.Clear) h ts l = absurd cc
+quiet (Do (Write list)) h ts l = absurd cc
+quiet (Do (instructions.Metadata value mask)) h ts l = absurd cc
+quiet (Do (Goto t)) h ts l = absurd cc
+quiet RunSet h ts l = absurd cc
+quiet (Act (actions.Output port max_len)) h ts l = absurd cc
+quiet (Act (actions.PushVlan type)) h ts l = absurd cc
+quiet (Act actions.PopVlan) h ts l = absurd cc
+quiet (Act (actions.Group group)) h ts l = refl
+quiet (Act (actions.SetNwTtl ttl)) h ts l = absurd cc
+quiet (Act actions.DecNwTtl) h ts l = refl
+quiet (Act (actions.SetField f v)) h ts l = absurd cc
+
+is_answered : (x : Work) (line : Step) → work_line x ≡ Some line → answer_to x ≡ Done
+is_answered (Lookup t) line h = absurd cc
+is_answered (Do i) line h = refl
+is_answered RunSet line h = refl
+is_answered (Act (actions.Output port max_len)) line h = refl
+is_answered (Act (actions.PushVlan type)) line h = refl
+is_answered (Act actions.PopVlan) line h = refl
+is_answered (Act (actions.Group group)) line h = absurd cc
+is_answered (Act (actions.SetNwTtl ttl)) line h = refl
+is_answered (Act actions.DecNwTtl) line h = absurd cc
+is_answered (Act (actions.SetField f v)) line h = refl
+
+either_line : (b : Bool) (x y : rows.Row) (line : Step) → x.line ≡ line → y.line ≡ line → (cond b x y).line ≡ line
+either_line true x y line h k = h
+either_line false x y line h k = k
+
+row_line : (w : TheWorld) (p : Packet) (x : Work) (rest : List rows.Work) (line : Step) → work_line x ≡ Some line → (rows.row w p (work_for x ∷ rest)).line ≡ line
+row_line w p (Lookup t) rest line h = absurd cc
+row_line w p (Do (Apply list)) rest line h = cc
+row_line w p (Do instructions.Clear) rest line h = cc
+row_line w p (Do (Write list)) rest line h = cc
+row_line w p (Do (instructions.Metadata value mask)) rest line h = cc
+row_line w p (Do (Goto t)) rest line h = cc
+row_line w p RunSet rest line h = cc
+row_line w p (Act (actions.Output port max_len)) rest line h =
+    let is : step.Act (actions.Output port max_len) ≡ line = cc in
+    either_line _ _ _ line is is
+row_line w p (Act (actions.PushVlan type)) rest line h = cc
+row_line w p (Act actions.PopVlan) rest line h = cc
+row_line w p (Act (actions.Group group)) rest line h = absurd cc
+row_line w p (Act (actions.SetNwTtl ttl)) rest line h = cc
+row_line w p (Act actions.DecNwTtl) rest line h = absurd cc
+row_line w p (Act (actions.SetField f v)) rest line h = cc
+
+pub tells_is : (a : Advance) (ts : List SymbolicTask) (t : SymbolicTask) (rest : List SymbolicTask) (x : Work) (works : List Work) (l l' : List Step) → a ≡ answer_to x → ts ≡ t ∷ rest → t.work.items ≡ x ∷ works → l' ≡ with_step_line l (work_line x) → TellsAdvance a ts l l'
+tells_is a ts t rest x works l l' answer first work is = subst (λ (b : Advance). TellsAdvance b ts l l') (sym answer) (by_line (work_line x) refl)
+  where
+    by_line : (o : Option Step) → work_line x ≡ o → TellsAdvance (answer_to x) ts l l'
+    by_line None e = subst (λ (y : List Step). TellsAdvance (answer_to x) ts l y) (sym (is ∙ ap (with_step_line l) e)) (quiet x e ts l)
+    by_line (Some line) e = subst (λ (b : Advance). TellsAdvance b ts l l') (sym (is_answered x line e)) (subst (λ (us : List SymbolicTask). TellsStep us l l') (sym first) one)
+      where
+        one : (w : TheWorld) (frame : List ℕ) (port : ℕ) → l' ≡ l ++ (row_for w frame port t).line ∷ []
+        one w frame port =
+            let own : (row_for w frame port t).line ≡ line = ap (λ (ws : List Work). (rows.row w (packet_for t.packet frame port) (map work_for ws)).line) work ∙ row_line w (packet_for t.packet frame port) x (map work_for works) line e in
+            is ∙ ap (with_step_line l) e ∙ ap (λ (s : Step). l ++ s ∷ []) (sym own)
+
+pub tells_end : (ts : List SymbolicTask) (t : SymbolicTask) (rest : List SymbolicTask) (l l' : List Step) → ts ≡ t ∷ rest → t.work.items ≡ [] → l' ≡ l ++ End ∷ [] → TellsStep ts l l'
+tells_end ts t rest l l' first none is = subst (λ (us : List SymbolicTask). TellsStep us l l') (sym first) (λ w frame port. is ∙ ap (λ (ws : List Work). l ++ (rows.row w (packet_for t.packet frame port) (map work_for ws)).line ∷ []) (sym none))

@@ -10,6 +10,8 @@ use Rattle.of_actions.specs.declared.instruction.Instruction.TheVariants.{Goto}
 use Rattle.of_table.specs.declared.entry.Entry.{Entry}
 use Rattle.of_table.specs.declared.flow.Flow.{Flow}
 use Rattle.of_table.specs.Table.{FlowEntry, flow_at, winner_place}
+use Rattle.of_machine.specs.declared.data.Step.{Step}
+use Rattle.of_machine.specs.declared.data.Step.TheVariants.{Entry as AtEntry, Miss}
 use Rattle.of_machine.specs.Rows.{is_miss, key_of, works}
 use Rattle.of_machine.specs.TheWorld.{TheWorld}
 use Rattle.of_symbolic.specs.declared.branching.Branch.{Branch}
@@ -48,29 +50,38 @@ abbrev pub first_key : List SymbolicTask → List ℕ → ℕ → Field → Opti
 first_key [] frame port = λ f. None
 first_key (t ∷ rest) frame port = key_of (packet_for t.packet frame port)
 
--- the flow of the entry that was found, if one was
-abbrev pub flow_found : TheWorld → ℕ → Option ℕ → Option Flow
+-- the flow of the entry that was found, if one was, and the entry's number
+abbrev pub flow_with_number : ℕ → Option Flow → Option (ℕ × Flow)
+flow_with_number n None = None
+flow_with_number n (Some f) = Some (n, f)
+
+abbrev pub flow_found : TheWorld → ℕ → Option ℕ → Option (ℕ × Flow)
 flow_found w table None = None
-flow_found w table (Some n) = w.flow table n
+flow_found w table (Some n) = flow_with_number n (w.flow table n)
 
-abbrev pub flow_named : List FlowEntry → Option ℕ → Option Flow
+abbrev pub flow_named : List FlowEntry → Option ℕ → Option (ℕ × Flow)
 flow_named flows None = None
-flow_named flows (Some place) = flow_at place flows
+flow_named flows (Some place) = flow_with_number place (flow_at place flows)
 
-abbrev pub found_flow : Option (Bor Entry) → Option Flow
-found_flow entry = option_map (λ (e : Bor Entry). e.now.flow) entry
+abbrev pub found_flow : Option (ℕ × Bor Entry) → Option (ℕ × Flow)
+found_flow entry = option_map (λ (e : ℕ × Bor Entry). (e.0, e.1.now.flow)) entry
+
+-- the line of a lookup
+abbrev pub lookup_line : ℕ → Option (ℕ × Flow) → Step
+lookup_line table None = Miss table
+lookup_line table (Some f) = AtEntry table f.0
 
 abbrev pub goes_to_table : Instruction → Bool
 goes_to_table (Goto table) = true
 goes_to_table other = false
 
 -- the packet is at the entry of a flow, with its instructions; or it has no work left
-abbrev pub IsAtEntry : ℕ → Option Flow → SymbolicTask → SymbolicTask → Type 0
+abbrev pub IsAtEntry : ℕ → Option (ℕ × Flow) → SymbolicTask → SymbolicTask → Type 0
 IsAtEntry table None old new = (new.packet ≡ old.packet) × (new.work.items ≡ [])
-IsAtEntry table (Some f) old new = (new.packet ≡ record old.packet { cookie = f.cookie; table = table; miss = is_miss f }) × (map work_for new.work.items ≡ works f.instructions)
+IsAtEntry table (Some f) old new = (new.packet ≡ record old.packet { cookie = f.1.cookie; table = table; miss = is_miss f.1 }) × (map work_for new.work.items ≡ works f.1.instructions)
 
 -- for the frames whose first packet hits this flow, or none, one state follows the other
-abbrev pub IsEntered : ℕ → Option Flow → SymbolicState → SymbolicState → Type 0
+abbrev pub IsEntered : ℕ → Option (ℕ × Flow) → SymbolicState → SymbolicState → Type 0
 IsEntered table found old new =
     (w : TheWorld) (frame : List ℕ) (port : ℕ) →
     flow_found w table (w.winner table (first_key old.tasks.items frame port)) ≡ found → IsAt w frame port old → IsAt w frame port new

@@ -6,3 +6,4 @@ pub mod Cases
 pub mod TimesToLive
 pub mod Decrementing
 pub mod Groups
+pub mod JointCases

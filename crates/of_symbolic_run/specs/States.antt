@@ -1,11 +1,14 @@
 -- STATES OF A SYMBOLIC RUN: what a state says about the run of each frame (OpenFlow 1.3.5, 5.1).
-use Rattle.std.specs.Prelude.{◌≡◌, ℕ, List, [], ◌∷◌, ◌++◌, map, None, ⊤}
+use Rattle.std.specs.Prelude.{◌≡◌, ℕ, List, [], ◌∷◌, ◌++◌, map, Option, None, Some, ⊤}
 use Rattle.of_actions.specs.declared.action.Action.TheVariants as actions
+use Rattle.of_actions.specs.declared.instruction.Instruction.TheVariants as instructions
 use Rattle.of_action_set.specs.Sets.{with_actions}
 use Rattle.of_ports.specs.declared.port.Port.{Port}
 use Rattle.of_wire.specs.declared.reasons.PacketInReason.TheVariants as reasons
 use Rattle.of_machine.specs.declared.data.Packet.{Packet}
 use Rattle.of_machine.specs.declared.data.Item.{Item}
+use Rattle.of_machine.specs.declared.data.Step.{Step}
+use Rattle.of_machine.specs.declared.data.Step.TheVariants as step
 use Rattle.of_machine.specs.TheWorld.{TheWorld}
 use Rattle.of_machine.specs.Rows as rows
 use Rattle.of_machine.specs.Rows.{Row, Task, task, row, emission, entering, packet_in_emitted}
@@ -53,11 +56,12 @@ abbrev pub items_for : List Port → List Emission → List ℕ → ℕ → List
 items_for ports [] frame port = []
 items_for ports (e ∷ rest) frame port = items_of_emission ports e frame port ++ items_for ports rest frame port
 
--- THE MACHINE OF THE FRAME comes to the packets and has emitted the items of the state; what it has counted and its lines are not in a state
+-- THE MACHINE OF THE FRAME comes to the packets, has emitted the items of the state and has told its steps; what it has counted is not in a state
 pub record IsAt (w : TheWorld) (frame : List ℕ) (port : ℕ) (s : SymbolicState) : Type 0 where
   pub steps : ℕ
   pub tasks : (after w steps (starting (entering frame port) (rows.Lookup 0 ∷ []))).tasks ≡ map (task_for frame port) s.tasks.items
   pub items : (after w steps (starting (entering frame port) (rows.Lookup 0 ∷ []))).items ≡ items_for w.ports s.emitted.items frame port
+  pub lines : (after w steps (starting (entering frame port) (rows.Lookup 0 ∷ []))).lines ≡ s.steps.items
 
 -- ---- copies: the same for each frame
 
@@ -71,7 +75,7 @@ AreTaskCopies (t ∷ rest) [] = ⊥
 AreTaskCopies (t ∷ rest) (copy ∷ copies) = IsTaskCopy t copy × AreTaskCopies rest copies
 
 abbrev pub IsStateCopy : SymbolicState → SymbolicState → Type 0
-IsStateCopy s copy = AreTaskCopies s.tasks.items copy.tasks.items × (copy.emitted.items ≡ s.emitted.items)
+IsStateCopy s copy = AreTaskCopies s.tasks.items copy.tasks.items × (copy.emitted.items ≡ s.emitted.items) × (copy.steps.items ≡ s.steps.items)
 
 -- ---- steps
 
@@ -116,3 +120,31 @@ TakesStep (t ∷ rest) e ts e' =
 abbrev pub Advances : Advance → List SymbolicTask → List Emission → List SymbolicTask → List Emission → Type 0
 Advances advances.Done ts e ts' e' = TakesStep ts e ts' e'
 Advances other ts e ts' e' = (ts' ≡ ts) × (e' ≡ e)
+
+-- ---- lines
+
+-- the line of a work whose row has the same line for each frame: not of one that divides frames, nor of a GROUP
+abbrev pub work_line : Work → Option Step
+work_line (Lookup t) = None
+work_line (Do (instructions.Apply l)) = Some step.Apply
+work_line (Do instructions.Clear) = Some step.Clear
+work_line (Do (instructions.Write l)) = Some step.Write
+work_line (Do (instructions.Metadata value mask)) = Some (step.Metadata value mask)
+work_line (Do (instructions.Goto t)) = Some (step.Goto t)
+work_line RunSet = Some step.Set
+work_line (Act actions.DecNwTtl) = None
+work_line (Act (actions.Group group)) = None
+work_line (Act a) = Some (step.Act a)
+
+abbrev pub with_step_line : List Step → Option Step → List Step
+with_step_line l None = l
+with_step_line l (Some line) = l ++ line ∷ []
+
+-- for each frame the line of the first packet's row is one more, if there is a packet
+abbrev pub TellsStep : List SymbolicTask → List Step → List Step → Type 0
+TellsStep [] l l' = l' ≡ l
+TellsStep (t ∷ rest) l l' = (w : TheWorld) (frame : List ℕ) (port : ℕ) → l' ≡ l ++ (row_for w frame port t).line ∷ []
+
+abbrev pub TellsAdvance : Advance → List SymbolicTask → List Step → List Step → Type 0
+TellsAdvance advances.Done ts l l' = TellsStep ts l l'
+TellsAdvance other ts l l' = l' ≡ l

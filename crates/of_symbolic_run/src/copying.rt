@@ -1,8 +1,9 @@
-//! Copies of works, tasks and emissions.
+//! Copies of works, tasks, emissions and steps.
 ghost use Rattle.std.specs.Prelude.{◌≡◌, IfOk};
 ghost use Rattle.of_symbolic_run.specs.States.{AreTaskCopies};
 
 use crate::state::{Emission, SymbolicTask, Work};
+use of_machine::Step;
 use std::alloc::{AllocError, Global};
 
 fn copied_work<'a>(work: &Work<'a>) -> Work<'a>
@@ -67,4 +68,11 @@ pub fn copied_emissions(alloc: Global, emissions: &[Emission]) -> Result<Vec<Emi
         copies.push(copied_emission(emission)?)?;
     }
     Ok(copies)
+}
+
+/// The same steps.
+pub fn copied_steps(alloc: Global, steps: &[Step]) -> Result<Vec<Step>, AllocError>
+    ensures { IfOk result (λ copies. copies.items ≡ steps.now) }
+{
+    steps.to_vec(alloc)
 }

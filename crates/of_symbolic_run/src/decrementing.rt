@@ -14,6 +14,7 @@ use crate::known_ttl::ttl_after_all;
 use crate::served::ServedAction;
 use crate::state::{Emission, SymbolicState, SymbolicTask};
 use of_actions::Action;
+use of_machine::Step;
 use std::alloc::{AllocError, Global};
 
 impl<'a> SymbolicTask<'a> {
@@ -48,6 +49,7 @@ impl<'a> SymbolicState<'a> {
         let mut state = self.copy(alloc)?;
         let packet = state.tasks[0].packet.copy()?;
         state.emitted.push(Emission::InvalidTtl(packet))?;
+        state.steps.push(Step::TtlExpired)?;
         state.tasks[0].work.clear();
         Ok(state)
     }
@@ -59,6 +61,7 @@ impl<'a> SymbolicState<'a> {
     {
         let mut state = self.copy(alloc)?;
         state.tasks[0].decrement()?;
+        state.steps.push(Step::Act(Action::DecNwTtl))?;
         Ok(state)
     }
 }

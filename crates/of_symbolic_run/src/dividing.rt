@@ -22,8 +22,8 @@ pub struct Case<'a> {
     pub state: SymbolicState<'a>,
 }
 
-// The entries of a walk.
-fn listed_entries<'a>(alloc: Global, entries: Entries<'a>) -> Result<Vec<&'a Entry>, AllocError>
+/// The entries of a walk.
+pub fn listed_entries<'a>(alloc: Global, entries: Entries<'a>) -> Result<Vec<&'a Entry>, AllocError>
     ensures { IfOk result (λ listed. flows_listed listed.items ≡ flows_of entries.entry) }
 {
     let mut listed = Vec::new(alloc);
@@ -33,13 +33,13 @@ fn listed_entries<'a>(alloc: Global, entries: Entries<'a>) -> Result<Vec<&'a Ent
     Ok(listed)
 }
 
-// The entry at a place.
-fn entry_named<'a>(listed: &[&'a Entry], place: Option<usize>) -> Option<&'a Entry>
+/// The entry at a place, with its number, which is the place.
+pub fn entry_named<'a>(listed: &[&'a Entry], place: Option<usize>) -> Option<(usize, &'a Entry)>
     ensures { found_flow result ≡ flow_named (flows_listed listed.now) place }
 {
     match place {
         None => None,
-        Some(place) if place < listed.len() => Some(listed[place]),
+        Some(place) if place < listed.len() => Some((place, listed[place])),
         Some(_) => None,
     }
 }

@@ -3,13 +3,13 @@ ghost use Rattle.std.specs.Prelude.{◌≡◌, ◌<◌, Some, IsTrue, IfOk, OnOk
 ghost use Rattle.of_actions.specs.InstructionLists.{are_kept};
 ghost use Rattle.of_machine.specs.Rows.{works};
 ghost use Rattle.of_symbolic_run.specs.declared.advance.Advance.TheVariants.{Lookup};
-ghost use Rattle.of_symbolic_run.specs.Cases.{IsAtEntry, IsEntered, found_flow, goes_to_table};
+ghost use Rattle.of_symbolic_run.specs.Cases.{IsAtEntry, IsEntered, found_flow, goes_to_table, lookup_line};
 ghost use Rattle.of_symbolic_run.specs.States.{answer_to_tasks, work_for};
 
 use crate::served::ServedInstruction;
 use crate::state::{SymbolicState, SymbolicTask, Work};
 use of_actions::Instruction;
-use of_machine::is_miss;
+use of_machine::{Step, is_miss};
 use of_table::Entry;
 use std::alloc::{AllocError, Global};
 
@@ -46,13 +46,23 @@ fn instruction_works<'a>(
     Ok(made)
 }
 
+// The line of a lookup.
+fn lookup_step(table: u8, found: Option<(usize, &Entry)>) -> Step
+    ensures { result ≡ lookup_line table (found_flow found.entry) }
+{
+    match found {
+        None => Step::Miss(table),
+        Some((number, _)) => Step::Entry { table, number },
+    }
+}
+
 impl<'a> SymbolicTask<'a> {
     // An entry was found, or none: then the packet has no work left (OpenFlow 1.3.5, 5.3 and 5.4).
     fn enter(
         &mut self,
         alloc: Global,
         table: u8,
-        found: Option<&'a Entry>,
+        found: Option<(usize, &'a Entry)>,
     ) -> Result<(), AllocError>
         ensures { OnOk result (IsAtEntry table (found_flow found.entry) self.old self.new) }
     {
@@ -61,7 +71,7 @@ impl<'a> SymbolicTask<'a> {
                 self.work.clear();
                 Ok(())
             }
-            Some(entry) => {
+            Some((_, entry)) => {
                 let flow = &entry.flow;
                 self.work = instruction_works(alloc, flow.instructions.as_slice())?;
                 self.packet.cookie = flow.cookie;
@@ -74,18 +84,19 @@ impl<'a> SymbolicTask<'a> {
 }
 
 impl<'a> SymbolicState<'a> {
-    /// The state for the frames whose first packet hits this entry, or none.
+    /// The state for the frames whose first packet hits this entry, which has this number, or none.
     pub(crate) fn entered(
         &self,
         alloc: Global,
         table: u8,
-        found: Option<&'a Entry>,
+        found: Option<(usize, &'a Entry)>,
     ) -> Result<SymbolicState<'a>, AllocError>
         requires { answer_to_tasks self.now.tasks.items ≡ Lookup table }
         ensures { IfOk result (IsEntered table (found_flow found.entry) self.now) }
     {
         let mut state = self.copy(alloc)?;
         state.tasks[0].enter(alloc, table, found)?;
+        state.steps.push(lookup_step(table, found))?;
         Ok(state)
     }
 }

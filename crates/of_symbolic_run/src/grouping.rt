@@ -10,6 +10,7 @@ ghost use Rattle.of_symbolic_run.specs.States.{IsAt, answer_to_tasks};
 use crate::state::{SymbolicPacket, SymbolicState, SymbolicTask, Work};
 use crate::written::Written;
 use of_actions::Action;
+use of_machine::Step;
 use std::alloc::{AllocError, Global};
 
 // A copy of the packet with a bucket's actions as its action set, which runs.
@@ -75,6 +76,7 @@ pub fn run_group(
     ensures { OnOk result ((w : TheWorld) (frame : List ℕ) (port : ℕ) → IsGroupOf w group (bucket_lists buckets.entry) →
         IsAt w frame port state.old → IsAt w frame port state.new) }
 {
+    state.steps.push(Step::Act(Action::Group(group)))?;
     let mut first = state.tasks.remove(0);
     first.work.remove(0);
     let mut tasks = group_tasks(alloc, &first.packet, buckets)?;

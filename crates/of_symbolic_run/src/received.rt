@@ -27,5 +27,6 @@ pub fn received_state<'a>(alloc: Global) -> Result<SymbolicState<'a>, AllocError
     Ok(SymbolicState {
         tasks,
         emitted: Vec::new(alloc),
+        steps: Vec::new(alloc),
     })
 }

@@ -3,10 +3,11 @@ ghost use Rattle.std.specs.Prelude.{◌≡◌, ℕ, List, IfOk};
 ghost use Rattle.of_machine.specs.TheWorld.{TheWorld};
 ghost use Rattle.of_symbolic_run.specs.States.{IsAt, IsStateCopy, IsTaskCopy};
 
-use crate::copying::{copied_emissions, copied_tasks, copied_works};
+use crate::copying::{copied_emissions, copied_steps, copied_tasks, copied_works};
 use crate::rewrites::Rewrites;
 use crate::served::{ServedAction, ServedInstruction};
 use crate::written::Written;
+use of_machine::Step;
 use std::alloc::{AllocError, Global};
 
 /// A packet, for each frame that came in: all except its frame and its ingress port is the same for each (OpenFlow 1.3.5, 5.1).
@@ -54,11 +55,12 @@ pub enum Emission {
     InvalidTtl(SymbolicPacket),
 }
 
-/// A state of a symbolic run: the packets with their work, the first one first, and what they emitted so far, in order.
+/// A state of a symbolic run: the packets with their work, the first one first, and what they emitted and the steps that they took so far, in order.
 #[derive(Drop)]
 pub struct SymbolicState<'a> {
     pub tasks: Vec<SymbolicTask<'a>>,
     pub emitted: Vec<Emission>,
+    pub steps: Vec<Step>,
 }
 
 impl SymbolicPacket {
@@ -89,7 +91,7 @@ impl<'a> SymbolicTask<'a> {
 }
 
 impl<'a> SymbolicState<'a> {
-    /// A state with the same packets, which emitted the same.
+    /// A state with the same packets, which emitted the same and took the same steps.
     ///
     /// `at`: so it says the same about the run of each frame.
     pub fn copy(&self, alloc: Global) -> Result<SymbolicState<'a>, AllocError>
@@ -99,6 +101,7 @@ impl<'a> SymbolicState<'a> {
         Ok(SymbolicState {
             tasks: copied_tasks(alloc, &self.tasks)?,
             emitted: copied_emissions(alloc, &self.emitted)?,
+            steps: copied_steps(alloc, &self.steps)?,
         })
     }
 }

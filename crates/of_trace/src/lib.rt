@@ -28,7 +28,7 @@ pub use form::{Asked, Form, Output, Style};
 pub use json::print_json;
 pub use laws::{notes_only_add, steps_tell_packets, traces_come_whole};
 pub use noting::explain;
-pub use printing::{print, print_words};
+pub use printing::{print, print_words, push_step};
 pub use reason::Reason;
 pub use sight::Sight;
 pub use traces::Trace;

@@ -70,8 +70,8 @@ fn flows_of_table<'a>(
     Err(NoDiff::Unread { path, why })
 }
 
-// The switch of a file, which is what its content says.
-fn switch_of_file<'a>(rt: &HostRuntime, path: &'a str) -> Result<Switch<Lookups>, NoDiff<'a>> {
+/// The switch of a file, which is what its content says.
+pub fn switch_of_file<'a>(rt: &HostRuntime, path: &'a str) -> Result<Switch<Lookups>, NoDiff<'a>> {
     let bytes = match bytes_of(rt, path) {
         Ok(bytes) => bytes,
         Err(why) => {
@@ -97,7 +97,7 @@ fn switch_of_file<'a>(rt: &HostRuntime, path: &'a str) -> Result<Switch<Lookups>
     }
 }
 
-/// Prints which frames the switches of two files treat otherwise, and returns whether they treat all frames alike. The first file is read
+/// Prints which frames the switches of two files treat differently, and returns whether they treat all frames alike. The first file is read
 /// before the second.
 pub fn diffed<'a>(rt: &HostRuntime, asked: &'a Diff) -> Result<DiffVerdict, NoDiff<'a>> {
     let first = switch_of_file(rt, asked.first.as_str())?;

@@ -5,6 +5,7 @@ ghost use Rattle.std.specs.Prelude.{◌≡◌};
 
 mod checking;
 mod diffing;
+mod dividing;
 mod drawing;
 mod hinting;
 mod importing;
@@ -19,6 +20,7 @@ mod tracing;
 
 use crate::checking::{NoReport, reported};
 use crate::diffing::{NoDiff, diffed};
+use crate::dividing::divided;
 use crate::lookups::Lookups;
 use hinting::{Seen, Watched, bytes_of, say_hint, say_refusal, say_unread};
 use importing::{NotImported, imported, imported_as_json, read_whole};
@@ -27,12 +29,13 @@ use of_asking::Answering;
 use of_check::{check_events, check_file};
 use of_classifier::Scan;
 use of_command_line::{
-    Check, CheckOutput, Diff, FileKind, Live, NoRequest, ReplayOutput, Request, Serve, Trace,
-    read_request,
+    Check, CheckOutput, Diff, FileKind, Live, NoRequest, PathsAsked, ReplayOutput, Request, Serve,
+    Trace, read_request,
 };
 use of_diff_report::DiffVerdict;
 use of_explain::{Explaining, ExplainingJson};
 use of_import::Mode;
+use of_paths_report::PathsVerdict;
 use of_replay::streams::{ReaderSource, WriterSink};
 use of_replay::{Ended, Plain, RowPrinter, Sink, Source, asm, dis, print_file, status};
 use of_serve::{ended_unopened, read_rows};
@@ -63,7 +66,7 @@ const LEFT_OUT: u8 = 4;
 /// The exit status if `check` found something, or `diff` a difference.
 const FOUND: u8 = 4;
 
-/// The exit status if `diff` found no difference, but frames are undecided.
+/// The exit status if `diff` found no difference, or `paths` found paths, but frames are undecided.
 const UNDECIDED: u8 = 5;
 
 // Failures to write to standard error are ignored and do not change the exit status.
@@ -107,6 +110,7 @@ fn carry_out(rt: &HostRuntime, request: &Request) -> ExitCode {
         Request::Trace(asked) => run_trace(rt, request, asked),
         Request::Check(asked) => run_check(rt, asked),
         Request::Diff(asked) => run_diff(rt, asked),
+        Request::Paths(asked) => run_paths(rt, asked),
         Request::Import {
             file,
             skip,
@@ -268,9 +272,24 @@ fn run_diff(rt: &HostRuntime, asked: &Diff) -> ExitCode {
         Ok(DiffVerdict::Same) => ExitCode::SUCCESS,
         Ok(DiffVerdict::Differs | DiffVerdict::OtherPorts) => ExitCode::from(FOUND),
         Ok(DiffVerdict::Undecided) => ExitCode::from(UNDECIDED),
-        Err(NoDiff::Ended(ended)) => end(rt, &ended),
-        Err(NoDiff::File { path, seen, ended }) => end_file(rt, path, &seen, &ended),
-        Err(NoDiff::Unread { path, why }) => end_unread(rt, path, why),
+        Err(why) => end_without_switch(rt, why),
+    }
+}
+
+fn run_paths(rt: &HostRuntime, asked: &PathsAsked) -> ExitCode {
+    match divided(rt, asked) {
+        Ok(PathsVerdict::Complete) => ExitCode::SUCCESS,
+        Ok(PathsVerdict::Undecided) => ExitCode::from(UNDECIDED),
+        Err(why) => end_without_switch(rt, why),
+    }
+}
+
+// Why nothing is found about the switches of files.
+fn end_without_switch(rt: &HostRuntime, why: NoDiff<'_>) -> ExitCode {
+    match why {
+        NoDiff::Ended(ended) => end(rt, &ended),
+        NoDiff::File { path, seen, ended } => end_file(rt, path, &seen, &ended),
+        NoDiff::Unread { path, why } => end_unread(rt, path, why),
     }
 }
 
@@ -439,6 +458,7 @@ fn run<R: Read + Drop>(rt: &HostRuntime, request: &Request, reader: R) -> Ended 
         Request::Trace(_)
         | Request::Check { .. }
         | Request::Diff(_)
+        | Request::Paths(_)
         | Request::Import { .. }
         | Request::Say { .. }
         | Request::Serve(_)

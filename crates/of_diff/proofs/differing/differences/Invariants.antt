@@ -1,4 +1,3 @@
-use Rattle.std.proofs.Common.{ℕ}
 use Rattle.of_datapath.specs.Datapath.{world_of}
 use Rattle.of_datapath.specs.Numbers.{forwarding_of}
 use Rattle.of_diff.specs.Pairs.{IsSoFar}

@@ -1,5 +1,5 @@
 use Rattle.std.proofs.Common.{refl}
-use Rattle.of_diff.proofs.EmittingLemmas.{same_end, same_rest}
+use Rattle.of_diff.proofs.EmittingLemmas.{same_rest}
 use Rattle.of_diff.proofs.emissions.send_the_same.Goals as goal
 
 pub loop-emission-preserved : goal.loop-emission-preserved

@@ -10,4 +10,4 @@ returns c =
     let first : SymbolicTask = c.remove-first.result in
     let next : SymbolicTask = record { packet = first.packet; work = c.remove.new.self } in
     group_ran c.args.group (bucket_lists c.args.buckets) c.args.state.now _ first next rest c.in_ok-tasks.tasks.items c.requires.first c.remove-first.ensures.value c.remove-first.ensures.items refl c.remove.ensures.items c.in_ok-tasks.ensures
-    (c.in_ok-append.ensures.items ∙ ap (λ (l : List SymbolicTask). l ++ rest) c.in_ok-push.ensures.items) refl
+    (c.in_ok-append.ensures.items ∙ ap (λ (l : List SymbolicTask). l ++ rest) c.in_ok-push-2.ensures.items) refl c.in_ok-push.ensures.items

@@ -1,0 +1,49 @@
+-- From which table on two switches do the same.
+use Rattle.std.proofs.Common.{◌≡◌, ℕ, zero, suc, ◌+◌, ◌≤◌, ◌⊎◌, inl, inr, [], length, map, refl, ap, subst, arith}
+use Rattle.std.proofs.lemmas.List.{get_or_past, length-map}
+use Rattle.of_table.specs.Table.{Table, empty_table}
+use Rattle.of_table.specs.Entries.{table_of}
+use Rattle.of_table.specs.Tables.{NumberedTables, table_at, tables_of}
+use Rattle.of_datapath.specs.Datapath.{Forwarding, world_of}
+use Rattle.of_diff.specs.Agreeing.{AgreeFrom}
+use Rattle.of_diff.specs.Changing.{entries_in}
+use Rattle.of_diff.specs.SameGroups.{SameGroups}
+use Rattle.of_diff.specs.SamePorts.{SamePorts}
+use Rattle.of_diff.specs.SameTables.{SameTables}
+use Rattle.of_diff.proofs.EmissionLemmas.{same_emission}
+use Rattle.of_diff.proofs.HitLemmas.{same_winner}
+use Rattle.of_diff.proofs.JoiningLemmas.{same_flow_at}
+use Rattle.of_diff.proofs.SameGroupLemmas.{same_bucket, same_chosen}
+
+abbrev pub TablesSayTheSame : ℕ → Forwarding → Forwarding → Type 0
+TablesSayTheSame n f g = (t : ℕ) → n ≤ t → SameTables (entries_in f t) (entries_in g t)
+
+pub agree_from : (f g : Forwarding) (n : ℕ) → SamePorts f.ports g.ports → SameGroups f.groups g.groups → TablesSayTheSame n f g → AgreeFrom n (world_of f) (world_of g)
+agree_from f g n ports groups h = record {
+  winner = λ t le fields. same_winner fields (entries_in f t) (entries_in g t) (h t le);
+  flow = λ t place le. same_flow_at (entries_in f t) (entries_in g t) (h t le) place;
+  chosen = same_chosen f.ports g.ports f.groups g.groups ports groups;
+  bucket = same_bucket f.groups g.groups groups;
+  emits = λ p port max_len. same_emission f.ports g.ports ports p port max_len;
+}
+
+-- a table that is not there has no entries
+pub no_entries_past : (n : NumberedTables) → length n.tables ≡ 16 → (t : ℕ) → 16 ≤ t → (table_at t (tables_of n)).flows ≡ []
+no_entries_past n sixteen t le = ap (λ (x : Table). x.flows) (get_or_past (map table_of n.tables) t empty_table (let long = length-map n.tables table_of in omega (arith, long, sixteen, le)))
+
+or_more : (n t : ℕ) → n ≤ t → (n ≡ t) ⊎ (n + 1 ≤ t)
+or_more zero zero le = inl refl
+or_more zero (suc t) le = inr (omega arith)
+or_more (suc n) zero le = absurd (omega (arith, le))
+or_more (suc n) (suc t) le = elim (or_more n t (omega (arith, le))) as (λ x. (suc n ≡ suc t) ⊎ (suc n + 1 ≤ suc t)) [
+  | inl same ↦ inl (ap suc same)
+  | inr less ↦ inr (omega (arith, less))
+]
+
+-- one table more
+pub one_before : (f g : Forwarding) (n : ℕ) → TablesSayTheSame (n + 1) f g → SameTables (entries_in f n) (entries_in g n) → TablesSayTheSame n f g
+one_before f g n h own t le = by_test (or_more n t le)
+  where
+    by_test : (n ≡ t) ⊎ (n + 1 ≤ t) → SameTables (entries_in f t) (entries_in g t)
+    by_test (inl same) = subst (λ (k : ℕ). SameTables (entries_in f k) (entries_in g k)) same own
+    by_test (inr less) = h t less

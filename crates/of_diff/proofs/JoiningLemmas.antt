@@ -1,0 +1,122 @@
+-- A lookup in tables that say the same.
+use Rattle.std.proofs.Common.{◌≡◌, ℕ, zero, suc, eqb, cond, Bool, true, false, List, [], ◌∷◌, map, Option, Some, None, refl, sym, ap, subst, inl, arith}
+use Rattle.std.specs.Prelude.{slice_get}
+use Rattle.std.specs.Option.{option_map}
+use Rattle.std.specs.List.{Contains}
+use Rattle.std.proofs.lemmas.Bool.{eqb-true}
+use Rattle.std.proofs.lemmas.Bool.Decides.{nat_tests}
+use Rattle.of_table.specs.declared.flow.Flow.{Flow}
+use Rattle.of_table.specs.Table.{FlowEntry, flow_at}
+use Rattle.of_machine.specs.TheWorld.{TheWorld}
+use Rattle.of_machine.specs.Sound.{IsSound}
+use Rattle.of_datapath.specs.Datapath.{Forwarding, world_of}
+use Rattle.of_symbolic_run.specs.declared.dividing.Case.{Case}
+use Rattle.of_symbolic_run.specs.declared.joint.JointCase.{JointCase}
+use Rattle.of_symbolic_run.specs.Cases.{AreCases, IsTableOf}
+use Rattle.of_symbolic_run.specs.FrameSets.{InFrames}
+use Rattle.of_symbolic_run.specs.States.{IsAt}
+use Rattle.of_symbolic_run.specs.JointCases.{first_case, first_cases, second_case, second_cases}
+use Rattle.of_diff.specs.declared.alike.Compared.{Compared}
+use Rattle.of_diff.specs.declared.pair.Pair.{Pair}
+use Rattle.of_diff.specs.Agreeing.{AgreeFrom, AreSameFlows}
+use Rattle.of_diff.specs.Changing.{entries_in}
+use Rattle.of_diff.specs.Pairs.{ArePairs, pair_of_case}
+use Rattle.of_diff.specs.SameTables.{EntrySays, SameTables, says_of}
+use Rattle.of_diff.proofs.HitLemmas.{same_at, same_winner}
+use Rattle.of_diff.proofs.SameRunLemmas.{at_one, at_other}
+
+-- ---- entries that say the same
+
+said_flows : (a b : Option FlowEntry) → option_map says_of a ≡ option_map says_of b → AreSameFlows (option_map (λ e. e.flow) a) (option_map (λ e. e.flow) b)
+said_flows None None e = tt
+said_flows None (Some y) e = absurd cc
+said_flows (Some x) None e = absurd cc
+said_flows (Some x) (Some y) e =
+    let h : Some (says_of x) ≡ Some (says_of y) = e in
+    let k : says_of x ≡ says_of y = cc in
+    record { priority = ap (λ (s : EntrySays). s.priority) k; fields = ap (λ (s : EntrySays). s.fields) k; cookie = ap (λ (s : EntrySays). s.cookie) k; instructions = ap (λ (s : EntrySays). s.instructions) k }
+
+pub same_flow_at : (fs gs : List FlowEntry) → SameTables fs gs → (place : ℕ) → AreSameFlows (flow_at place fs) (flow_at place gs)
+same_flow_at fs gs e place = said_flows (slice_get fs place) (slice_get gs place) (same_at fs gs e place)
+
+is_itself : (n : ℕ) → eqb n n ≡ true
+is_itself n = grind (arith, nat_tests)
+
+flow_itself : (o : Option Flow) → AreSameFlows o o
+flow_itself None = tt
+flow_itself (Some f) = record { priority = refl; fields = refl; cookie = refl; instructions = refl }
+
+-- ---- the second switch with the entries of the first
+
+with_entries : ℕ → List FlowEntry → TheWorld → TheWorld
+with_entries table flows v = record v { flow = λ t place. cond (eqb t table) (flow_at place flows) (v.flow t place) }
+
+module _ (f g : Forwarding) (table : ℕ) (same : SameTables (entries_in f table) (entries_in g table)) where
+  flows_same : (t place : ℕ) (b : Bool) → eqb t table ≡ b → AreSameFlows ((world_of g).flow t place) (cond b (flow_at place (entries_in f table)) ((world_of g).flow t place))
+  flows_same t place true e = subst (λ (k : ℕ). AreSameFlows ((world_of g).flow k place) (flow_at place (entries_in f table))) (sym (eqb-true t table e)) (same_flow_at (entries_in g table) (entries_in f table) (sym same) place)
+  flows_same t place false e = flow_itself ((world_of g).flow t place)
+
+  agrees : AgreeFrom 0 (world_of g) (with_entries table (entries_in f table) (world_of g))
+  unfolding with_entries
+  agrees = record {
+    winner = λ t le fields. refl;
+    flow = λ t place le. flows_same t place (eqb t table) refl;
+    chosen = λ n. refl;
+    bucket = λ n place. refl;
+    emits = λ p port max_len. refl;
+  }
+
+  has_entries : IsTableOf (with_entries table (entries_in f table) (world_of g)) table (entries_in f table)
+  unfolding with_entries
+  has_entries = record {
+    winner = λ fields. same_winner fields (entries_in g table) (entries_in f table) (sym same);
+    flow = λ place. rw (is_itself table) refl;
+  }
+
+  ports_are : (world_of g).ports ≡ (with_entries table (entries_in f table) (world_of g)).ports
+  unfolding with_entries
+  ports_are = refl
+
+-- ---- pairs of cases
+
+in_image : {X Y : Type 0} (h : X → Y) (xs : List X) (x : X) → Contains xs x → Contains (map h xs) (h x)
+in_image h [] x c = absurd (omega (arith, c.1))
+in_image h (y ∷ xs) x (zero, lt, at) = (0, omega arith, ap h at)
+in_image h (y ∷ xs) x (suc k, lt, at) = let c = in_image h xs x (k, omega (arith, lt), at) in (suc c.0, (let l = c.1 in omega (arith, l)), c.2)
+
+record IsImageOf {X Y : Type 0} (h : X → Y) (xs : List X) (y : Y) : Type 0 where
+  x : X
+  there : Contains xs x
+  is : h x ≡ y
+
+image_of : {X Y : Type 0} (h : X → Y) (xs : List X) (y : Y) → Contains (map h xs) y → IsImageOf h xs y
+image_of h [] y c = absurd (omega (arith, c.1))
+image_of h (x ∷ xs) y (zero, lt, at) = record { x = x; there = (0, omega arith, refl); is = at }
+image_of h (x ∷ xs) y (suc k, lt, at) = let i = image_of h xs y (k, omega (arith, lt), at) in record { x = i.x; there = (suc i.there.0, (let l = i.there.1 in omega (arith, l)), i.there.2); is = i.is }
+
+pub joint_are_pairs : (c : Compared) (f g : Forwarding) (table : ℕ) → IsSound (world_of g) → SameTables (entries_in f table) (entries_in g table) → (old : Pair) (cases : List JointCase) →
+    ((w : TheWorld) → IsTableOf w table (entries_in f table) → AreCases w old.frames old.first (first_cases cases)) → ((w : TheWorld) → IsTableOf w table (entries_in f table) → AreCases w old.frames old.second (second_cases cases)) →
+    ArePairs c (world_of f) (world_of g) old (map pair_of_case cases)
+joint_are_pairs c f g table sound same old cases first second =
+    let w = world_of f in
+    let v = world_of g in
+    let other = with_entries table (entries_in f table) v in
+    let agree = agrees f g table same in
+    let ports = ports_are f g table same in
+    let one = first w (record { winner = λ fields. refl; flow = λ place. refl }) in
+    let two = second other (has_entries f g table same) in
+    record {
+      hold = λ states p there frame port is within.
+          let i = image_of pair_of_case cases p there in
+          let inside = subst (λ (q : Pair). InFrames q.frames frame port) (sym i.is) within in
+          let mine = in_image first_case cases i.x i.there in
+          let yours = in_image second_case cases i.x i.there in
+          let at = states frame port is (one.within (first_case i.x) mine frame port inside) in
+          let left = one.at (first_case i.x) mine frame port is inside at.0 in
+          let right = at_one v other sound agree ports frame port i.x.second (two.at (second_case i.x) yours frame port is inside (at_other v other sound agree ports frame port old.second at.1)) in
+          subst (λ (q : Pair). IsAt w frame port q.first × IsAt v frame port q.second) i.is (left, right);
+      all = λ states frame port received within.
+          let a = one.all frame port received.frame_is within in
+          let i = image_of first_case cases a.0 a.1 in
+          inl (pair_of_case i.x, in_image pair_of_case cases i.x i.there, subst (λ (q : Case). InFrames q.frames frame port) (sym i.is) a.2);
+    }

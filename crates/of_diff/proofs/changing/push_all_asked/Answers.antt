@@ -1,0 +1,47 @@
+use Rattle.std.proofs.Common.{List, ◌∷◌, Bool, subst, sym}
+use Rattle.std.specs.Slice.Iter.{iter_rest}
+use Rattle.of_table.specs.declared.entry.Entry.{Entry}
+use Rattle.of_table.specs.Entries.{entry_of, flows_of}
+use Rattle.of_diff.specs.Changing.{AreMarkedAskedIn}
+use Rattle.of_diff.proofs.ChangingLemmas.{asked_more, no_entries_asked, none_asked, one_asked}
+use Rattle.of_symbolic_switch.proofs.Pairing.{no_elements}
+use Rattle.of_diff.proofs.changing.push_all_asked.Goals as goal
+
+pub loop-entry-init : goal.loop-entry-init
+loop-entry-init c = record {
+  whole = λ final more a over rewriting h.
+      subst (λ (es : List Entry). AreMarkedAskedIn final a c.args.metadata (flows_of es) c.args.marks.now) c.into_iter-entry-iterator.ensures.into_iter_gives
+      (subst (λ (ms : List Bool). AreMarkedAskedIn final a c.args.metadata (flows_of c.into_iter-entry-iterator.result) ms) c.iter-left.ensures.rest h);
+  more = λ m there. there;
+  conditions = λ h. h;
+}
+
+pub returns-in_default-clause-asked : goal.returns-in_default-clause-asked
+returns-in_default-clause-asked c = λ known a over rewriting.
+    c.loop-entry.invariant.whole c.loop-entry.asked.items (λ m there. there) a over rewriting
+    (subst (λ (ms : List Bool). AreMarkedAskedIn c.loop-entry.asked.items a c.args.metadata (flows_of c.loop-entry.entry-iterator) ms) (sym (no_elements (iter_rest c.loop-entry.left) c.in_default.ensures.steps.0)) (none_asked c.loop-entry.asked.items a c.args.metadata (flows_of c.loop-entry.entry-iterator)))
+
+pub returns-then-not-branch-clause-conditions : goal.returns-then-not-branch-clause-conditions
+returns-then-not-branch-clause-conditions c = λ old. c.in_ok-push_marked.ensures.conditions (c.loop-entry.invariant.conditions old)
+
+pub loop-entry-preserved : goal.loop-entry-preserved
+loop-entry-preserved c =
+    let asked = c.push_marked.new.asked.items in
+    let e = entry_of c.in-Some.entry.now in
+    let mark = c.in-Some-next.mark.now in
+    let flows = flows_of c.next.new.self in
+    let marks = iter_rest c.next-in-loop-entry.new.self in
+    record {
+      whole = λ final more a over rewriting h.
+          c.loop-entry.invariant.whole final (λ m there. more m (c.in_ok-push_marked.ensures.more m there)) a over rewriting
+          (subst (λ (es : List Entry). AreMarkedAskedIn final a c.args.metadata (flows_of es) (iter_rest c.loop-entry.left)) (sym c.in-Some.ensures.steps)
+          (subst (λ (ms : List Bool). AreMarkedAskedIn final a c.args.metadata (e ∷ flows) ms) (sym c.in-Some-next.ensures.steps)
+          (one_asked final a c.args.metadata e flows mark marks (λ on. asked_more asked final a c.args.metadata e more (c.in_ok-push_marked.ensures.asked c.if-not-branch.false a over rewriting on)) h)));
+      more = λ m there. c.in_ok-push_marked.ensures.more m (c.loop-entry.invariant.more m there);
+      conditions = λ old. c.in_ok-push_marked.ensures.conditions (c.loop-entry.invariant.conditions old);
+    }
+
+pub returns-clause-asked : goal.returns-clause-asked
+returns-clause-asked c = λ known a over rewriting.
+    c.loop-entry.invariant.whole c.loop-entry.asked.items (λ m there. there) a over rewriting
+    (subst (λ (es : List Entry). AreMarkedAskedIn c.loop-entry.asked.items a c.args.metadata (flows_of es) (iter_rest c.loop-entry.left)) (sym c.in-None.ensures.steps.0) (no_entries_asked c.loop-entry.asked.items a c.args.metadata (iter_rest c.loop-entry.left)))

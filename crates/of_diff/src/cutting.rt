@@ -1,0 +1,62 @@
+//! Pairs of states whose runs are done, or go on alike.
+ghost use Rattle.std.specs.Prelude.{◌≡◌, [], IfOk};
+ghost use Rattle.of_datapath.specs.Datapath.{world_of};
+ghost use Rattle.of_datapath.specs.Numbers.{forwarding_of};
+ghost use Rattle.of_diff.specs.Agreeing.{AgreeFrom, GoOnAlike};
+ghost use Rattle.of_diff.specs.Pairs.{NextIs};
+ghost use Rattle.of_diff.specs.SamePorts.{SamePorts};
+
+use crate::alike::Compared;
+use crate::emissions::send_the_same;
+use crate::ending::try_frame;
+use crate::pair::{Next, Pair};
+use of_classifier::Lookup;
+use of_datapath::Datapath;
+use of_symbolic_run::ended_states_give_runs;
+use std::alloc::{AllocError, Global};
+
+/// Both runs go on alike: if the same was sent, all frames are treated alike; else one of them runs on both switches.
+pub fn compare_rests<'a, L: Lookup>(
+    alloc: Global,
+    first: &Datapath<L>,
+    second: &Datapath<L>,
+    compared: Compared,
+    pair: Pair<'a>,
+    table: u8,
+    steps: usize,
+) -> Result<Next<'a>, AllocError>
+    requires ports { SamePorts first.now.ports second.now.ports }
+    requires agree { AgreeFrom table (world_of (forwarding_of first.now)) (world_of (forwarding_of second.now)) }
+    requires alike { GoOnAlike table pair.first pair.second }
+    ensures { IfOk result (NextIs compared (world_of (forwarding_of first.now)) (world_of (forwarding_of second.now)) pair.entry) }
+{
+    first.known_world();
+    second.known_world();
+    if send_the_same(compared, &pair.first.emitted, &pair.second.emitted) {
+        return Ok(Next::Alike);
+    }
+    try_frame(alloc, first, second, compared, pair.frames, steps)
+}
+
+/// Both runs are done: if the same was sent, all frames are treated alike; else one of them runs on both switches.
+pub fn compare_ended<'a, L: Lookup>(
+    alloc: Global,
+    first: &Datapath<L>,
+    second: &Datapath<L>,
+    compared: Compared,
+    pair: Pair<'a>,
+    steps: usize,
+) -> Result<Next<'a>, AllocError>
+    requires ports { SamePorts first.now.ports second.now.ports }
+    requires first { pair.first.tasks.items ≡ [] }
+    requires second { pair.second.tasks.items ≡ [] }
+    ensures { IfOk result (NextIs compared (world_of (forwarding_of first.now)) (world_of (forwarding_of second.now)) pair.entry) }
+{
+    first.known_world();
+    second.known_world();
+    ended_states_give_runs();
+    if send_the_same(compared, &pair.first.emitted, &pair.second.emitted) {
+        return Ok(Next::Alike);
+    }
+    try_frame(alloc, first, second, compared, pair.frames, steps)
+}

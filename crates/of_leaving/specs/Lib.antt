@@ -1,0 +1,2 @@
+pub mod LeavingWords
+pub mod LeavingJson

@@ -1,0 +1,8 @@
+//! What leaves a switch, in words and as JSON, for reports.
+#![tactic(auto)]
+
+mod items;
+mod json_items;
+
+pub use items::{push_frame_line, push_side};
+pub use json_items::{push_controller_place, push_items_member, push_port_place};

@@ -1,0 +1,4 @@
+mod WayLemmas
+pub mod FoundLemmas
+pub mod SoFarLemmas
+pub mod ConditionLemmas

@@ -1,0 +1,182 @@
+-- What is known of the frames while cases are left.
+use Rattle.std.proofs.Common.{◌≡◌, ℕ, true, List, [], ◌∷◌, ◌++◌, length, map, Result, Ok, Err, refl, sym, subst, arith, inl, inr, ◌⊎◌, zero, suc, reverse}
+use Rattle.std.specs.Prelude.{OnOk, if◌then◌else◌, is_ok}
+use Rattle.std.specs.Global.{Vec}
+use Rattle.std.specs.List.{Contains}
+use Rattle.std.proofs.lemmas.List.{reverse-append}
+use Rattle.std.proofs.lemmas.List.Elements.{Contains-append_cases, Contains-append_left, Contains-append_right, Contains-push, Contains-push_cases}
+use Rattle.of_oxm.specs.declared.match_field.MatchField.{MatchField}
+use Rattle.of_oxm.specs.Relations.{matches_map}
+use Rattle.of_machine.specs.TheWorld.{TheWorld}
+use Rattle.of_machine.specs.Rows.{Lookup, entering}
+use Rattle.of_machine.specs.Runs.{run_of}
+use Rattle.of_machine.specs.Sound.{IsSound}
+use Rattle.of_symbolic.specs.Parts.{received_fields}
+use Rattle.of_symbolic_run.specs.declared.dividing.Case.{Case}
+use Rattle.of_symbolic_run.specs.declared.state.SymbolicState.{SymbolicState}
+use Rattle.of_symbolic_run.specs.Cases.{AreCases}
+use Rattle.of_symbolic_run.specs.FrameSets.{InFrames}
+use Rattle.of_symbolic_run.specs.States.{IsAt}
+use Rattle.of_symbolic_switch.specs.Received.{IsReceivedAt}
+use Rattle.of_paths.specs.declared.path.Path.{Path}
+use Rattle.of_paths.specs.declared.path.Paths.{Paths}
+use Rattle.of_paths.specs.declared.path.PathClass.{PathClass}
+use Rattle.of_paths.specs.declared.path.UndecidedFrames.{UndecidedFrames}
+use Rattle.of_paths.specs.Paths.{ArePaths, AreMatched}
+use Rattle.of_paths.specs.SoFar.{ArePathsSoFar, InCases, IsFoundIn, IsStateOfRuns, PutsPath}
+use Rattle.of_paths.specs.Ways.{AreApart, class_way, lines_at}
+use Rattle.of_paths.proofs.FoundLemmas.{found_undecided, last_undecided, more_undecided}
+
+pub on_appended : {X Y E : Type 0} (r : Result Y E) (new old more : List X) (Q : Type 0) → new ≡ (if is_ok r then old ++ more else old) → (new ≡ old ++ more → Q) → OnOk r Q
+on_appended (Ok x) new old more Q is f = f is
+on_appended (Err e) new old more Q is f = tt
+
+no_items : {X : Type 0} (xs : List X) → length xs ≡ 0 → xs ≡ []
+no_items [] h = refl
+no_items (x ∷ xs) h = absurd (omega (arith, h))
+
+pub no_length : {X : Type 0} (xs : Vec X) → xs.len ≡ 0 → xs.items ≡ []
+no_length xs h = no_items xs.items (omega (arith, h, xs.ok.0))
+
+pub first_of_none : {X : Type 0} (none new : List X) (x : X) → none ≡ [] → new ≡ none ++ x ∷ [] → new ≡ x ∷ []
+first_of_none none new x is more = rw is at more
+
+-- ---- the other way round
+
+from_reverse : {X : Type 0} (xs : List X) (y : X) → Contains (reverse xs) y → Contains xs y
+from_reverse [] y h = h
+from_reverse {X = X} (x ∷ xs) y h = by_place (λ k. from_reverse xs y k) (Contains-push_cases (reverse xs) x y (subst (λ (l : List X). Contains l y) (reverse-append (x ∷ []) xs) h))
+  where
+    by_place : (Contains (reverse xs) y → Contains xs y) → Contains (reverse xs) y ⊎ (x ≡ y) → Contains (x ∷ xs) y
+    by_place from (inl before) = (let k = from before in (suc k.0, omega (arith, k.1), k.2))
+    by_place from (inr same) = (0, omega arith, same)
+
+to_reverse : {X : Type 0} (xs : List X) (y : X) → Contains xs y → Contains (reverse xs) y
+to_reverse [] y h = h
+to_reverse {X = X} (x ∷ xs) y (zero, lt, is) = subst (λ (l : List X). Contains l y) (sym (reverse-append (x ∷ []) xs)) (subst (λ (z : X). Contains (reverse xs ++ x ∷ []) z) is (Contains-push (reverse xs) x))
+to_reverse {X = X} (x ∷ xs) y (suc k, lt, is) = subst (λ (l : List X). Contains l y) (sym (reverse-append (x ∷ []) xs)) (Contains-append_left (reverse xs) (x ∷ []) y (to_reverse xs y (k, omega (arith, lt), is)))
+
+pub reversed_cases : (w : TheWorld) (old : Case) (cases more : List Case) → more ≡ reverse cases → AreCases w old.frames old.state cases → AreCases w old.frames old.state more
+reversed_cases w old cases more is are = record {
+  within = λ c there. are.within c (from_reverse cases c (subst (λ (l : List Case). Contains l c) is there));
+  all = λ frame port is_frame h. (let c = are.all frame port is_frame h in (c.0, subst (λ (l : List Case). Contains l c.0) (sym is) (to_reverse cases c.0 c.1), c.2));
+  at = λ c there. are.at c (from_reverse cases c (subst (λ (l : List Case). Contains l c) is there));
+}
+
+-- a step that is the same for each frame
+pub one_case : (w : TheWorld) (old new : Case) → new.frames ≡ old.frames → ((frame : List ℕ) (port : ℕ) → IsAt w frame port old.state → IsAt w frame port new.state) → AreCases w old.frames old.state (new ∷ [])
+one_case w old new frames step = record {
+  within = λ c there frame port h. (let same = one c there in rw (sym frames) (subst (λ (x : Case). InFrames x.frames frame port) (sym same) h));
+  all = λ frame port is h. (new, Contains-push [] new, rw frames h);
+  at = λ c there frame port is h at. (let same = one c there in subst (λ (x : Case). IsAt w frame port x.state) same (step frame port at));
+}
+  where
+    one : (c : Case) → Contains (new ∷ []) c → new ≡ c
+    one c there = by_place (Contains-push_cases [] new c there)
+      where
+        by_place : Contains [] c ⊎ (new ≡ c) → new ≡ c
+        by_place (inl before) = absurd (omega (arith, before.1))
+        by_place (inr same) = same
+
+-- the lines of a run that is done
+pub ended_lines : (w : TheWorld) (c : Case) → ((v : TheWorld) (frame : List ℕ) (port : ℕ) (s : SymbolicState) → IsSound v → IsAt v frame port s → s.tasks.items ≡ [] → (run_of v (entering frame port) (Lookup 0 ∷ [])).lines ≡ s.steps.items) → IsSound w → c.state.tasks.items ≡ [] →
+    IsStateOfRuns w c → (frame : List ℕ) (port : ℕ) → IsReceivedAt w frame port → InFrames c.frames frame port → lines_at w frame port ≡ c.state.steps.items
+ended_lines w c give sound none holds frame port received inside = give w frame port c.state sound (holds frame port received.frame_is inside) none
+
+module _ (w : TheWorld) (within : List MatchField) where
+  -- where a frame is that is received
+  abbrev pub IsSomewhere : List Case → Paths → List ℕ → ℕ → Type 0
+  IsSomewhere cases found frame port = InCases cases frame port ⊎ IsFoundIn found frame port
+
+  module _ (cases : List Case) (old : Case) (found : Paths) (h : ArePathsSoFar w within (cases ++ old ∷ []) found) where
+    last_holds : IsStateOfRuns w old
+    last_holds = h.hold old (Contains-push cases old)
+
+    last_inside : AreMatched within old.frames
+    last_inside = h.inside old (Contains-push cases old)
+
+    others_hold : (c : Case) → Contains cases c → IsStateOfRuns w c
+    others_hold c there = h.hold c (Contains-append_left cases (old ∷ []) c there)
+
+    others_inside : (c : Case) → Contains cases c → AreMatched within c.frames
+    others_inside c there = h.inside c (Contains-append_left cases (old ∷ []) c there)
+
+    -- a frame of the last case, of another case, or elsewhere
+    at_cases : (frame : List ℕ) (port : ℕ) (A : Type 0) → IsSomewhere (cases ++ old ∷ []) found frame port → (InFrames old.frames frame port → A) → (InCases cases frame port → A) → (IsFoundIn found frame port → A) → A
+    at_cases frame port A (inl k) last other rest = by_place (Contains-push_cases cases old k.0 k.1)
+      where
+        by_place : Contains cases k.0 ⊎ (old ≡ k.0) → A
+        by_place (inl before) = other (k.0, before, k.2)
+        by_place (inr same) = last (subst (λ (c : Case). InFrames c.frames frame port) (sym same) k.2)
+    at_cases frame port A (inr k) last other rest = rest k
+
+    pub put_cases : (more : List Case) → AreCases w old.frames old.state more → ArePathsSoFar w within (cases ++ more) found
+    put_cases more are = record {
+      hold = λ c there. elim (Contains-append_cases cases more c there) as (λ x. IsStateOfRuns w c) [
+        | inl before ↦ others_hold c before
+        | inr new ↦ (λ frame port is inside. are.at c new frame port is inside (last_holds frame port is (are.within c new frame port inside)))
+      ];
+      inside = λ c there. elim (Contains-append_cases cases more c there) as (λ x. AreMatched within c.frames) [
+        | inl before ↦ others_inside c before
+        | inr new ↦ (λ frame port inside. last_inside frame port (are.within c new frame port inside))
+      ];
+      right = h.right;
+      all = λ frame port received matched. at_cases frame port (IsSomewhere (cases ++ more) found frame port) (h.all frame port received matched)
+          (λ inside. (let c = are.all frame port received.frame_is inside in inl (c.0, Contains-append_right cases more c.0 c.1, c.2)))
+          (λ k. inl (k.0, Contains-append_left cases more k.0 k.1, k.2))
+          (λ k. inr k);
+    }
+
+    pub put_ended : (p : Path) (found' : Paths) → p.frames ≡ old.frames → (IsStateOfRuns w old → (frame : List ℕ) (port : ℕ) → IsReceivedAt w frame port → InFrames old.frames frame port → lines_at w frame port ≡ p.steps.items) → PutsPath w p found found' → ArePathsSoFar w within cases found'
+    put_ended p found' frames takes puts = record {
+      hold = others_hold;
+      inside = others_inside;
+      right = puts.found within (record { matched = rw frames last_inside; takes = λ frame port received inside. takes last_holds frame port received (rw (sym frames) inside) }) h.right;
+      all = λ frame port received matched. at_cases frame port (IsSomewhere cases found' frame port) (h.all frame port received matched)
+          (λ inside. inr (puts.own frame port received (rw frames inside)))
+          (λ k. inl k)
+          (λ k. inr (puts.kept frame port k));
+    }
+
+    pub put_undecided : (u : UndecidedFrames) (found' : Paths) → u.frames ≡ old.frames → found'.classes.items ≡ found.classes.items → found'.undecided.items ≡ found.undecided.items ++ u ∷ [] → ArePathsSoFar w within cases found'
+    put_undecided u found' frames classes undecided = record {
+      hold = others_hold;
+      inside = others_inside;
+      right = found_undecided w within found found' u classes undecided (rw frames last_inside) h.right;
+      all = λ frame port received matched. at_cases frame port (IsSomewhere cases found' frame port) (h.all frame port received matched)
+          (λ inside. inr (last_undecided found found' u undecided frame port (rw frames inside)))
+          (λ k. inl k)
+          (λ k. inr (more_undecided found found' u classes undecided frame port k));
+    }
+
+  -- ---- the beginning and the end
+
+  pub begins : (first : Case) (found : Paths) → found.classes.items ≡ [] → found.undecided.items ≡ [] → IsStateOfRuns w first → AreMatched within first.frames →
+      ((frame : List ℕ) (port : ℕ) → IsReceivedAt w frame port → matches_map within (received_fields frame port) ≡ true → InFrames first.frames frame port) → ArePathsSoFar w within (first ∷ []) found
+  begins first found no_classes none holds inside all = record {
+    hold = λ c there. subst (IsStateOfRuns w) (one c there) holds;
+    inside = λ c there. subst (λ (x : Case). AreMatched within x.frames) (one c there) inside;
+    right = record {
+      classes = λ c there. absurd (nothing c (subst (λ (l : List PathClass). Contains l c) no_classes there));
+      apart = subst (λ (l : List PathClass). AreApart (map class_way l)) (sym no_classes) tt;
+      undecided = λ u there. absurd (nothing u (subst (λ (l : List UndecidedFrames). Contains l u) none there));
+    };
+    all = λ frame port received matched. inl (first, Contains-push [] first, all frame port received matched);
+  }
+    where
+      nothing : {X : Type 0} (x : X) → Contains {X = X} [] x → ⊥
+      nothing x h = absurd (omega (arith, h.1))
+
+      one : (c : Case) → Contains (first ∷ []) c → first ≡ c
+      one c there = by_place (Contains-push_cases [] first c there)
+        where
+          by_place : Contains [] c ⊎ (first ≡ c) → first ≡ c
+          by_place (inl before) = absurd (omega (arith, before.1))
+          by_place (inr same) = same
+
+  pub ends : (found : Paths) → ArePathsSoFar w within [] found → ArePaths w within found
+  ends found h = record { classes = h.right.classes; apart = h.right.apart; undecided = h.right.undecided; all = λ frame port received matched. by_place frame port (h.all frame port received matched) }
+    where
+      by_place : (frame : List ℕ) (port : ℕ) → IsSomewhere [] found frame port → IsFoundIn found frame port
+      by_place frame port (inl k) = absurd (omega (arith, k.1.1))
+      by_place frame port (inr k) = k

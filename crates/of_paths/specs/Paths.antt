@@ -1,0 +1,55 @@
+-- THE PATHS OF ALL FRAMES THAT A SWITCH RECEIVES, in classes of one way each (OpenFlow 1.3.5, 5.1).
+use Rattle.std.specs.Prelude.{◌≡◌, ℕ, ◌⊎◌, List, [], ◌∷◌, map, true}
+use Rattle.std.specs.List.{Contains}
+use Rattle.of_oxm.specs.declared.match_field.MatchField.{MatchField}
+use Rattle.of_oxm.specs.Relations.{matches_map}
+use Rattle.of_machine.specs.TheWorld.{TheWorld}
+use Rattle.of_symbolic.specs.Parts.{received_fields}
+use Rattle.of_symbolic_run.specs.declared.frame_set.FrameSet.{FrameSet}
+use Rattle.of_symbolic_run.specs.FrameSets.{InFrames}
+use Rattle.of_symbolic_switch.specs.Received.{IsReceivedAt, items_at}
+use Rattle.of_paths.specs.declared.path.Path.{Path}
+use Rattle.of_paths.specs.declared.path.PathClass.{PathClass}
+use Rattle.of_paths.specs.declared.path.Paths.{Paths}
+use Rattle.of_paths.specs.declared.path.UndecidedFrames.{UndecidedFrames}
+use Rattle.of_paths.specs.Ways.{AreApart, class_way, lines_at, way_of}
+
+-- each frame of the set is one that conditions match
+abbrev pub AreMatched : List MatchField → FrameSet → Type 0
+AreMatched within frames = (frame : List ℕ) (port : ℕ) → InFrames frames frame port → matches_map within (received_fields frame port) ≡ true
+
+-- each frame of the path that is received takes its steps
+pub record IsPath (w : TheWorld) (within : List MatchField) (p : Path) : Type 0 where
+  pub matched : AreMatched within p.frames
+  pub takes : (frame : List ℕ) (port : ℕ) → IsReceivedAt w frame port → InFrames p.frames frame port → lines_at w frame port ≡ p.steps.items
+
+-- the frame is one of those of a path, of a class or of an undecided set
+abbrev pub InPaths : List Path → List ℕ → ℕ → Type 0
+InPaths paths frame port = (p : Path) × Contains paths p × InFrames p.frames frame port
+
+abbrev pub InClasses : List PathClass → List ℕ → ℕ → Type 0
+InClasses classes frame port = (c : PathClass) × Contains classes c × InPaths c.paths.items frame port
+
+abbrev pub InUndecidedFrames : List UndecidedFrames → List ℕ → ℕ → Type 0
+InUndecidedFrames undecided frame port = (u : UndecidedFrames) × Contains undecided u × InFrames u.frames frame port
+
+-- the frame is one of those of the first path
+abbrev pub InFirstPath : List Path → List ℕ → ℕ → Type 0
+InFirstPath [] frame port = ⊥
+InFirstPath (p ∷ rest) frame port = InFrames p.frames frame port
+
+-- each of its paths is one, and has the way of the class; its frame is received and is one of the first path, and it was run
+pub record IsPathClass (w : TheWorld) (within : List MatchField) (c : PathClass) : Type 0 where
+  pub paths : (p : Path) → Contains c.paths.items p → IsPath w within p
+  pub way : (p : Path) → Contains c.paths.items p → way_of p.steps.items ≡ class_way c
+  pub received : IsReceivedAt w c.frame.items c.in_port
+  pub shown : InFirstPath c.paths.items c.frame.items c.in_port
+  pub items : c.items.items ≡ items_at w c.frame.items c.in_port
+
+-- each class is one, no two have the same way, and each frame that is received and that conditions match is in a class, or in an undecided set
+pub record ArePaths (w : TheWorld) (within : List MatchField) (found : Paths) : Type 0 where
+  pub classes : (c : PathClass) → Contains found.classes.items c → IsPathClass w within c
+  pub apart : AreApart (map class_way found.classes.items)
+  pub undecided : (u : UndecidedFrames) → Contains found.undecided.items u → AreMatched within u.frames
+  pub all : (frame : List ℕ) (port : ℕ) → IsReceivedAt w frame port → matches_map within (received_fields frame port) ≡ true →
+      InClasses found.classes.items frame port ⊎ InUndecidedFrames found.undecided.items frame port

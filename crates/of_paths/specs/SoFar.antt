@@ -1,0 +1,57 @@
+-- For contracts inside this crate: what is known of the frames while some runs are not done.
+use Rattle.std.specs.Prelude.{◌≡◌, ℕ, ◌⊎◌, List, map, true}
+use Rattle.std.specs.List.{Contains}
+use Rattle.of_rewrite.specs.Frames.{IsFrame}
+use Rattle.of_oxm.specs.declared.match_field.MatchField.{MatchField}
+use Rattle.of_oxm.specs.Relations.{matches_map}
+use Rattle.of_machine.specs.TheWorld.{TheWorld}
+use Rattle.of_symbolic.specs.Parts.{received_fields}
+use Rattle.of_symbolic_run.specs.declared.dividing.Case.{Case}
+use Rattle.of_symbolic_run.specs.Cases.{AreCases}
+use Rattle.of_symbolic_run.specs.FrameSets.{InFrames}
+use Rattle.of_symbolic_run.specs.States.{IsAt}
+use Rattle.of_symbolic_switch.specs.Received.{IsReceivedAt}
+use Rattle.of_paths.specs.declared.path.Path.{Path}
+use Rattle.of_paths.specs.declared.path.PathClass.{PathClass}
+use Rattle.of_paths.specs.declared.path.Paths.{Paths}
+use Rattle.of_paths.specs.declared.path.UndecidedFrames.{UndecidedFrames}
+use Rattle.of_paths.specs.declared.stepping.Next.{Next}
+use Rattle.of_paths.specs.declared.stepping.Next.TheVariants as next
+use Rattle.of_paths.specs.Paths.{AreMatched, InClasses, InUndecidedFrames, IsPath, IsPathClass}
+use Rattle.of_paths.specs.Ways.{AreApart, class_way, lines_at}
+
+-- the state is that of the run of each frame
+abbrev pub IsStateOfRuns : TheWorld → Case → Type 0
+IsStateOfRuns w c = (frame : List ℕ) (port : ℕ) → IsFrame frame → InFrames c.frames frame port → IsAt w frame port c.state
+
+abbrev pub InCases : List Case → List ℕ → ℕ → Type 0
+InCases cases frame port = (c : Case) × Contains cases c × InFrames c.frames frame port
+
+-- what comes of a state for some frames
+abbrev pub IsNextOf : TheWorld → Case → Next → Type 0
+IsNextOf w old (next.Cases cases) = AreCases w old.frames old.state cases.items
+IsNextOf w old (next.Ended p) = (p.frames ≡ old.frames) × (IsStateOfRuns w old → (frame : List ℕ) (port : ℕ) → IsReceivedAt w frame port → InFrames old.frames frame port → lines_at w frame port ≡ p.steps.items)
+IsNextOf w old (next.Undecided u) = u.frames ≡ old.frames
+
+-- what was found is right
+pub record AreFoundSoFar (w : TheWorld) (within : List MatchField) (found : Paths) : Type 0 where
+  pub classes : (c : PathClass) → Contains found.classes.items c → IsPathClass w within c
+  pub apart : AreApart (map class_way found.classes.items)
+  pub undecided : (u : UndecidedFrames) → Contains found.undecided.items u → AreMatched within u.frames
+
+-- the frame is in it
+abbrev pub IsFoundIn : Paths → List ℕ → ℕ → Type 0
+IsFoundIn found frame port = InClasses found.classes.items frame port ⊎ InUndecidedFrames found.undecided.items frame port
+
+-- a path was put to it
+pub record PutsPath (w : TheWorld) (p : Path) (old new : Paths) : Type 0 where
+  pub found : (within : List MatchField) → IsPath w within p → AreFoundSoFar w within old → AreFoundSoFar w within new
+  pub own : (frame : List ℕ) (port : ℕ) → IsReceivedAt w frame port → InFrames p.frames frame port → IsFoundIn new frame port
+  pub kept : (frame : List ℕ) (port : ℕ) → IsFoundIn old frame port → IsFoundIn new frame port
+
+-- all that is known while cases are left
+pub record ArePathsSoFar (w : TheWorld) (within : List MatchField) (cases : List Case) (found : Paths) : Type 0 where
+  pub hold : (c : Case) → Contains cases c → IsStateOfRuns w c
+  pub inside : (c : Case) → Contains cases c → AreMatched within c.frames
+  pub right : AreFoundSoFar w within found
+  pub all : (frame : List ℕ) (port : ℕ) → IsReceivedAt w frame port → matches_map within (received_fields frame port) ≡ true → InCases cases frame port ⊎ IsFoundIn found frame port

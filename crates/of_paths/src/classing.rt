@@ -1,0 +1,99 @@
+//! Paths are put into classes.
+ghost use Rattle.std.specs.Prelude.{◌≡◌, ◌≤◌, ◌++◌, ◌∷◌, [], OnOk, length, map};
+ghost use Rattle.std.specs.List.{Contains};
+ghost use Rattle.of_rewrite.specs.Frames.{IsFrame};
+ghost use Rattle.of_datapath.specs.Datapath.{world_of};
+ghost use Rattle.of_datapath.specs.Numbers.{forwarding_of};
+ghost use Rattle.of_symbolic_run.specs.FrameSets.{InFrames};
+ghost use Rattle.of_paths.specs.declared.path.WhyUndecided.TheVariants.{Search};
+ghost use Rattle.of_paths.specs.SoFar.{PutsPath};
+ghost use Rattle.of_paths.specs.Ways.{class_way, way_of};
+
+use crate::path::{Path, PathClass, Paths, UndecidedFrames, WhyUndecided};
+use crate::ways::place_of_way;
+use of_classifier::Lookup;
+use of_datapath::Datapath;
+use of_symbolic_run::{FrameFound, FrameSet};
+use of_symbolic_switch::receiving_port;
+use std::alloc::{AllocError, Global};
+
+// No frame of the path is known that the switch receives.
+fn push_unfound(frames: FrameSet, found: &mut Paths) -> Result<(), AllocError>
+    ensures classes { found.new.classes ≡ found.old.classes }
+    ensures undecided { OnOk result (found.new.undecided.items ≡ found.old.undecided.items ++ record { frames = frames; why = Search } ∷ []) }
+{
+    found.undecided.push(UndecidedFrames {
+        frames,
+        why: WhyUndecided::Search,
+    })?;
+    Ok(())
+}
+
+// A class for a path of another way: a frame of the path runs.
+fn push_class<L: Lookup>(
+    alloc: Global,
+    datapath: &Datapath<L>,
+    path: Path,
+    frame: Vec<u8>,
+    in_port: u32,
+    found: &mut Paths,
+) -> Result<(), AllocError>
+    requires frame_is { IsFrame frame.items }
+    requires short { length frame.items ≤ 9216 }
+    requires within { InFrames path.frames frame.items in_port }
+    requires other { Contains (map class_way found.now.classes.items) (way_of path.steps.items) → ⊥ }
+    ensures { OnOk result (PutsPath (world_of (forwarding_of datapath.now)) path found.old found.new) }
+{
+    if !receiving_port(datapath.port_list(), in_port) {
+        return push_unfound(path.frames, found);
+    }
+    let items = datapath.received_items(alloc, in_port, &frame)?;
+    let mut paths = Vec::new(alloc);
+    paths.push(path)?;
+    found.classes.push(PathClass {
+        paths,
+        frame,
+        in_port,
+        items,
+    })?;
+    Ok(())
+}
+
+// A path whose way no class has: a frame of it is searched, in so many steps at most.
+fn put_other_way<L: Lookup>(
+    alloc: Global,
+    datapath: &Datapath<L>,
+    path: Path,
+    steps: usize,
+    found: &mut Paths,
+) -> Result<(), AllocError>
+    requires { Contains (map class_way found.now.classes.items) (way_of path.steps.items) → ⊥ }
+    ensures { OnOk result (PutsPath (world_of (forwarding_of datapath.now)) path found.old found.new) }
+{
+    match path.frames.find(alloc, steps)? {
+        FrameFound::Frame { frame, in_port } => {
+            push_class(alloc, datapath, path, frame, in_port, found)
+        }
+        FrameFound::Empty => Ok(()),
+        FrameFound::Undecided => push_unfound(path.frames, found),
+    }
+}
+
+/// Puts a path into the class of its way, without a search, or into a new class with a frame of it that runs. A path without frames is dropped.
+pub fn put_path<L: Lookup>(
+    alloc: Global,
+    datapath: &Datapath<L>,
+    path: Path,
+    steps: usize,
+    found: &mut Paths,
+) -> Result<(), AllocError>
+    ensures { OnOk result (PutsPath (world_of (forwarding_of datapath.now)) path found.old found.new) }
+{
+    match place_of_way(&found.classes, &path.steps) {
+        Some(place) => {
+            found.classes[place].paths.push(path)?;
+            Ok(())
+        }
+        None => put_other_way(alloc, datapath, path, steps, found),
+    }
+}

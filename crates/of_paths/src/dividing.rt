@@ -1,0 +1,116 @@
+//! The paths of all frames that a switch receives.
+ghost use Rattle.std.specs.Prelude.{◌≡◌, ◌++◌, ◌∷◌, [], ℕ, List, IfOk, OnOk, true};
+ghost use Rattle.of_datapath.specs.Datapath.{world_of};
+ghost use Rattle.of_datapath.specs.Numbers.{forwarding_of};
+ghost use Rattle.of_oxm.specs.declared.match_field.MatchField.{MatchField as AMatchField};
+ghost use Rattle.of_oxm.specs.Relations.{matches_map};
+ghost use Rattle.of_regions.specs.Conditions.{AreConditions};
+ghost use Rattle.of_machine.specs.TheWorld.{TheWorld};
+ghost use Rattle.of_symbolic.specs.Parts.{received_fields};
+ghost use Rattle.of_symbolic_run.specs.FrameSets.{InFrames};
+ghost use Rattle.of_symbolic_run.specs.declared.dividing.Case.{Case as ACase};
+ghost use Rattle.of_symbolic_switch.specs.Received.{IsReceivedAt};
+ghost use Rattle.of_paths.specs.Paths.{ArePaths, AreMatched};
+ghost use Rattle.of_paths.specs.SoFar.{ArePathsSoFar, IsStateOfRuns, IsNextOf};
+
+use crate::classing::put_path;
+use crate::path::{Paths, UndecidedFrames, WhyUndecided};
+use crate::stepping::{Next, step_case};
+use of_classifier::Lookup;
+use of_datapath::Datapath;
+use of_oxm::MatchField;
+use of_symbolic_run::{Case, received_state};
+use of_symbolic_switch::received_frames;
+use std::alloc::{AllocError, Global};
+
+// Puts what comes of a state to the others.
+fn put_next<'a, L: Lookup>(
+    alloc: Global,
+    datapath: &Datapath<L>,
+    next: Next<'a>,
+    steps: usize,
+    cases: &mut Vec<Case<'a>>,
+    found: &mut Paths,
+) -> Result<(), AllocError>
+    ensures { OnOk result ((within : List AMatchField) (old : ACase) → IsNextOf (world_of (forwarding_of datapath.now)) old next.entry →
+        ArePathsSoFar (world_of (forwarding_of datapath.now)) within (cases.old.items ++ old ∷ []) found.old →
+        ArePathsSoFar (world_of (forwarding_of datapath.now)) within cases.new.items found.new) }
+{
+    match next {
+        Next::Cases(more) => {
+            // the first one is taken first
+            let mut more = more;
+            more.reverse();
+            cases.append(&mut more)
+        }
+        Next::Ended(path) => put_path(alloc, datapath, path, steps, found),
+        Next::Undecided(undecided) => {
+            found.undecided.push(undecided)?;
+            Ok(())
+        }
+    }
+}
+
+// The runs took as many steps as they may.
+fn leave_undecided<'a>(cases: Vec<Case<'a>>, found: &mut Paths) -> Result<(), AllocError>
+    ensures { OnOk result ((w : TheWorld) (within : List AMatchField) → ArePathsSoFar w within cases.entry.items found.old → ArePaths w within found.new) }
+{
+    let mut cases = cases;
+    while let Some(case) = cases.pop() {
+        found.undecided.push(UndecidedFrames {
+            frames: case.frames,
+            why: WhyUndecided::Steps,
+        })?;
+    }
+    Ok(())
+}
+
+// The state before any step, for the frames that conditions match.
+fn first_case<'a, L: Lookup>(
+    alloc: Global,
+    datapath: &Datapath<L>,
+    within: &[MatchField],
+) -> Result<Case<'a>, AllocError>
+    requires { AreConditions within.now }
+    ensures holds { IfOk result (IsStateOfRuns (world_of (forwarding_of datapath.now))) }
+    ensures within { IfOk result (λ case. AreMatched within.now case.frames) }
+    ensures all { IfOk result (λ case. (frame : List ℕ) (port : ℕ) → IsReceivedAt (world_of (forwarding_of datapath.now)) frame port →
+        matches_map within.now (received_fields frame port) ≡ true → InFrames case.frames frame port) }
+{
+    let frames = received_frames(alloc, datapath)?;
+    Ok(Case {
+        frames: frames.matching(alloc, within)?,
+        state: received_state(alloc)?,
+    })
+}
+
+/// The paths of all frames that a switch receives and that conditions match, in classes (OpenFlow 1.3.5, 5.1).
+///
+/// The runs of all frames take at most so many steps together, and each search for a frame as many.
+pub fn paths<L: Lookup>(
+    alloc: Global,
+    datapath: &Datapath<L>,
+    within: &[MatchField],
+    steps: usize,
+) -> Result<Paths, AllocError>
+    requires { AreConditions within.now }
+    ensures { IfOk result (ArePaths (world_of (forwarding_of datapath.now)) within.now) }
+{
+    let mut found = Paths {
+        classes: Vec::new(alloc),
+        undecided: Vec::new(alloc),
+    };
+    let mut cases = Vec::new(alloc);
+    cases.push(first_case(alloc, datapath, within)?)?;
+    let mut left = steps;
+    while left > 0 {
+        let Some(case) = cases.pop() else {
+            return Ok(found);
+        };
+        let next = step_case(alloc, datapath, case)?;
+        put_next(alloc, datapath, next, steps, &mut cases, &mut found)?;
+        left -= 1;
+    }
+    leave_undecided(cases, &mut found)?;
+    Ok(found)
+}

@@ -1,0 +1,14 @@
+//! The paths of all frames that a switch receives, in classes.
+#![tactic(auto)]
+
+mod classing;
+mod conditions;
+mod dividing;
+mod path;
+mod stepping;
+mod ways;
+
+pub use conditions::ingress_conditions;
+pub use dividing::paths;
+pub use path::{Path, PathClass, Paths, UndecidedFrames, WhyUndecided};
+pub use ways::is_same_way;

@@ -1,0 +1,12 @@
+use Rattle.std.proofs.Common.{◌≡◌, ◌++◌, drop}
+use Rattle.std.specs.List.{flat_map}
+use Rattle.std.specs.Prelude.{IsTrue}
+use Rattle.of_trace.specs.Encoded.{are_encoded}
+use Rattle.of_paths_report.specs.PathsWords.{indented_line}
+use Rattle.of_paths_report.proofs.classes.push_indented_steps.Given as goal
+
+abbrev pub invariant-loop-step : goal.invariant-loop-step
+invariant-loop-step l = record {
+  encoded : IsTrue (are_encoded (drop l.step-index l.steps));
+  text : l.out.items ++ flat_map indented_line (drop l.step-index l.steps) ≡ l.fn.out.items ++ flat_map indented_line l.steps;
+}

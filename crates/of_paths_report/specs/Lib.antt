@@ -1,0 +1,3 @@
+pub mod Destinations
+pub mod PathsWords
+pub mod PathsFiles

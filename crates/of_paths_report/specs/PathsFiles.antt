@@ -1,0 +1,25 @@
+-- WHAT `paths` WRITES ABOUT A SWITCH, and whether it is known of all frames.
+use Rattle.std.specs.Prelude.{◌≡◌, ◌≢◌, ℕ, ◌==◌, List, length, Option, Result, Ok, Err, if◌then◌else◌}
+use Rattle.of_oxm.specs.declared.match_field.MatchField.{MatchField}
+use Rattle.of_datapath.specs.Datapath.{Forwarding, world_of}
+use Rattle.of_replay.specs.declared.event_file.Ended.{Ended}
+use Rattle.of_replay.specs.declared.event_file.Ended.TheVariants.{Done}
+use Rattle.of_paths.specs.Paths.{ArePaths}
+use Rattle.of_paths.specs.declared.path.Paths.{Paths}
+use Rattle.of_paths_report.specs.declared.destination.Destination.{Destination}
+use Rattle.of_paths_report.specs.declared.writing.PathsVerdict.{PathsVerdict}
+use Rattle.of_paths_report.specs.declared.writing.PathsVerdict.TheVariants.{Complete, Undecided}
+use Rattle.of_paths_report.specs.PathsWords.{paths_words}
+
+-- it is known of all frames if no set of frames is undecided
+abbrev pub paths_verdict : Paths → PathsVerdict
+paths_verdict found = if length found.undecided.items == 0 then Complete else Undecided
+
+-- the verdict, if all was written
+abbrev pub IsPathsResult : Result PathsVerdict Ended → PathsVerdict → Type 0
+IsPathsResult (Ok verdict) is = verdict ≡ is
+IsPathsResult (Err ended) is = ended ≢ Done
+
+-- THE TEXT of the paths of a switch, for the frames that conditions match: those that lead to a place, if one is asked for
+abbrev pub IsPathsReport : Result PathsVerdict Ended → List MatchField → Option Destination → Forwarding → List ℕ → Type 0
+IsPathsReport result within to f text = (found : Paths) × ArePaths (world_of f) within found × (text ≡ paths_words f to found) × IsPathsResult result (paths_verdict found)

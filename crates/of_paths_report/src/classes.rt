@@ -1,0 +1,105 @@
+//! Classes of paths in words.
+ghost use Rattle.std.specs.Prelude.{◌≡◌, ◌++◌, IfOk, OnOk, IsTrue};
+ghost use Rattle.std.specs.List.{flat_map};
+ghost use Rattle.of_datapath.specs.DryRun.{steps_in};
+ghost use Rattle.of_trace.specs.Encoded.{are_encoded, is_encoded};
+ghost use Rattle.of_paths_report.specs.PathsWords.{class_words, indented_line, shown_words};
+
+use crate::destination::{Destination, is_shown};
+use crate::hits::push_further;
+use of_classifier::Lookup;
+use of_leaving::{push_frame_line, push_side};
+use of_machine::Step;
+use of_paths::PathClass;
+use of_switch::{Switch, SwitchError};
+use of_trace::{Trace, push_heading, push_step, trace};
+use std::alloc::{AllocError, Global};
+
+// The steps of the frame of a class.
+fn traced<L: Lookup>(
+    alloc: Global,
+    switch: &Switch<L>,
+    class: &PathClass,
+) -> Result<Trace, AllocError>
+    ensures { IfOk result (λ trace. trace.steps.items ≡ steps_in class.now.in_port class.now.frame.items switch.now.core.forwarding) }
+{
+    match trace(alloc, switch, class.in_port, &class.frame) {
+        Ok(trace) => Ok(trace),
+        Err(SwitchError::NoMemory) => Err(AllocError),
+        Err(_) => unreachable!(),
+    }
+}
+
+#[tactic(auto, unfolding(crate::specs::PathsWords::indented_line))]
+fn push_indented(out: &mut Vec<u8>, step: Step) -> Result<(), AllocError>
+    requires { IsTrue (is_encoded step) }
+    ensures { OnOk result (out.new.items ≡ out.old.items ++ indented_line step) }
+{
+    out.extend_from_slice(b"    ")?;
+    push_step(out, step)?;
+    out.push(b'\n')?;
+    Ok(())
+}
+
+// Appends the lines of steps.
+fn push_indented_steps(out: &mut Vec<u8>, steps: &[Step]) -> Result<(), AllocError>
+    requires { IsTrue (are_encoded steps.now) }
+    ensures { OnOk result (out.new.items ≡ out.old.items ++ flat_map indented_line steps.now) }
+{
+    for step in steps {
+        push_indented(out, *step)?;
+    }
+    Ok(())
+}
+
+// Appends a class: its frame, the steps of that, and what leaves.
+#[tactic(auto, unfolding(crate::specs::PathsWords::class_words))]
+fn push_class_words<L: Lookup>(
+    alloc: Global,
+    out: &mut Vec<u8>,
+    switch: &Switch<L>,
+    class: &PathClass,
+) -> Result<(), AllocError>
+    ensures { OnOk result (out.new.items ≡ out.old.items ++ class_words switch.now.core.forwarding class.now) }
+{
+    let trace = traced(alloc, switch, class)?;
+    out.extend_from_slice(b"path: ")?;
+    push_heading(alloc, out, switch, class.in_port, &class.frame)?;
+    push_frame_line(alloc, out, class.in_port, &class.frame)?;
+    push_indented_steps(out, &trace.steps)?;
+    push_side(alloc, out, b"    ", &class.items)?;
+    push_further(out, &class.paths)
+}
+
+// Appends a class if its paths lead to the place that is asked for.
+fn push_shown_class<L: Lookup>(
+    alloc: Global,
+    out: &mut Vec<u8>,
+    switch: &Switch<L>,
+    to: Option<Destination>,
+    class: &PathClass,
+) -> Result<(), AllocError>
+    ensures { OnOk result (out.new.items ≡ out.old.items ++ shown_words switch.now.core.forwarding to class.now) }
+{
+    if is_shown(class, to) {
+        push_class_words(alloc, out, switch, class)
+    } else {
+        Ok(())
+    }
+}
+
+/// Appends classes, one block each, whose paths lead to the place that is asked for, if one is.
+pub fn push_classes<L: Lookup>(
+    alloc: Global,
+    out: &mut Vec<u8>,
+    switch: &Switch<L>,
+    to: Option<Destination>,
+    classes: &[PathClass],
+) -> Result<(), AllocError>
+    ensures { OnOk result (out.new.items ≡ out.old.items ++ flat_map (shown_words switch.now.core.forwarding to) classes.now) }
+{
+    for class in classes {
+        push_shown_class(alloc, out, switch, to, class)?;
+    }
+    Ok(())
+}

@@ -1,0 +1,98 @@
+//! The report on the frames that a switch receives.
+ghost use Rattle.std.specs.Prelude.{◌≡◌, ◌<◌, ◌↔◌, IfOk};
+ghost use Rattle.of_datapath.specs.Datapath.{world_of};
+ghost use Rattle.of_regions.specs.Conditions.{AreConditions};
+ghost use Rattle.of_replay.specs.FileRuns.{Writes, ended_as};
+ghost use Rattle.of_paths.specs.Paths.{ArePaths};
+ghost use Rattle.of_paths_report.specs.PathsFiles.{IsPathsReport, paths_verdict};
+ghost use Rattle.of_paths_report.specs.PathsWords.{paths_words};
+
+use crate::classes::push_classes;
+use crate::destination::Destination;
+use crate::undecided::{push_path_summary, push_undecided_frames};
+use of_classifier::Lookup;
+use of_oxm::MatchField;
+use of_paths::{Paths, paths};
+use of_replay::{Ended, Sink, write_all};
+use of_switch::Switch;
+use std::alloc::{AllocError, Global};
+
+/// Whether it is known of all frames which steps they take.
+#[derive(Clone, Copy, Debug, PartialEq, Eq)]
+pub enum PathsVerdict {
+    /// It is.
+    Complete,
+    /// Some frames are undecided.
+    Undecided,
+}
+
+// The paths of the frames of a switch.
+fn find_paths<L: Lookup>(
+    alloc: Global,
+    switch: &Switch<L>,
+    within: &[MatchField],
+    steps: usize,
+) -> Result<Paths, AllocError>
+    requires { AreConditions within.now }
+    ensures { IfOk result (ArePaths (world_of switch.now.core.forwarding) within.now) }
+{
+    paths(alloc, switch.datapath(), within, steps)
+}
+
+// What is found, in words.
+#[tactic(auto, unfolding(crate::specs::PathsWords::paths_words))]
+fn paths_in_words<L: Lookup>(
+    alloc: Global,
+    switch: &Switch<L>,
+    to: Option<Destination>,
+    found: &Paths,
+) -> Result<Vec<u8>, AllocError>
+    ensures { IfOk result (λ text. text.items ≡ paths_words switch.now.core.forwarding to found.now) }
+{
+    let mut out = Vec::new(alloc);
+    push_classes(alloc, &mut out, switch, to, &found.classes)?;
+    push_undecided_frames(&mut out, &found.undecided)?;
+    push_path_summary(&mut out, to, found)?;
+    Ok(out)
+}
+
+fn verdict_for(found: &Paths) -> PathsVerdict
+    ensures { result ≡ paths_verdict found.now }
+{
+    if found.undecided.is_empty() {
+        PathsVerdict::Complete
+    } else {
+        PathsVerdict::Undecided
+    }
+}
+
+/// Writes which steps the frames take that a switch receives and that conditions match (OpenFlow 1.3.5, 5.1): the paths that lead to a place, if one
+/// is asked for. The runs of all frames take at most so many steps together, and each search for a frame as many. Ok says whether it is known of
+/// all of them.
+///
+/// Err is `WriteFault`, where a write failed and a prefix of the text was written; or `NoMemory`, where nothing was.
+pub fn write_paths<L: Lookup, W: Sink>(
+    alloc: Global,
+    switch: &Switch<L>,
+    within: &[MatchField],
+    to: Option<Destination>,
+    steps: usize,
+    writer: &mut W,
+) -> Result<PathsVerdict, Ended>
+    requires conditions { AreConditions within.now }
+    requires well { W.failures writer.old ≡ 0 }
+    ensures output { Writes (IsPathsReport result within.now to switch.now.core.forwarding) (ended_as result) (W.taken writer.old) (W.taken writer.new) }
+    ensures write_fault { (ended_as result ≡ Ended.WriteFault) ↔ (0 < W.failures writer.new) }
+{
+    let Ok(found) = find_paths(alloc, switch, within, steps) else {
+        return Err(Ended::NoMemory);
+    };
+    let Ok(text) = paths_in_words(alloc, switch, to, &found) else {
+        return Err(Ended::NoMemory);
+    };
+    if write_all(writer, &text) {
+        Ok(verdict_for(&found))
+    } else {
+        Err(Ended::WriteFault)
+    }
+}

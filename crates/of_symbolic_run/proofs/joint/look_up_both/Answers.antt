@@ -1,0 +1,50 @@
+use Rattle.std.proofs.Common.{◌≡◌, ◌∙◌, List, ap, subst}
+use Rattle.of_table.specs.Entries.{flows_of}
+use Rattle.of_table.specs.Table.{FlowEntry}
+use Rattle.of_symbolic.specs.Branches.{AreBranches, flows_listed}
+use Rattle.of_symbolic_run.specs.Cases.{AreCasesOf}
+use Rattle.of_symbolic_run.specs.JointCases.{first_cases, second_cases}
+use Rattle.of_symbolic_run.proofs.CaseLemmas.{cases_are, key_is, own_branches}
+use Rattle.of_symbolic_run.proofs.CopyLemmas.{same_answer, same_key}
+use Rattle.of_symbolic_run.proofs.joint.look_up_both.Goals as goal
+
+pub joint_cases_of-requires-clause-second : goal.joint_cases_of-requires-clause-second
+joint_cases_of-requires-clause-second c = same_answer c.args.first.now.tasks.items c.args.second.now.tasks.items c.requires.same ∙ c.requires.lookup
+
+pub joint_cases_of-requires-clause-each : goal.joint_cases_of-requires-clause-each
+joint_cases_of-requires-clause-each c b there =
+    let made = c.in-Some.branches in
+    let packet = c.index.result.now.packet in
+    let all = own_branches _ c.in_ok-branches.field-0 made c.in-Some.is c.in_ok-branches.ensures.some packet.rewrites c.in_ok-overlay.ensures c.known.ensures in
+    let conditions = own_branches _ c.in_ok-branches.field-0 made c.in-Some.is c.in_ok-branches.ensures.conditions b there in
+    (conditions, all.within b there)
+
+pub returns-clause-first : goal.returns-clause-first
+returns-clause-first c w is =
+    let made = c.in-Some.branches in
+    let packet = c.index.result.now.packet in
+    let frames = c.args.frames.now in
+    let state = c.args.first.now in
+    let cases = first_cases c.in_ok-cases-in-Some.cases.items in
+    let flows : flows_listed c.deref.result.now ≡ flows_of c.args.entries = ap flows_listed c.deref.ensures.value ∙ c.in_ok-listed.ensures in
+    let flows-2 : flows_listed c.deref-in-Some.result.now ≡ flows_of c.args.entries = ap flows_listed c.deref-in-Some.ensures.value ∙ c.in_ok-listed.ensures in
+    let all = own_branches _ c.in_ok-branches.field-0 made c.in-Some.is c.in_ok-branches.ensures.some packet.rewrites c.in_ok-overlay.ensures c.known.ensures in
+    let are : AreBranches (flows_of c.args.entries) packet.rewrites packet.metadata frames.part made.items = subst (λ (fs : List FlowEntry). AreBranches fs packet.rewrites packet.metadata frames.part made.items) flows all in
+    let own : AreCasesOf c.args.table (flows_of c.args.entries) frames state made.items cases = subst (λ (fs : List FlowEntry). AreCasesOf c.args.table fs frames state made.items cases) flows-2 c.in_ok-cases-in-Some.ensures.first in
+    cases_are c.args.table (flows_of c.args.entries) frames state w packet.rewrites packet.metadata made.items cases is (key_is state.tasks.items c.index.result.now c.args.table c.requires.lookup c.index.ensures) are own
+
+pub returns-clause-second : goal.returns-clause-second
+returns-clause-second c w is =
+    let made = c.in-Some.branches in
+    let packet = c.index.result.now.packet in
+    let frames = c.args.frames.now in
+    let first = c.args.first.now in
+    let state = c.args.second.now in
+    let cases = second_cases c.in_ok-cases-in-Some.cases.items in
+    let flows : flows_listed c.deref.result.now ≡ flows_of c.args.entries = ap flows_listed c.deref.ensures.value ∙ c.in_ok-listed.ensures in
+    let flows-2 : flows_listed c.deref-in-Some.result.now ≡ flows_of c.args.entries = ap flows_listed c.deref-in-Some.ensures.value ∙ c.in_ok-listed.ensures in
+    let all = own_branches _ c.in_ok-branches.field-0 made c.in-Some.is c.in_ok-branches.ensures.some packet.rewrites c.in_ok-overlay.ensures c.known.ensures in
+    let are : AreBranches (flows_of c.args.entries) packet.rewrites packet.metadata frames.part made.items = subst (λ (fs : List FlowEntry). AreBranches fs packet.rewrites packet.metadata frames.part made.items) flows all in
+    let own : AreCasesOf c.args.table (flows_of c.args.entries) frames state made.items cases = subst (λ (fs : List FlowEntry). AreCasesOf c.args.table fs frames state made.items cases) flows-2 c.in_ok-cases-in-Some.ensures.second in
+    cases_are c.args.table (flows_of c.args.entries) frames state w packet.rewrites packet.metadata made.items cases is
+    (λ frame port. same_key first.tasks.items state.tasks.items c.requires.same frame port ∙ key_is first.tasks.items c.index.result.now c.args.table c.requires.lookup c.index.ensures frame port) are own

@@ -1,0 +1,5 @@
+pub mod AbsenceLemmas
+pub mod ReceivedLemmas
+pub mod GroupedLemmas
+pub mod SideLemmas
+pub mod Pairing

@@ -1,0 +1,21 @@
+-- WHICH FRAMES A SWITCH RECEIVES, and what the run of one emits (OpenFlow 1.3.5, 4.4 and 5.1).
+use Rattle.std.specs.Prelude.{◌≡◌, ℕ, ◌≤◌, true, List, [], ◌∷◌, length, Some}
+use Rattle.of_rewrite.specs.Frames.{IsFrame}
+use Rattle.of_ports.specs.declared.port.Port.{Port}
+use Rattle.of_ports.specs.Ports.{may_receive, port_at}
+use Rattle.of_machine.specs.declared.data.Item.{Item}
+use Rattle.of_machine.specs.TheWorld.{TheWorld}
+use Rattle.of_machine.specs.Rows.{Lookup, entering}
+use Rattle.of_machine.specs.Runs.{run_of}
+
+-- a frame of 14 to 9,216 bytes that comes in by a port that receives: no other takes a step (4.4)
+pub record IsReceivedAt (w : TheWorld) (frame : List ℕ) (port : ℕ) : Type 0 where
+  pub frame_is : IsFrame frame
+  pub short : length frame ≤ 9216
+  pub ingress : Port
+  pub there : port_at w.ports port ≡ Some ingress
+  pub receives : may_receive ingress ≡ true
+
+-- what its run emits, in order
+abbrev pub items_at : TheWorld → List ℕ → ℕ → List Item
+items_at w frame port = (run_of w (entering frame port) (Lookup 0 ∷ [])).items
