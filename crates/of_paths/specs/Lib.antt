@@ -1,3 +1,4 @@
+pub mod Ingress
 pub mod Ways
 pub mod Paths
 pub mod SoFar

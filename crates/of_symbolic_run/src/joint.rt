@@ -1,12 +1,12 @@
 //! What a lookup of the same packet makes of two states.
-ghost use Rattle.std.specs.Prelude.{◌≡◌, IfOk, IfSome};
+ghost use Rattle.std.specs.Prelude.{◌≡◌, IfNone, IfOk, IfSome};
 ghost use Rattle.std.specs.List.{Contains};
 ghost use Rattle.of_machine.specs.TheWorld.{TheWorld};
 ghost use Rattle.of_table.specs.Entries.{flows_of};
 ghost use Rattle.of_symbolic.specs.Branches.{flows_listed};
 ghost use Rattle.of_symbolic.specs.declared.branching.Branch.{Branch as ABranch};
 ghost use Rattle.of_symbolic_run.specs.declared.advance.Advance.TheVariants.{Lookup};
-ghost use Rattle.of_symbolic_run.specs.Cases.{AreCases, AreCasesOf, IsBranchOf, IsCaseOf, IsTableOf};
+ghost use Rattle.of_symbolic_run.specs.Cases.{AreCases, AreCasesOf, AsksUnknownOf, IsBranchOf, IsCaseOf, IsTableOf};
 ghost use Rattle.of_symbolic_run.specs.JointCases.{first_case, first_cases, second_case, second_cases};
 ghost use Rattle.of_symbolic_run.specs.States.{AreTaskCopies, answer_to_tasks};
 
@@ -96,6 +96,7 @@ pub fn look_up_both<'a>(
         AreCases w frames.now first.now (first_cases cases.items))) }
     ensures second { IfOk result (λ found. IfSome found (λ cases. (w : TheWorld) → IsTableOf w table (flows_of entries.entry) →
         AreCases w frames.now second.now (second_cases cases.items))) }
+    ensures none { IfOk result (λ found. IfNone found (AsksUnknownOf first.now.tasks.items (flows_of entries.entry))) }
 {
     let listed = listed_entries(alloc, entries)?;
     let packet = &first.tasks[0].packet;

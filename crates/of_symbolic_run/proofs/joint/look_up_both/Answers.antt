@@ -1,10 +1,13 @@
-use Rattle.std.proofs.Common.{◌≡◌, ◌∙◌, List, ap, subst}
+use Rattle.std.proofs.Common.{◌≡◌, ◌∙◌, List, Option, ap, subst}
+use Rattle.std.specs.Prelude.{IfNone}
+use Rattle.std.specs.Global.{Vec}
 use Rattle.of_table.specs.Entries.{flows_of}
 use Rattle.of_table.specs.Table.{FlowEntry}
-use Rattle.of_symbolic.specs.Branches.{AreBranches, flows_listed}
+use Rattle.of_symbolic.specs.declared.branching.Branch.{Branch}
+use Rattle.of_symbolic.specs.Branches.{AreBranches, AsksUnknown, flows_listed}
 use Rattle.of_symbolic_run.specs.Cases.{AreCasesOf}
 use Rattle.of_symbolic_run.specs.JointCases.{first_cases, second_cases}
-use Rattle.of_symbolic_run.proofs.CaseLemmas.{cases_are, key_is, own_branches}
+use Rattle.of_symbolic_run.proofs.CaseLemmas.{cases_are, key_is, own_branches, unknown_first}
 use Rattle.of_symbolic_run.proofs.CopyLemmas.{same_answer, same_key}
 use Rattle.of_symbolic_run.proofs.joint.look_up_both.Goals as goal
 
@@ -48,3 +51,10 @@ returns-clause-second c w is =
     let own : AreCasesOf c.args.table (flows_of c.args.entries) frames state made.items cases = subst (λ (fs : List FlowEntry). AreCasesOf c.args.table fs frames state made.items cases) flows-2 c.in_ok-cases-in-Some.ensures.second in
     cases_are c.args.table (flows_of c.args.entries) frames state w packet.rewrites packet.metadata made.items cases is
     (λ frame port. same_key first.tasks.items state.tasks.items c.requires.same frame port ∙ key_is first.tasks.items c.index.result.now c.args.table c.requires.lookup c.index.ensures frame port) are own
+
+pub returns-in-None-clause-none : goal.returns-in-None-clause-none
+returns-in-None-clause-none c =
+    let o = c.in_ok-overlay.overlay in
+    let flows : flows_listed c.deref.result.now ≡ flows_of c.args.entries = ap flows_listed c.deref.ensures.value ∙ c.in_ok-listed.ensures in
+    unknown_first c.args.first.now.tasks.items c.index.result.now c.args.table o (flows_of c.args.entries) c.requires.lookup c.index.ensures c.in_ok-overlay.ensures
+    (subst (AsksUnknown o) flows (subst (λ (found : Option (Vec Branch)). IfNone found (AsksUnknown o (flows_listed c.deref.result.now))) c.in-None.is c.in_ok-branches.ensures.none))
