@@ -10,11 +10,12 @@
         switch.frame(1, frame)            # [Sent(port=2, frame=..)], or [Answer(PACKET_IN xid 0, ..)]
 
 `Bridge` connects a real controller in its own process. `Network` has several switches with links between them. `diff` finds the
-frames that two switches treat differently. The manuals are docs/TESTING.md and docs/LAB.md of the repository.
+frames that two switches treat differently, and `paths` the steps that the frames take that a switch receives. The manuals are docs/TESTING.md and docs/LAB.md of the repository.
 """
 
 from .bridge import Bridge
 from .difference import diff
+from .dividing import paths
 from .effects import Answer, Closed, Effect, Refused, Sent
 from .message_types import MessageType
 from .network import Arrived, Crossing, Looped, Network
@@ -41,4 +42,5 @@ __all__ = [
     "Sent",
     "Switch",
     "diff",
+    "paths",
 ]

@@ -2,14 +2,10 @@
 
 from __future__ import annotations
 
-import contextlib
-import json
 import os
-import tempfile
-from collections.abc import Iterator
 from typing import Any
 
-from .program import ProgramError, StrPath, find, run_to_end
+from .program import StrPath, document_of, file_of, find
 
 # Exit statuses: a file has a fault; the switches differ, or their ports do; frames are undecided.
 _BAD_FILE = 2
@@ -33,24 +29,5 @@ def diff(
     ValueError, with the name of the file, if a text has a fault.
     """
     options = ["--json", *(["--frames"] if frames else []), *([] if steps is None else ["--steps", str(steps)])]
-    with _file_of(first) as one, _file_of(second) as other:
-        try:
-            found = run_to_end([find(program), "diff", *options, one, other], b"", timeout, (0, _DIFFERS, _UNDECIDED))
-        except ProgramError as fault:
-            if fault.status != _BAD_FILE:
-                raise
-            raise ValueError(fault.said) from None
-    document: dict[str, Any] = json.loads(found)
-    return document
-
-
-@contextlib.contextmanager
-def _file_of(text: str | os.PathLike[str]) -> Iterator[str]:
-    """The path of a file; a text is written into one."""
-    if not isinstance(text, str):
-        yield os.path.abspath(text)
-        return
-    with tempfile.NamedTemporaryFile(suffix=".txt") as file:
-        file.write(text.encode())
-        file.flush()
-        yield file.name
+    with file_of(first) as one, file_of(second) as other:
+        return document_of([find(program), "diff", *options, one, other], timeout, (0, _DIFFERS, _UNDECIDED), (_BAD_FILE,))

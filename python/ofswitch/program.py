@@ -2,12 +2,16 @@
 
 from __future__ import annotations
 
+import contextlib
+import json
 import os
 import select
 import shutil
 import subprocess
+import tempfile
 import weakref
-from typing import Union
+from collections.abc import Iterator
+from typing import Any, Union
 
 StrPath = Union[str, "os.PathLike[str]"]
 
@@ -57,6 +61,30 @@ def run_to_end(command: list[str], text: bytes, timeout: float, good: tuple[int,
     if done.returncode not in good:
         raise _ended(command, done.returncode, done.stderr)
     return done.stdout.decode()
+
+
+def document_of(command: list[str], timeout: float, good: tuple[int, ...], bad: tuple[int, ...]) -> dict[str, Any]:
+    """The JSON document that a command prints, if it ends with one of the good statuses. ValueError if it ends with one of the bad ones."""
+    try:
+        found = run_to_end(command, b"", timeout, good)
+    except ProgramError as fault:
+        if fault.status not in bad:
+            raise
+        raise ValueError(fault.said) from None
+    document: dict[str, Any] = json.loads(found)
+    return document
+
+
+@contextlib.contextmanager
+def file_of(text: str | os.PathLike[str]) -> Iterator[str]:
+    """The path of a file; a text is written into one."""
+    if not isinstance(text, str):
+        yield os.path.abspath(text)
+        return
+    with tempfile.NamedTemporaryFile(suffix=".txt") as file:
+        file.write(text.encode())
+        file.flush()
+        yield file.name
 
 
 def reads_of(size: int) -> int:

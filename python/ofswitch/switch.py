@@ -14,6 +14,7 @@ from typing import IO, Any, Protocol, cast
 
 from . import rows
 from .difference import diff
+from .dividing import paths
 from .effects import Closed, Effect, Refused, effect_of
 from .program import MARK_ROW, ProgramError, Run, StrPath, find, reads_of, run_to_end
 from .rows import Octets
@@ -176,9 +177,13 @@ class Switch:
 
     def diff(self, other: Switch, *, frames: bool = False, steps: int | None = None) -> dict[str, Any]:
         """The frames that this switch and another one treat differently, as they are now (docs/DIFF.md), as `ofswitch.diff` returns them."""
-        # an empty text would be no event file
-        mine, others = (it.log or f"{rows.at(0)}\n" for it in (self, other))
-        return diff(mine, others, frames=frames, steps=steps, program=self._program)
+        return diff(self._events(), other._events(), frames=frames, steps=steps, program=self._program)
+
+    def paths(
+        self, *, port: int | None = None, match: str | None = None, to: int | str | None = None, steps: int | None = None
+    ) -> dict[str, Any]:
+        """The steps that the frames take that this switch receives, as it is now (docs/PATHS.md), as `ofswitch.paths` returns them."""
+        return paths(self._events(), port=port, match=match, to=to, steps=steps, program=self._program)
 
     def frame_of(self, words: str) -> bytes:
         """The frame that has these fields: "tcp,nw_src=10.0.0.1,tp_dst=80" (docs/TRACE.md). ValueError if there is none.
@@ -335,6 +340,10 @@ class Switch:
             self._log.writelines(lines)
             if self._log_has_path:
                 self._log.flush()
+
+    def _events(self) -> str:
+        """The log, as an event file also if it is empty."""
+        return self.log or f"{rows.at(0)}\n"
 
     def _new_run(self, *options: str) -> Run:
         words = ["replay", *self._options, *options, "--ask", "--reads", str(self.MOST_READS), "-"]

@@ -6,7 +6,7 @@ import subprocess
 
 import messages
 import pytest
-from ofswitch import Answer, Closed, MessageType, ProgramError, Refused, Sent, Switch, diff
+from ofswitch import Answer, Closed, MessageType, ProgramError, Refused, Sent, Switch, diff, paths
 
 EXAMPLES = pathlib.Path(__file__).resolve().parents[2] / "examples"
 PROGRAM = os.environ.get("OFSWITCH", "ofswitch")
@@ -370,7 +370,7 @@ def test_two_switches_are_compared(switch):
         [difference] = found["differences"]
         frame = bytes.fromhex(difference["frame"])
         assert (difference["at"], difference["in_port"], difference["second"]) == ("2", 1, [])
-        assert difference["first"] == [{"port": "2", "frame": difference["frame"]}]
+        assert difference["first"] == [{"port": "2", "frame": difference["frame"]}] and difference["sets"] == 1
         assert switch.frame(1, frame) == [Sent(2, frame)] and other.frame(1, frame) == []
         other.port_add(3)
         assert switch.diff(other)["ports_differ"] is True
@@ -383,6 +383,33 @@ def test_two_files_are_compared():
     assert len(diff(EXAMPLES / "router.flows", EXAMPLES / "router2.flows", frames=True)["differences"]) == 1
     with pytest.raises(ValueError, match="line 1: "):
         diff(EXAMPLES / "router.flows", "flow x\n")
+
+
+def test_frames_are_divided_by_their_steps(switch):
+    switch.port_add(1), switch.port_add(2)
+    switch.import_("priority=2,in_port=1,arp,actions=output:2\npriority=2,in_port=1,ip,actions=output:2\npriority=1,actions=drop")
+    [path] = switch.paths(to=2)["paths"]
+    assert path["steps"][1:] == ["apply", "output 2 0", "set", "end"]
+    # both flows say the same
+    assert sorted(it[0]["entry"] for it in path["hits"]) == [0, 1]
+    frame = bytes.fromhex(path["frame"])
+    assert (path["in_port"], path["items"]) == (1, [{"port": "2", "frame": path["frame"]}])
+    assert switch.frame(1, frame) == [Sent(2, frame)]
+    [dropped] = switch.paths(port=2)["paths"]
+    assert dropped["items"] == [] and dropped["hits"] == [[{"table": 0, "entry": 2}]]
+    assert switch.paths(port=1, match="arp")["paths"][0]["hits"][0] == [{"table": 0, "entry": 0}]
+    with pytest.raises(ValueError, match="bad place"):
+        switch.paths(to="nowhere")
+    with pytest.raises(ValueError, match="bad match: nw_dst: needs ip"):
+        switch.paths(match="nw_dst=10.0.0.0/8")
+
+
+def test_frames_of_a_file_are_divided():
+    found = paths(EXAMPLES / "router.flows", to="drop")
+    assert (found["classes"], len(found["paths"]), found["undecided"]) == (7, 1, [])
+    assert paths((EXAMPLES / "router.flows").read_text(), steps=0)["undecided"] == ["steps"]
+    with pytest.raises(ValueError, match="line 1: "):
+        paths("flow x\n")
 
 
 def test_faults_of_texts_are_told(switch):

@@ -141,10 +141,11 @@ its rows. It prints frames that make something else leave the two switches, each
   undecided: 2 sets of frames: ...      why it is not known whether frames are treated alike
   1 difference, 2 undecided             or `same: all frames are treated alike`
 
-Each difference is of a set of frames, of which one is printed. If there is neither a difference nor a line `undecided`, the two
-switches treat each frame alike: by each port the same frames leave in the same order, and the controller gets the same packets,
-with the same reason, table, cookie and metadata. With --frames, packets to the controller are not compared. Counters, timeouts
-and the time are not compared. Switches with other ports are not compared: `the switches have other ports`.
+Each difference is of a set of frames, of which one is printed, or of several sets that differ likewise: then a line has their
+number, `sets of frames: 2`. If there is neither a difference nor a line `undecided`, the two switches treat each frame alike: by
+each port the same frames leave in the same order, and the controller gets the same packets, with the same reason, table, cookie
+and metadata. With --frames, packets to the controller are not compared. Counters, timeouts and the time are not compared. Switches
+with other ports are not compared: `the switches have other ports`.
 
 Exit status: 0 all frames are treated alike; 4 there is a difference, or the ports differ; 5 no difference was found, but frames
 are undecided. If a file is at fault, the status is 1, 2 or 3, and the name of the file is before the fault.
@@ -169,15 +170,19 @@ are divided into sets whose frames take the same steps. Sets whose steps differ 
   undecided: 2 sets of frames: ...      why it is not known which steps frames take
   7 paths, 2 undecided
 
-An entry is named by its table and its number by age, from 0. With --port, only frames that come in by this port are divided. With
---to, only paths are printed that may leave by a port for some ingress port, that go to the controller, or of which nothing leaves.
+An entry is named by its table and its number by age, from 0. With --port, only frames that come in by this port are divided, and
+with --match only those that match, in the words of a match of ovs-ofctl. With --to, only paths are printed that may leave by a port
+for some ingress port, that go to the controller, or of which nothing leaves. With --json, the report is one JSON document, which
+names the entries that each set of frames hits.
 
-Exit status: 0 each frame is in a path; 5 frames are undecided. If the file is at fault, the status is 1, 2 or 3, and the name of
-the file is before the fault.
+Exit status: 0 each frame is in a path; 5 frames are undecided; 2 the words of --match are not a match that a flow may have. If the
+file is at fault, the status is 1, 2 or 3, and the name of the file is before the fault.
 
   ofswitch paths examples/router.flows
   ofswitch paths --to drop examples/router.flows
-  ofswitch paths --port 1 --to controller examples/office.txt";
+  ofswitch paths --match ip,nw_dst=10.1.0.0/16 examples/router.flows
+  ofswitch paths --port 1 --to controller examples/office.txt
+  ofswitch paths --json examples/router.flows | jq '.paths[] | select(.items == []) | .frame'";
 
 const IMPORTS: &str =
     "FILE has flows and groups, one per line, as `ovs-ofctl -O OpenFlow13 --no-names dump-flows` and `dump-groups` print them, or
@@ -485,7 +490,7 @@ const DIFF: [Argument; 5] = [
     },
 ];
 
-const PATHS_ARGUMENTS: [Argument; 4] = [
+const PATHS_ARGUMENTS: [Argument; 6] = [
     Argument {
         name: "FILE",
         kind: Kind::Positional,
@@ -497,9 +502,19 @@ const PATHS_ARGUMENTS: [Argument; 4] = [
         help: "Only frames that come in by this port",
     },
     Argument {
+        name: "match",
+        kind: Kind::Optional("match", "WORDS"),
+        help: "Only frames that these words match, such as ip,nw_dst=10.0.0.0/8 (ovs-fields(7))",
+    },
+    Argument {
         name: "to",
         kind: Kind::Optional("to", "PLACE"),
         help: "Print only paths that may leave by a port, that go to the `controller`, or that `drop` the frame",
+    },
+    Argument {
+        name: "json",
+        kind: Kind::Flag("json"),
+        help: "Print the paths as JSON (docs/JSON.md)",
     },
     Argument {
         name: "steps",

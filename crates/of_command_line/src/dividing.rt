@@ -13,10 +13,14 @@ pub struct PathsAsked {
     pub file: String,
     /// Only frames that come in by this port, 1 to 0xffffff00.
     pub port: Option<u32>,
+    /// Only frames that these words match; empty words match each frame.
+    pub within: String,
     /// Only paths that lead there are printed.
     pub to: Option<Leading>,
     /// After how many of them frames are given up.
     pub steps: u32,
+    /// Whether it is one JSON document.
+    pub json: bool,
 }
 
 /// Where paths lead.
@@ -50,8 +54,10 @@ pub(crate) fn paths_of(alloc: Global, matches: &ArgMatches<'_>) -> Result<PathsA
     Ok(PathsAsked {
         file: matches.get_str("FILE").unwrap_or("-").to_string(alloc)?,
         port,
+        within: matches.get_str("match").unwrap_or("").to_string(alloc)?,
         to: leading_of(alloc, matches.get_str("to"))?,
         steps: steps_of(alloc, matches.get_str("steps"))?,
+        json: matches.get_flag("json"),
     })
 }
 

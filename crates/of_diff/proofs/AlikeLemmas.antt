@@ -13,9 +13,6 @@ use Rattle.of_diff.specs.declared.alike.Where.{Where}
 use Rattle.of_diff.specs.declared.alike.Where.TheVariants.{Controller, Port as ByPort}
 use Rattle.of_diff.specs.Alike.{IsAlikeAt, LeavesAlike, leaves_at, leaving, sent_by, to_controller}
 
-pub alike_self : (c : Compared) (a : List Item) → LeavesAlike c a a
-alike_self c a = record { sent = λ q. refl; told = λ e. refl }
-
 -- ---- what comes later
 
 cond_front : (b : Bool) (frame : List ℕ) (xs ys zs : List (List ℕ)) → xs ≡ ys ++ zs → cond b (frame ∷ xs) xs ≡ cond b (frame ∷ ys) ys ++ zs

@@ -38,7 +38,7 @@ use Rattle.of_diff.specs.Agreeing.{AllFrom, AreNoTable, TaskFrom}
 use Rattle.of_diff.specs.declared.alike.Compared.{Compared}
 use Rattle.of_diff.specs.declared.pair.Pair.{Pair}
 use Rattle.of_diff.specs.Changing.{AddsPairs, AddsSet, AreAtTableBefore, AreMarkedAskedIn, AreMatchedSets, ArePairsOf, FirstSetIsOfPorts, IsAgreement, IsAskedIn, MatchedBySome, entries_in}
-use Rattle.of_diff.specs.Differences.{IsTreatedAlike}
+use Rattle.of_diff.specs.Differences.{InSets, IsTreatedAlike}
 use Rattle.of_diff.specs.Emitting.{SendTheSame}
 use Rattle.of_diff.specs.Pairs.{ArePairs, AreStatesOfRuns, InPairs}
 use Rattle.of_diff.specs.SamePorts.{SamePorts}
@@ -107,9 +107,6 @@ at_same (y ∷ asked) zero zero m x lt same is at = is ∙ at
 at_same (y ∷ asked) zero (suc k) m x lt same is at = absurd (omega (arith, same))
 at_same (y ∷ asked) (suc n) zero m x lt same is at = absurd (omega (arith, same))
 at_same (y ∷ asked) (suc n) (suc k) m x lt same is at = at_same asked n k m x (omega (arith, lt)) (omega (arith, same)) is at
-
-abbrev pub InSets : List FrameSet → List ℕ → ℕ → Type 0
-InSets sets frame port = (s : FrameSet) × Contains sets s × InFrames s frame port
 
 -- none of the first lists of conditions matches
 abbrev pub NoneBefore : List (Vec MatchField) → ℕ → (Field → Option ℕ) → Type 0

@@ -5,6 +5,7 @@ use Rattle.std.specs.Global.{Vec}
 use Rattle.std.specs.List.{Contains}
 use Rattle.std.proofs.lemmas.List.Elements.{Contains-append_left, Contains-append_right, Contains-append_cases, Contains-push, Contains-push_cases}
 use Rattle.of_machine.specs.TheWorld.{TheWorld}
+use Rattle.of_symbolic_run.specs.declared.frame_set.FrameSet.{FrameSet}
 use Rattle.of_symbolic_run.specs.FrameSets.{InFrames}
 use Rattle.of_diff.specs.declared.alike.Compared.{Compared}
 use Rattle.of_diff.specs.declared.difference.Difference.{Difference}
@@ -14,7 +15,7 @@ use Rattle.of_diff.specs.declared.pair.Pair.{Pair}
 use Rattle.of_symbolic_switch.specs.Received.{IsReceivedAt}
 use Rattle.of_diff.specs.Differences.{AreDifferences, InDifferences, InUndecided, IsDifference, IsTreatedAlike}
 use Rattle.of_diff.specs.SamePorts.{SamePorts}
-use Rattle.of_diff.specs.Pairs.{ArePairs, AreStatesOfRuns, InPairs, IsSoFar}
+use Rattle.of_diff.specs.Pairs.{ArePairs, AreStatesOfRuns, InPairs, IsSoFar, PutsDifference}
 
 pub on_appended : {X Y E : Type 0} (r : Result Y E) (new old more : List X) (Q : Type 0) → new ≡ (if is_ok r then old ++ more else old) → (new ≡ old ++ more → Q) → OnOk r Q
 on_appended (Ok x) new old more Q is f = f is
@@ -78,22 +79,19 @@ module _ (c : Compared) (w v : TheWorld) where
         (λ rest. inr rest);
   }
 
-  more_found : (ds ds' : Differences) (d : Difference) (frame : List ℕ) (port : ℕ) → ds'.found.items ≡ ds.found.items ++ d ∷ [] → ds'.undecided.items ≡ ds.undecided.items →
+  more_found : (ds ds' : Differences) (d : Difference) (frame : List ℕ) (port : ℕ) → PutsDifference d ds.found.items ds'.found.items → ds'.undecided.items ≡ ds.undecided.items →
       InDifferences ds.found.items frame port ⊎ (InUndecided ds.undecided.items frame port ⊎ IsTreatedAlike c w v frame port) → InDifferences ds'.found.items frame port ⊎ (InUndecided ds'.undecided.items frame port ⊎ IsTreatedAlike c w v frame port)
-  more_found ds ds' d frame port found undecided (inl h) = inl (h.0, subst (λ (l : List Difference). Contains l h.0) (sym found) (Contains-append_left ds.found.items (d ∷ []) h.0 h.1), h.2)
+  more_found ds ds' d frame port found undecided (inl h) = inl (found.kept frame port h)
   more_found ds ds' d frame port found undecided (inr (inl h)) = inr (inl (h.0, subst (λ (l : List Undecided). Contains l h.0) (sym undecided) h.1, h.2))
   more_found ds ds' d frame port found undecided (inr (inr h)) = inr (inr h)
 
-  pub put_found : (pairs : List Pair) (pair : Pair) (ds ds' : Differences) (d : Difference) → ds'.found.items ≡ ds.found.items ++ d ∷ [] → ds'.undecided.items ≡ ds.undecided.items → IsDifference c w v d → d.frames ≡ pair.frames →
+  pub put_found : (pairs : List Pair) (pair : Pair) (ds ds' : Differences) (d : Difference) → PutsDifference d ds.found.items ds'.found.items → ds'.undecided.items ≡ ds.undecided.items → IsDifference c w v d → d.sets.items ≡ pair.frames ∷ [] →
       IsSoFar c w v (pairs ++ pair ∷ []) ds → IsSoFar c w v pairs ds'
-  put_found pairs pair ds ds' d found undecided is frames h = record {
+  put_found pairs pair ds ds' d found undecided is sets h = record {
     hold = others_hold pairs pair ds h;
-    real = λ x at. elim (Contains-push_cases ds.found.items d x (subst (λ (l : List Difference). Contains l x) found at)) as (λ y. IsDifference c w v x) [
-      | inl before ↦ h.real x before
-      | inr same ↦ subst (λ (y : Difference). IsDifference c w v y) same is
-    ];
+    real = found.real c w v is h.real;
     all = λ frame port received. cases pairs pair ds frame port (IsSomewhere pairs ds' frame port) (h.all frame port received)
-        (λ within. inr (inl (d, subst (λ (l : List Difference). Contains l d) (sym found) (Contains-push ds.found.items d), rw frames within)))
+        (λ within. inr (inl (found.own frame port (pair.frames, subst (λ (l : List FrameSet). Contains l pair.frames) (sym sets) (Contains-push [] pair.frames), within))))
         (λ p. inl p)
         (λ rest. inr (more_found ds ds' d frame port found undecided rest));
   }

@@ -4,10 +4,12 @@ pub mod EmissionLemmas
 pub mod Agreeing
 pub mod AgreeingRuns
 pub mod EmittingLemmas
+pub mod PlaceLemmas
 mod ChangedLemmas
 pub mod HitLemmas
 pub mod PairLemmas
 pub mod FindingLemmas
+pub mod GatheringLemmas
 pub mod TaskLemmas
 pub mod EndedLemmas
 pub mod SameGroupLemmas

@@ -35,7 +35,7 @@ pub fn compare_rests<'a, L: Lookup>(
     if send_the_same(compared, &pair.first.emitted, &pair.second.emitted) {
         return Ok(Next::Alike);
     }
-    try_frame(alloc, first, second, compared, pair.frames, steps)
+    try_frame(alloc, first, second, compared, pair, steps)
 }
 
 /// Both runs are done: if the same was sent, all frames are treated alike; else one of them runs on both switches.
@@ -58,5 +58,5 @@ pub fn compare_ended<'a, L: Lookup>(
     if send_the_same(compared, &pair.first.emitted, &pair.second.emitted) {
         return Ok(Next::Alike);
     }
-    try_frame(alloc, first, second, compared, pair.frames, steps)
+    try_frame(alloc, first, second, compared, pair, steps)
 }

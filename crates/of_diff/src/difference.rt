@@ -2,13 +2,23 @@
 
 use crate::alike::Where;
 use of_machine::Items;
-use of_symbolic_run::FrameSet;
+use of_symbolic_run::{Emission, FrameSet};
+
+/// What both runs emitted for some frames, by the actions on the frame that came in.
+#[derive(Drop)]
+pub struct EmittedByBoth {
+    pub first: Vec<Emission>,
+    pub second: Vec<Emission>,
+}
 
 /// Frames that two switches treat differently, or may: one of them was run on both.
 #[derive(Drop)]
 pub struct Difference {
-    /// It is one of these. Some of these may be treated alike.
-    pub frames: FrameSet,
+    /// Sets of frames, never none: one has the frame that was run. In each set something else leaves at the same place for some frame, and the runs of
+    /// all sets emitted the same until they were done or went on alike. Other frames of a set may be treated alike.
+    pub sets: Vec<FrameSet>,
+    /// What the runs of these sets emitted.
+    pub emitted: EmittedByBoth,
     /// The frame that was run, and the port at which it is received.
     pub frame: Vec<u8>,
     pub in_port: u32,

@@ -14,6 +14,7 @@ ghost use Rattle.of_symbolic_switch.specs.Received.{IsReceivedAt};
 use crate::agreement::agreement_of;
 use crate::alike::Compared;
 use crate::difference::{Differences, Undecided, Why};
+use crate::gathering::put_difference;
 use crate::pair::{Next, Pair};
 use crate::ports::have_same_ports;
 use crate::stepping::step_pair;
@@ -38,10 +39,7 @@ fn put<'a>(
             pairs.append(&mut more)
         }
         Next::Alike => Ok(()),
-        Next::Differs(difference) => {
-            so_far.found.push(difference)?;
-            Ok(())
-        }
+        Next::Differs(difference) => put_difference(difference, &mut so_far.found),
         Next::Undecided(undecided) => {
             so_far.undecided.push(undecided)?;
             Ok(())

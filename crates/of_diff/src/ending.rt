@@ -1,5 +1,5 @@
 //! What comes of a pair of states if both runs are done, or go on alike.
-ghost use Rattle.std.specs.Prelude.{◌≡◌, ◌≤◌, ℕ, List, IfOk, length};
+ghost use Rattle.std.specs.Prelude.{◌≡◌, ◌≤◌, [], ◌∷◌, IfOk, length};
 ghost use Rattle.of_rewrite.specs.Frames.{IsFrame};
 ghost use Rattle.of_datapath.specs.Datapath.{world_of};
 ghost use Rattle.of_datapath.specs.Numbers.{forwarding_of};
@@ -10,8 +10,8 @@ ghost use Rattle.of_diff.specs.declared.pair.Pair.{Pair as ThePair};
 ghost use Rattle.of_diff.specs.Pairs.{NextIs};
 
 use crate::alike::{Compared, first_difference};
-use crate::difference::{Difference, Undecided, Why};
-use crate::pair::Next;
+use crate::difference::{Difference, EmittedByBoth, Undecided, Why};
+use crate::pair::{Next, Pair};
 use of_classifier::Lookup;
 use of_datapath::Datapath;
 use of_symbolic_run::{FrameFound, FrameSet};
@@ -25,22 +25,35 @@ pub fn not_decided<'a>(frames: FrameSet, why: Why) -> Next<'a>
     Next::Undecided(Undecided { frames, why })
 }
 
-// A frame of the set runs on both switches.
+// These frames as one set.
+fn one_set(alloc: Global, frames: FrameSet) -> Result<Vec<FrameSet>, AllocError>
+    ensures { IfOk result (λ sets. sets.items ≡ frames ∷ []) }
+{
+    let mut sets = Vec::new(alloc);
+    sets.push(frames)?;
+    Ok(sets)
+}
+
+// A frame of the pair runs on both switches.
 fn run_both<'a, L: Lookup>(
     alloc: Global,
     first: &Datapath<L>,
     second: &Datapath<L>,
     compared: Compared,
-    frames: FrameSet,
+    pair: Pair<'a>,
     frame: Vec<u8>,
     in_port: u32,
 ) -> Result<Next<'a>, AllocError>
     requires frame_is { IsFrame frame.items }
     requires short { length frame.items ≤ 9216 }
-    requires within { InFrames frames frame.items in_port }
-    ensures { IfOk result (λ next. (old : ThePair) → old.frames ≡ frames →
-        NextIs compared (world_of (forwarding_of first.now)) (world_of (forwarding_of second.now)) old next) }
+    requires within { InFrames pair.frames frame.items in_port }
+    ensures { IfOk result (NextIs compared (world_of (forwarding_of first.now)) (world_of (forwarding_of second.now)) pair.entry) }
 {
+    let Pair {
+        frames,
+        first: one,
+        second: other,
+    } = pair;
     if !receiving_port(first.port_list(), in_port) || !receiving_port(second.port_list(), in_port) {
         return Ok(not_decided(frames, Why::Search));
     }
@@ -49,7 +62,11 @@ fn run_both<'a, L: Lookup>(
     match first_difference(alloc, compared, &left, &right)? {
         None => Ok(not_decided(frames, Why::OtherActions)),
         Some(at) => Ok(Next::Differs(Difference {
-            frames,
+            sets: one_set(alloc, frames)?,
+            emitted: EmittedByBoth {
+                first: one.emitted,
+                second: other.emitted,
+            },
             frame,
             in_port,
             at,
@@ -59,23 +76,22 @@ fn run_both<'a, L: Lookup>(
     }
 }
 
-/// A frame of the set is searched, in so many steps at most, and runs on both switches.
+/// A frame of the pair is searched, in so many steps at most, and runs on both switches.
 pub fn try_frame<'a, L: Lookup>(
     alloc: Global,
     first: &Datapath<L>,
     second: &Datapath<L>,
     compared: Compared,
-    frames: FrameSet,
+    pair: Pair<'a>,
     steps: usize,
 ) -> Result<Next<'a>, AllocError>
-    ensures { IfOk result (λ next. (old : ThePair) → old.frames ≡ frames →
-        NextIs compared (world_of (forwarding_of first.now)) (world_of (forwarding_of second.now)) old next) }
+    ensures { IfOk result (NextIs compared (world_of (forwarding_of first.now)) (world_of (forwarding_of second.now)) pair.entry) }
 {
-    match frames.find(alloc, steps)? {
+    match pair.frames.find(alloc, steps)? {
         FrameFound::Frame { frame, in_port } => {
-            run_both(alloc, first, second, compared, frames, frame, in_port)
+            run_both(alloc, first, second, compared, pair, frame, in_port)
         }
         FrameFound::Empty => Ok(Next::Alike),
-        FrameFound::Undecided => Ok(not_decided(frames, Why::Search)),
+        FrameFound::Undecided => Ok(not_decided(pair.frames, Why::Search)),
     }
 }

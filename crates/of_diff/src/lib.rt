@@ -10,6 +10,7 @@ mod difference;
 mod differing;
 mod emissions;
 mod ending;
+mod gathering;
 mod joining;
 mod pair;
 mod ports;
@@ -18,7 +19,7 @@ mod tables;
 mod turns;
 
 pub use alike::{Compared, Where, first_difference};
-pub use difference::{Difference, Differences, Undecided, Why};
+pub use difference::{Difference, Differences, EmittedByBoth, Undecided, Why};
 pub use differing::differences;
 pub use emissions::send_the_same;
 pub use ports::have_same_ports;

@@ -21,7 +21,7 @@ at_member Controller = place_member (codes "at") (codes "controller")
 unfoldable pub difference_members : Difference → List ℕ
 difference_members d =
     at_member d.at ++ number_member (codes "in_port") d.in_port ++ text_member (codes "frame") (encode_lower d.frame.items)
-    ++ items_member (codes "first") d.first.items ++ items_member (codes "second") d.second.items
+    ++ items_member (codes "first") d.first.items ++ items_member (codes "second") d.second.items ++ number_member (codes "sets") (length d.sets.items)
 
 unfoldable pub difference_object : Difference → List ℕ
 difference_object d = 123 ∷ difference_members d ++ 125 ∷ []

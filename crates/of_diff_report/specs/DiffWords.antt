@@ -13,16 +13,23 @@ use Rattle.of_diff.specs.declared.difference.Undecided.{Undecided}
 use Rattle.of_diff.specs.declared.difference.Why.{Why}
 use Rattle.of_diff.specs.declared.difference.Why.TheVariants.{OtherActions, Search, Steps, UnknownTag}
 
--- ---- a difference: where something else leaves, the frame, its port and bytes as `trace` takes them, and what leaves each switch
+-- ---- a difference: where something else leaves, the frame, its port and bytes as `trace` takes them, what leaves each switch, and how many sets of frames
+-- it has, if more than one
 
 unfoldable pub where_words : Where → List ℕ
 where_words (ByPort port) = codes "differs by port " ++ decimal port ++ codes ": "
 where_words Controller = codes "differs to the controller: "
 
+unfoldable pub sets_words : ℕ → List ℕ
+sets_words n = codes "    sets of frames: " ++ decimal n ++ 10 ∷ []
+
+unfoldable pub sets_line : ℕ → List ℕ
+sets_line n = if n == 1 then [] else sets_words n
+
 unfoldable pub difference_words : Forwarding → Difference → List ℕ
 difference_words f d =
     where_words d.at ++ ended (heading f d.in_port d.frame.items) ++ frame_line d.in_port d.frame.items
-    ++ side_words (codes "    first: ") d.first.items ++ side_words (codes "    second: ") d.second.items
+    ++ side_words (codes "    first: ") d.first.items ++ side_words (codes "    second: ") d.second.items ++ sets_line (length d.sets.items)
 
 -- ---- why frames are undecided: for each reason how many sets of frames
 

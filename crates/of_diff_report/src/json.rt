@@ -34,7 +34,8 @@ fn push_difference_members(
     push_number_member(out, b"in_port", u128::from(difference.in_port))?;
     push_bytes_member(alloc, out, b"frame", &difference.frame)?;
     push_items_member(alloc, out, b"first", &difference.first)?;
-    push_items_member(alloc, out, b"second", &difference.second)
+    push_items_member(alloc, out, b"second", &difference.second)?;
+    push_number_member(out, b"sets", difference.sets.len() as u128)
 }
 
 #[tactic(auto, unfolding(crate::specs::DiffJson::difference_object))]

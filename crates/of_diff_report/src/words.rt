@@ -1,7 +1,7 @@
 //! What is found about two switches, in words.
 ghost use Rattle.std.specs.Prelude.{◌≡◌, ◌++◌, ◌∷◌, IfOk, OnOk};
 ghost use Rattle.std.specs.List.{flat_map};
-ghost use Rattle.of_diff_report.specs.DiffWords.{are_same, count_why, diff_summary, diff_words, difference_count, difference_words, is_why, set_words, undecided_count, undecided_line, undecided_sets, undecided_words, where_words, undecided_why};
+ghost use Rattle.of_diff_report.specs.DiffWords.{are_same, count_why, diff_summary, diff_words, difference_count, difference_words, is_why, set_words, sets_line, sets_words, undecided_count, undecided_line, undecided_sets, undecided_words, where_words, undecided_why};
 
 use of_classifier::Lookup;
 use of_diff::{Difference, Differences, Undecided, Where, Why};
@@ -26,6 +26,28 @@ fn push_where(out: &mut Vec<u8>, at: Where) -> Result<(), AllocError>
     }
 }
 
+#[tactic(auto, unfolding(crate::specs::DiffWords::sets_words))]
+fn push_sets_words(out: &mut Vec<u8>, count: usize) -> Result<(), AllocError>
+    ensures { OnOk result (out.new.items ≡ out.old.items ++ sets_words count) }
+{
+    out.extend_from_slice(b"    sets of frames: ")?;
+    push_decimal(out, count as u128)?;
+    out.push(b'\n')?;
+    Ok(())
+}
+
+// Appends how many sets of frames a difference has, if more than one.
+#[tactic(auto, unfolding(crate::specs::DiffWords::sets_line))]
+fn push_sets_line(out: &mut Vec<u8>, count: usize) -> Result<(), AllocError>
+    ensures { OnOk result (out.new.items ≡ out.old.items ++ sets_line count) }
+{
+    if count == 1 {
+        Ok(())
+    } else {
+        push_sets_words(out, count)
+    }
+}
+
 #[tactic(auto, unfolding(crate::specs::DiffWords::difference_words))]
 fn push_difference<L: Lookup>(
     alloc: Global,
@@ -39,7 +61,8 @@ fn push_difference<L: Lookup>(
     push_heading(alloc, out, first, difference.in_port, &difference.frame)?;
     push_frame_line(alloc, out, difference.in_port, &difference.frame)?;
     push_side(alloc, out, b"    first: ", &difference.first)?;
-    push_side(alloc, out, b"    second: ", &difference.second)
+    push_side(alloc, out, b"    second: ", &difference.second)?;
+    push_sets_line(out, difference.sets.len())
 }
 
 fn push_differences<L: Lookup>(

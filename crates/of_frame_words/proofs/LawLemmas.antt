@@ -100,7 +100,7 @@ unless_ok settings r s None e = (refl, same r s e)
     same r s e = cc
 unless_ok settings r s (Some x) e = absurd cc
 
-pub has_what_is_said : (port : ℕ) (text : List ℕ) (settings : List MatchField) (r : ReceivedFrame) → with_setting_words [] (words_from 0 text) ≡ Ok settings → frame_in_words port text ≡ Ok r → Has port settings r
+pub has_what_is_said : (port : ℕ) (text : List ℕ) (settings : List MatchField) (r : ReceivedFrame) → with_setting_words false [] (words_from 0 text) ≡ Ok settings → frame_in_words port text ≡ Ok r → Has port settings r
 unfolding frame_in_words
 has_what_is_said port text settings r w e =
     let v = or_zero (set_by settings (at_port port)) in

@@ -2,3 +2,4 @@ pub mod WordLemmas
 pub mod SaidLemmas
 pub mod LawLemmas
 mod PrintedLemmas
+mod ConditionLemmas

@@ -1,12 +1,12 @@
 -- The words of a frame.
-use Rattle.std.proofs.Common.{◌≡◌, ℕ, List, ◌++◌, Result, Ok, Err, subst, ◌∙◌, ap}
+use Rattle.std.proofs.Common.{◌≡◌, ℕ, List, ◌++◌, Result, subst}
 use Rattle.std.specs.Prelude.{OnOk}
 use Rattle.of_layers.specs.declared.field.Field.{Field}
 use Rattle.of_layers.specs.Fields.{row_of}
 use Rattle.of_headers.specs.declared.key.FieldKey.{FieldKey}
 use Rattle.of_headers.specs.FieldMap.{value}
 use Rattle.of_shapes.specs.declared.shape.Shape.{Shape}
-use Rattle.of_frames.specs.Given.{number, or_zero}
+use Rattle.of_frames.specs.Given.{or_zero}
 use Rattle.of_frames.proofs.KeyLemmas.{numbers_are}
 use Rattle.of_frame_words.specs.Frames.{shape_by}
 use Rattle.of_frame_words.specs.Printed.{protocol_said, shape_said}

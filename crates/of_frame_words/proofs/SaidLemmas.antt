@@ -1,5 +1,5 @@
 -- The fields that settings say, and the frame with these.
-use Rattle.std.proofs.Common.{◌≡◌, ℕ, ◌+◌, ◌<◌, ◌≤◌, cond, List, [], length, drop, get_or, Option, Some, None, Result, Ok, Err, sym, ap, ◌∙◌, drop_of_length-le}
+use Rattle.std.proofs.Common.{◌≡◌, ℕ, ◌+◌, ◌<◌, ◌≤◌, false, cond, List, [], length, drop, get_or, Option, Some, None, Result, Ok, Err, sym, ap, ◌∙◌, drop_of_length-le}
 use Rattle.std.specs.Prelude.{◌==◌, bit_and, IfErr}
 use Rattle.std.proofs.Math.Path.{fun_ext}
 use Rattle.std.proofs.lemmas.List.{drop_more}
@@ -59,16 +59,16 @@ checked_stop settings r map e stop k m h = refusal_stops (checked settings r) (t
 
 -- ---- the whole
 
-pub frame_stops : (port : ℕ) (text : List ℕ) (s : List MatchField) (stop : NoFrame) → s ≡ [] → FrameStops (with_setting_words s (words_from 0 text)) stop → FrameStops (frame_in_words port text) stop
+pub frame_stops : (port : ℕ) (text : List ℕ) (s : List MatchField) (stop : NoFrame) → s ≡ [] → FrameStops (with_setting_words false s (words_from 0 text)) stop → FrameStops (frame_in_words port text) stop
 unfolding frame_in_words
 frame_stops port text s NoMemory e h = tt
 frame_stops port text s (Refused r) e h =
-    ap (λ (x : Result (List MatchField) WordRefusal). x >>= λ settings. checked settings (received_frame port settings)) (ap (λ (xs : List MatchField). with_setting_words xs (words_from 0 text)) (sym e) ∙ h)
+    ap (λ (x : Result (List MatchField) WordRefusal). x >>= λ settings. checked settings (received_frame port settings)) (ap (λ (xs : List MatchField). with_setting_words false xs (words_from 0 text)) (sym e) ∙ h)
 
-pub frame_is : (port : ℕ) (text : List ℕ) (s settings : List MatchField) (r : ReceivedFrame) → s ≡ [] → with_setting_words s (words_from 0 text) ≡ Ok settings → r ≡ received_frame port settings → frame_in_words port text ≡ checked settings r
+pub frame_is : (port : ℕ) (text : List ℕ) (s settings : List MatchField) (r : ReceivedFrame) → s ≡ [] → with_setting_words false s (words_from 0 text) ≡ Ok settings → r ≡ received_frame port settings → frame_in_words port text ≡ checked settings r
 unfolding frame_in_words
 frame_is port text s settings r e w h =
-    ap (λ (x : Result (List MatchField) WordRefusal). x >>= λ settings. checked settings (received_frame port settings)) (ap (λ (xs : List MatchField). with_setting_words xs (words_from 0 text)) (sym e) ∙ w) ∙ ap (checked settings) (sym h)
+    ap (λ (x : Result (List MatchField) WordRefusal). x >>= λ settings. checked settings (received_frame port settings)) (ap (λ (xs : List MatchField). with_setting_words false xs (words_from 0 text)) (sym e) ∙ w) ∙ ap (checked settings) (sym h)
 
 pub err_weaker : {T E : Type 0} (r : Result T E) (P Q : E → Type 0) → ((e : E) → P e → Q e) → IfErr r P → IfErr r Q
 err_weaker (Ok x) P Q f h = h

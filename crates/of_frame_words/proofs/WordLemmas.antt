@@ -3,7 +3,7 @@ use Rattle.std.proofs.Common.{◌≡◌, ℕ, ◌<◌, eqb, sym, Bool, true, fal
 use Rattle.of_oxm.specs.declared.match_field.MatchField.{MatchField}
 use Rattle.of_ovs_words.specs.declared.why.Why.{Why as WordWhy}
 use Rattle.of_ovs_words.specs.Outcomes.{◌>>=◌}
-use Rattle.of_ovs_words.specs.Words.{words_from, word_in, after_word, word_value}
+use Rattle.of_ovs_words.specs.Words.{words_from, word_in, after_word}
 use Rattle.of_ovs_words.proofs.WordLemmas.{first_word}
 use Rattle.of_frame_words.specs.declared.why.Why.{Why}
 use Rattle.of_frame_words.specs.declared.why.Why.TheVariants.{Word, Mask}
@@ -11,7 +11,7 @@ use Rattle.of_frame_words.specs.declared.why.Refusal.{Refusal}
 use Rattle.of_frame_words.specs.declared.why.NoFrame.{NoFrame}
 use Rattle.of_frame_words.specs.declared.why.NoFrame.TheVariants.{NoMemory, Refused}
 use Rattle.of_frame_words.specs.Refusals.{IsRefusal, FrameStops, view_word_refusal}
-use Rattle.of_frame_words.specs.Said.{WordRefusal, refuse, word_said, of_word, has_mask, with_setting_word, with_setting_words}
+use Rattle.of_frame_words.specs.Said.{WordRefusal, refuse, word_said, of_word, is_masked_amiss, with_setting_word, with_setting_words}
 
 -- ---- refusals
 
@@ -39,46 +39,46 @@ plain_by : (t : Bool) (a rest : Result (List MatchField) WordRefusal) → t ≡ 
 plain_by true a rest e = absurd cc
 plain_by false a rest e = refl
 
-pub masked_stop : (settings : List MatchField) (word : List ℕ) (stop : NoFrame) → has_mask (word_value word) ≡ true → IsRefusal word Mask stop → FrameStops (with_setting_word settings word) stop
+pub masked_stop : (masks : Bool) (settings : List MatchField) (word : List ℕ) (stop : NoFrame) → is_masked_amiss masks word ≡ true → IsRefusal word Mask stop → FrameStops (with_setting_word masks settings word) stop
 unfolding with_setting_word
-masked_stop settings word stop m h = refusal_stops (with_setting_word settings word) word Mask stop (masked_by (has_mask (word_value word)) word (of_word word (word_said settings word)) m) h
+masked_stop masks settings word stop m h = refusal_stops (with_setting_word masks settings word) word Mask stop (masked_by (is_masked_amiss masks word) word (of_word word (word_said settings word)) m) h
 
-pub refused_stop : (settings : List MatchField) (word : List ℕ) (why : WordWhy) (stop : NoFrame) → has_mask (word_value word) ≡ false → word_said settings word ≡ Err why → IsRefusal word (Word why) stop → FrameStops (with_setting_word settings word) stop
+pub refused_stop : (masks : Bool) (settings : List MatchField) (word : List ℕ) (why : WordWhy) (stop : NoFrame) → is_masked_amiss masks word ≡ false → word_said settings word ≡ Err why → IsRefusal word (Word why) stop → FrameStops (with_setting_word masks settings word) stop
 unfolding with_setting_word
-refused_stop settings word why stop m e h =
-    refusal_stops (with_setting_word settings word) word (Word why) stop (plain_by (has_mask (word_value word)) (refuse word Mask) (of_word word (word_said settings word)) m ∙ ap (of_word word) e) h
+refused_stop masks settings word why stop m e h =
+    refusal_stops (with_setting_word masks settings word) word (Word why) stop (plain_by (is_masked_amiss masks word) (refuse word Mask) (of_word word (word_said settings word)) m ∙ ap (of_word word) e) h
 
-pub word_added : (settings next : List MatchField) (word : List ℕ) → has_mask (word_value word) ≡ false → word_said settings word ≡ Ok next → with_setting_word settings word ≡ Ok next
+pub word_added : (masks : Bool) (settings next : List MatchField) (word : List ℕ) → is_masked_amiss masks word ≡ false → word_said settings word ≡ Ok next → with_setting_word masks settings word ≡ Ok next
 unfolding with_setting_word
-word_added settings next word m e = plain_by (has_mask (word_value word)) (refuse word Mask) (of_word word (word_said settings word)) m ∙ ap (of_word word) e
+word_added masks settings next word m e = plain_by (is_masked_amiss masks word) (refuse word Mask) (of_word word (word_said settings word)) m ∙ ap (of_word word) e
 
 -- ---- words
 
-words_next : (s : List MatchField) (rest : List ℕ) → 0 < length rest →
-    with_setting_words s (words_from 0 rest) ≡ cond (eqb (length (word_in 0 rest)) 0) (with_setting_words s (words_from 0 (after_word 0 rest))) (with_setting_word s (word_in 0 rest) >>= λ next. with_setting_words next (words_from 0 (after_word 0 rest)))
-words_next s rest h = ap (with_setting_words s) (first_word rest h)
+words_next : (masks : Bool) (s : List MatchField) (rest : List ℕ) → 0 < length rest →
+    with_setting_words masks s (words_from 0 rest) ≡ cond (eqb (length (word_in 0 rest)) 0) (with_setting_words masks s (words_from 0 (after_word 0 rest))) (with_setting_word masks s (word_in 0 rest) >>= λ next. with_setting_words masks next (words_from 0 (after_word 0 rest)))
+words_next masks s rest h = ap (with_setting_words masks s) (first_word rest h)
 
-pub words_end : (s : List MatchField) (rest : List ℕ) → rest ≡ [] → with_setting_words s (words_from 0 rest) ≡ Ok s
+pub words_end : (masks : Bool) (s : List MatchField) (rest : List ℕ) → rest ≡ [] → with_setting_words masks s (words_from 0 rest) ≡ Ok s
 unfolding words_from
-words_end s rest e = rw e refl
+words_end masks s rest e = rw e refl
 
-pub words_passed : (s : List MatchField) (rest word after : List ℕ) → 0 < length rest → word ≡ word_in 0 rest → after ≡ after_word 0 rest → eqb (length word) 0 ≡ true → with_setting_words s (words_from 0 rest) ≡ with_setting_words s (words_from 0 after)
-words_passed s rest word after h w a e =
+pub words_passed : (masks : Bool) (s : List MatchField) (rest word after : List ℕ) → 0 < length rest → word ≡ word_in 0 rest → after ≡ after_word 0 rest → eqb (length word) 0 ≡ true → with_setting_words masks s (words_from 0 rest) ≡ with_setting_words masks s (words_from 0 after)
+words_passed masks s rest word after h w a e =
     let none : eqb (length (word_in 0 rest)) 0 ≡ true = ap (λ (x : List ℕ). eqb (length x) 0) (sym w) ∙ e in
-    words_next s rest h ∙ rw (none, a) refl
+    words_next masks s rest h ∙ rw (none, a) refl
 
-pub words_more : (s next : List MatchField) (rest word after : List ℕ) → 0 < length rest → word ≡ word_in 0 rest → after ≡ after_word 0 rest → eqb (length word) 0 ≡ false → with_setting_word s word ≡ Ok next → with_setting_words s (words_from 0 rest) ≡ with_setting_words next (words_from 0 after)
-words_more s next rest word after h w a e k =
+pub words_more : (masks : Bool) (s next : List MatchField) (rest word after : List ℕ) → 0 < length rest → word ≡ word_in 0 rest → after ≡ after_word 0 rest → eqb (length word) 0 ≡ false → with_setting_word masks s word ≡ Ok next → with_setting_words masks s (words_from 0 rest) ≡ with_setting_words masks next (words_from 0 after)
+words_more masks s next rest word after h w a e k =
     let some : eqb (length (word_in 0 rest)) 0 ≡ false = ap (λ (x : List ℕ). eqb (length x) 0) (sym w) ∙ e in
-    let outcome : with_setting_word s (word_in 0 rest) ≡ Ok next = ap (with_setting_word s) (sym w) ∙ k in
-    words_next s rest h ∙ rw (some, outcome, a) refl
+    let outcome : with_setting_word masks s (word_in 0 rest) ≡ Ok next = ap (with_setting_word masks s) (sym w) ∙ k in
+    words_next masks s rest h ∙ rw (some, outcome, a) refl
 
-words_refused : (s : List MatchField) (rest word : List ℕ) (r : WordRefusal) → 0 < length rest → word ≡ word_in 0 rest → eqb (length word) 0 ≡ false → with_setting_word s word ≡ Err r → with_setting_words s (words_from 0 rest) ≡ Err r
-words_refused s rest word r h w e k =
+words_refused : (masks : Bool) (s : List MatchField) (rest word : List ℕ) (r : WordRefusal) → 0 < length rest → word ≡ word_in 0 rest → eqb (length word) 0 ≡ false → with_setting_word masks s word ≡ Err r → with_setting_words masks s (words_from 0 rest) ≡ Err r
+words_refused masks s rest word r h w e k =
     let some : eqb (length (word_in 0 rest)) 0 ≡ false = ap (λ (x : List ℕ). eqb (length x) 0) (sym w) ∙ e in
-    let outcome : with_setting_word s (word_in 0 rest) ≡ Err r = ap (with_setting_word s) (sym w) ∙ k in
-    words_next s rest h ∙ rw (some, outcome) refl
+    let outcome : with_setting_word masks s (word_in 0 rest) ≡ Err r = ap (with_setting_word masks s) (sym w) ∙ k in
+    words_next masks s rest h ∙ rw (some, outcome) refl
 
-pub words_stop : (s : List MatchField) (rest word : List ℕ) (stop : NoFrame) → 0 < length rest → word ≡ word_in 0 rest → eqb (length word) 0 ≡ false → FrameStops (with_setting_word s word) stop → FrameStops (with_setting_words s (words_from 0 rest)) stop
-words_stop s rest word NoMemory h w e k = tt
-words_stop s rest word (Refused r) h w e k = words_refused s rest word (view_word_refusal r) h w e k
+pub words_stop : (masks : Bool) (s : List MatchField) (rest word : List ℕ) (stop : NoFrame) → 0 < length rest → word ≡ word_in 0 rest → eqb (length word) 0 ≡ false → FrameStops (with_setting_word masks s word) stop → FrameStops (with_setting_words masks s (words_from 0 rest)) stop
+words_stop masks s rest word NoMemory h w e k = tt
+words_stop masks s rest word (Refused r) h w e k = words_refused masks s rest word (view_word_refusal r) h w e k

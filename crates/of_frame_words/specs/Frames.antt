@@ -106,7 +106,7 @@ checked settings r = unless_missed settings r (missed settings (map_of r))
 
 -- THE FRAME THAT WORDS SAY, received at the port that they say, or else at this one. Refused is the first word that has no meaning, and then the first setting that the frame does not have.
 unfoldable pub frame_in_words : ℕ → List ℕ → Result ReceivedFrame WordRefusal
-frame_in_words port text = with_setting_words [] (words_from 0 text) >>= λ settings. checked settings (received_frame port settings)
+frame_in_words port text = with_setting_words false [] (words_from 0 text) >>= λ settings. checked settings (received_frame port settings)
 
 -- ---- what such a frame is
 

@@ -1,5 +1,6 @@
 pub mod Said
 pub mod Frames
+pub mod Conditions
 pub mod Refusals
 pub mod Views
 pub mod Printed

@@ -1,5 +1,5 @@
--- WHAT WORDS SAY OF A FRAME (ovs-fields(7)): settings of fields, in the order of the words, by values without masks.
-use Rattle.std.specs.Prelude.{ℕ, ◌==◌, ◌||◌, Bool, is_some, List, [], ◌∷◌, length, Option, Some, None, Result, Ok, Err, if◌then◌else◌}
+-- WHAT WORDS SAY OF A FRAME OR OF A MATCH (ovs-fields(7)): settings of fields, in the order of the words. A frame has values without masks.
+use Rattle.std.specs.Prelude.{ℕ, ◌==◌, ◌||◌, ◌&&◌, not, Bool, is_some, List, [], ◌∷◌, length, Option, Some, None, Result, Ok, Err, if◌then◌else◌}
 use Rattle.std.specs.List.{list_any}
 use Rattle.of_oxm.specs.declared.match_field.MatchField.{MatchField}
 use Rattle.of_ovs_words.specs.declared.why.Why.{Why as WordWhy}
@@ -41,16 +41,21 @@ of_word word (Err why) = refuse word (Word why)
 abbrev pub has_mask : List ℕ → Bool
 has_mask value = list_any (λ b. b == 47) value
 
--- the settings with those of one more word
-unfoldable pub with_setting_word : List MatchField → List ℕ → Result (List MatchField) WordRefusal
-with_setting_word settings word = if has_mask (word_value word) then refuse word Mask else of_word word (word_said settings word)
+-- a mask where words have none
+abbrev pub is_masked_amiss : Bool → List ℕ → Bool
+is_masked_amiss masks word = not masks && has_mask (word_value word)
+
+-- the settings with those of one more word, which may have a mask or not
+unfoldable pub with_setting_word : Bool → List MatchField → List ℕ → Result (List MatchField) WordRefusal
+with_setting_word masks settings word = if is_masked_amiss masks word then refuse word Mask else of_word word (word_said settings word)
 
 -- ---- words
 
 -- with those of all words, of which empty ones are passed over, until one is refused
-abbrev pub with_setting_words : List MatchField → List (List ℕ) → Result (List MatchField) WordRefusal
-with_setting_words settings [] = Ok settings
-with_setting_words settings (w ∷ ws) = if length w == 0 then with_setting_words settings ws else with_setting_word settings w >>= λ next. with_setting_words next ws
+abbrev pub with_setting_words : Bool → List MatchField → List (List ℕ) → Result (List MatchField) WordRefusal
+with_setting_words masks settings [] = Ok settings
+with_setting_words masks settings (w ∷ ws) =
+    if length w == 0 then with_setting_words masks settings ws else with_setting_word masks settings w >>= λ next. with_setting_words masks next ws
 
 abbrev pub has_value : List ℕ → Bool
 has_value text = list_any (λ b. b == 61) text

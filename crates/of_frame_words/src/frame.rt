@@ -57,7 +57,7 @@ pub fn read_frame(alloc: Global, port: u32, text: &[u8]) -> Result<Received, NoF
     ensures stopped { IfErr result (FrameStops (frame_in_words port text.now)) }
 {
     let mut settings = Vec::new(alloc);
-    add_words(alloc, &mut settings, text)?;
+    add_words(alloc, &mut settings, false, text)?;
     let received = frame_said(alloc, port, &settings)?;
     checked(alloc, &settings, received)
 }

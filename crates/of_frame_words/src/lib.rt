@@ -1,6 +1,7 @@
-//! Frames in the words of Open vSwitch (ovs-vswitchd(8), ofproto/trace; ovs-fields(7)).
+//! Frames, and conditions on them, in the words of Open vSwitch (ovs-vswitchd(8), ofproto/trace; ovs-fields(7)).
 #![tactic(auto)]
 
+mod conditions;
 mod frame;
 mod laws;
 mod printed;
@@ -8,6 +9,7 @@ mod said;
 mod why;
 mod words;
 
+pub use conditions::read_conditions;
 pub use frame::{Received, read_frame};
 pub use laws::frames_have_what_words_say;
 pub use printed::frame_words;

@@ -90,7 +90,8 @@ pub fn missed<'a>(settings: &'a [MatchField], key: &FieldKey) -> Option<&'a Matc
     settings.iter().find(|e| !agrees(e, key.get(e.field)))
 }
 
-fn why_missing(need: Prerequisite) -> of_ovs_words::Why
+/// Why a field without its prerequisite is refused.
+pub fn why_missing(need: Prerequisite) -> of_ovs_words::Why
     ensures { result ≡ why_missing_so need }
 {
     match need {

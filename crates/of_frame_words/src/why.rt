@@ -1,4 +1,4 @@
-//! Why words say no frame.
+//! Why words say no frame, or no match.
 ghost use Rattle.std.specs.Prelude.{◌≡◌};
 ghost use Rattle.of_frame_words.specs.declared.why.NoFrame.TheVariants.{NoMemory};
 ghost use Rattle.of_frame_words.specs.Refusals.{IsRefusal};
@@ -26,7 +26,7 @@ pub struct Refusal {
     pub why: Why,
 }
 
-/// Why there is no frame.
+/// Why there is no frame, or no match.
 #[derive(Debug, Drop)]
 pub enum NoFrame {
     NoMemory,

@@ -1,9 +1,9 @@
-//! The settings of fields that words say.
+//! The settings of fields that words say of a frame, or of a match.
 ghost use Rattle.std.specs.Prelude.{◌≡◌, IfOk, IfErr, Ok};
 ghost use Rattle.of_ovs_words.specs.Stops.{Stops as WordStops};
 ghost use Rattle.of_ovs_words.specs.Words.{words_from};
 ghost use Rattle.of_frame_words.specs.Refusals.{FrameStops};
-ghost use Rattle.of_frame_words.specs.Said.{are_frame_words, by_name, has_mask as is_masked, has_value as has_a_value, word_said, with_setting_word, with_setting_words};
+ghost use Rattle.of_frame_words.specs.Said.{are_frame_words, by_name, has_mask as is_masked, has_value as has_a_value, is_masked_amiss, word_said, with_setting_word, with_setting_words};
 
 use crate::why::{NoFrame, Why, refuse};
 use of_ovs_words::{
@@ -65,12 +65,24 @@ fn add_said(settings: &mut Vec<MatchField>, word: &[u8]) -> Result<(), Stop>
     )
 }
 
-// The same for a word that may be refused.
-fn add_word(alloc: Global, settings: &mut Vec<MatchField>, word: &[u8]) -> Result<(), NoFrame>
-    ensures added { IfOk result (λ _. with_setting_word settings.old.items word.now ≡ Ok settings.new.items) }
-    ensures stopped { IfErr result (FrameStops (with_setting_word settings.old.items word.now)) }
+// Whether a word has a mask where words have none.
+fn has_mask_amiss(masks: bool, word: &[u8]) -> bool
+    ensures { result ≡ is_masked_amiss masks word.now }
 {
-    if has_mask(value_of(word)) {
+    !masks && has_mask(value_of(word))
+}
+
+// The same for a word that may be refused.
+fn add_word(
+    alloc: Global,
+    settings: &mut Vec<MatchField>,
+    masks: bool,
+    word: &[u8],
+) -> Result<(), NoFrame>
+    ensures added { IfOk result (λ _. with_setting_word masks settings.old.items word.now ≡ Ok settings.new.items) }
+    ensures stopped { IfErr result (FrameStops (with_setting_word masks settings.old.items word.now)) }
+{
+    if has_mask_amiss(masks, word) {
         return Err(refuse(alloc, word, Why::Mask));
     }
     match add_said(settings, word) {
@@ -80,17 +92,22 @@ fn add_word(alloc: Global, settings: &mut Vec<MatchField>, word: &[u8]) -> Resul
     }
 }
 
-/// Appends what words say, until one is refused.
-pub fn add_words(alloc: Global, settings: &mut Vec<MatchField>, text: &[u8]) -> Result<(), NoFrame>
-    ensures added { IfOk result (λ _. with_setting_words settings.old.items (words_from 0 text.now) ≡ Ok settings.new.items) }
-    ensures stopped { IfErr result (FrameStops (with_setting_words settings.old.items (words_from 0 text.now))) }
+/// Appends what words say, which may have masks or not, until one is refused.
+pub fn add_words(
+    alloc: Global,
+    settings: &mut Vec<MatchField>,
+    masks: bool,
+    text: &[u8],
+) -> Result<(), NoFrame>
+    ensures added { IfOk result (λ _. with_setting_words masks settings.old.items (words_from 0 text.now) ≡ Ok settings.new.items) }
+    ensures stopped { IfErr result (FrameStops (with_setting_words masks settings.old.items (words_from 0 text.now))) }
 {
     let mut rest = text;
     while !rest.is_empty() {
         let (word, after) = cut_word(rest);
         rest = after;
         if !word.is_empty() {
-            match add_word(alloc, settings, word) {
+            match add_word(alloc, settings, masks, word) {
                 Ok(()) => {}
                 Err(stop) => return Err(stop),
             }

@@ -5,28 +5,19 @@ use Rattle.std.specs.HashMap.{HashMap, get}
 use Rattle.std.specs.List.{list_any}
 use Rattle.std.specs.Map.{lookup}
 use Rattle.std.specs.Option.{option_map_or}
-use Rattle.std.specs.Cmp.Lexicographic.{pointwise}
 use Rattle.std.proofs.lemmas.Bool.{eqb-true, eq-eqb}
 use Rattle.std.proofs.lemmas.List.{map-append}
 use Rattle.std.proofs.lemmas.List.Folds.{list_any-append}
 use Rattle.std.proofs.lemmas.Map.Keys.{any_passes_from_place}
 use Rattle.of_oxm.specs.SameMatch.{is_same_match}
-use Rattle.of_oxm.specs.contracts.match_field.MatchFieldPartialEq.TheImpl as the_match_field
-use Rattle.of_oxm.specs.declared.match_field.MatchField.{MatchField}
-use Rattle.of_oxm.proofs.Same.{same_fields, same_match}
 use Rattle.of_text.specs.Flows.{Flow}
+use Rattle.of_text.specs.Digests.{flow_digest}
 use Rattle.of_text.specs.Views.{view}
+use Rattle.of_text.proofs.DigestLemmas.{digest_same, equal_fields}
 use Rattle.of_import.specs.declared.parsed_lines.FlowLine.{FlowLine}
-use Rattle.of_import.specs.Digests.{flow_digest, digests_of, HasDigests, PutsDigest}
+use Rattle.of_import.specs.Digests.{digests_of, HasDigests, PutsDigest}
 use Rattle.of_import.specs.Kept.{replaces}
 use Rattle.of_import.proofs.SoundLemmas.{and_parts}
-
-equal_fields : (xs ys : List MatchField) → is_same_match xs ys ≡ true → xs ≡ ys
-equal_fields xs ys h = (same_fields xs ys (pointwise the_match_field.eq-value.it xs ys) refl).0 (same_match xs ys (pointwise the_match_field.eq-value.it xs ys) refl ∙ h)
-
-digest_same : (a b : Flow) → b.head.table ≡ a.head.table → b.head.priority ≡ a.head.priority → b.fields ≡ a.fields → flow_digest a ≡ flow_digest b
-unfolding flow_digest
-digest_same a b t p f = rw (t, p, f) refl
 
 same_digest : (a b : Flow) → replaces a b ≡ true → flow_digest a ≡ flow_digest b
 same_digest a b h =

@@ -1,19 +1,26 @@
 -- What is kept.
-use Rattle.std.proofs.Common.{◌≡◌, ℕ, zero, suc, eqb, not, Bool, true, false, cond, List, [], ◌∷◌, ◌++◌, length, Option, Some, None, refl, sym, ap, subst, append_assoc, ◌∙◌, ◌<◌, vec_len, arith}
-use Rattle.std.specs.Prelude.{map, filter, filter_map, reverse, is_some, slice_index_or}
+use Rattle.std.proofs.Common.{◌≡◌, ℕ, zero, suc, ◌+◌, eqb, not, Bool, true, false, cond, List, [], ◌∷◌, ◌++◌, length, Option, Some, None, refl, sym, ap, subst, append_assoc, ◌∙◌, ◌<◌, vec_len, arith}
+use Rattle.std.specs.Prelude.{◌≤◌, map, filter, filter_map, reverse, is_some, slice_index_or}
 use Rattle.std.specs.List.{AllByRecursion, fold, list_any}
+use Rattle.std.specs.Option.{option_map, option_map_or}
 use Rattle.std.specs.Global.{Vec}
-use Rattle.std.proofs.lemmas.List.{append-nil, map-append, reverse-append, reverse-reverse}
+use Rattle.std.proofs.lemmas.Bool.{eq-eqb}
+use Rattle.std.proofs.lemmas.List.{append-nil, length-map, map-append, reverse-append, reverse-reverse}
 use Rattle.of_wire.specs.declared.code.Code.{Code}
-use Rattle.of_action_set.proofs.Ranked.{rising-filter}
-use Rattle.of_text.specs.First.{first_refusal}
+use Rattle.of_wire.specs.Refusals.{first_of}
+use Rattle.of_action_set.proofs.Ranked.{length-filter_le, rising-filter}
+use Rattle.of_groups.specs.declared.group.Group.{Group}
+use Rattle.of_text.specs.declared.group.GroupText.{GroupText}
+use Rattle.of_text.specs.First.{first_refusal, refused_from, refused_group, refusals_behind}
 use Rattle.of_text.specs.Flows.{Flow}
 use Rattle.of_text.specs.Groups.{TextGroup}
-use Rattle.of_text.specs.Views.{view, view_group}
+use Rattle.of_text.specs.Refusals.{all_there, group_refusals, naming_refusals}
+use Rattle.of_text.specs.Views.{view, view_group, view_groups}
+use Rattle.of_text.proofs.ConfigLemmas.{groups_stand}
 use Rattle.of_import.specs.declared.parsed_lines.FlowLine.{FlowLine}
 use Rattle.of_import.specs.declared.parsed_lines.GroupLine.{GroupLine}
 use Rattle.of_import.specs.declared.kept.LineRefusal.{LineRefusal}
-use Rattle.of_import.specs.Kept.{KeptGroups, accepted, after_refusal, groups_in, id_at, kept_groups, group_line_at, refused_flows, replaces, with_older, without_group, youngest}
+use Rattle.of_import.specs.Kept.{KeptGroups, accepted, after_refusal, groups_in, id_at, kept_groups, group_line_at, refusal_alone, refused_flows, replaces, with_older, without_group, youngest}
 use Rattle.of_import.specs.KeptViews.{view_refusal}
 use Rattle.of_import.specs.ParsedLines.{FlowAt}
 use Rattle.of_import.specs.ParsedLinesViews.{AreSoundGroups, FlowIsSound, GroupFits, id_of, view_flow_line, view_group_line}
@@ -25,10 +32,66 @@ pub group_texts : (gs : List GroupLine) → map (λ g. view_group g.group) gs �
 group_texts [] = refl
 group_texts (g ∷ gs) = ap (λ xs. view_group g.group ∷ xs) (group_texts gs)
 
+-- copies of them
+pub copied : (slice copies : List GroupText) (gs : List GroupLine) → slice ≡ copies → map view_group copies ≡ map (λ g. view_group g.group) gs → view_groups slice ≡ groups_in (map view_group_line gs)
+copied slice copies gs s e = ap view_groups s ∙ (e ∙ group_texts gs)
+
 -- if none is refused, no step leaves any out
 pub none_left : (n : ℕ) (k : KeptGroups) → first_refusal (groups_in k.groups) [] ≡ None → kept_groups n k ≡ k
 none_left zero k e = refl
 none_left (suc n) k e = ap (λ r. kept_groups n (after_refusal r k)) e ∙ none_left n k e
+
+-- ---- after as many steps as there are groups, none is refused
+
+refused_within : (there : List Group) (place : ℕ) (gs : List TextGroup) (r : ℕ × Code) → refused_group there place gs ≡ Some r → r.0 < place + length gs
+refused_within there place [] r e = absurd cc
+refused_within there place (g ∷ gs) r e = by_code (refused_within there (place + 1) gs r) (first_of (group_refusals place g ++ naming_refusals there g)) e
+  where
+    by_code : (refused_group there (place + 1) gs ≡ Some r → r.0 < place + 1 + length gs) → (o : Option Code) → option_map_or (λ code. Some (place, code)) o (refused_group there (place + 1) gs) ≡ Some r → r.0 < place + suc (length gs)
+    by_code others None e = omega (arith, others e)
+    by_code others (Some code) e = let same : (place, code) ≡ r = cc in let here : place ≡ r.0 = ap (λ (p : ℕ × Code). p.0) same in omega (arith, here)
+
+-- the place of the first refusal is that of a group
+place_within : (gs : List (ℕ × TextGroup)) (r : ℕ × Code) → first_refusal (groups_in gs) [] ≡ Some r → r.0 < length gs
+place_within gs r e = omega (arith, refused_within (all_there (groups_in gs)) 0 (groups_in gs) r (of_group (refused_group (all_there (groups_in gs)) 0 (groups_in gs)) e), length-map gs (λ (g : ℕ × TextGroup). g.1))
+  where
+    of_group : (o : Option (ℕ × Code)) → option_map_or Some o None ≡ Some r → o ≡ Some r
+    of_group None h = absurd cc
+    of_group (Some x) h = h
+
+fewer : (id place : ℕ) (gs : List (ℕ × TextGroup)) → place < length gs → id_at place gs ≡ id → length (without_group id gs) < length gs
+fewer id place [] l e = absurd (omega (arith, l))
+fewer id zero (g ∷ gs) l e = let here : eqb g.1.head.id id ≡ true = eq-eqb g.1.head.id id e in let most : length (without_group id gs) ≤ length gs = length-filter_le (λ h. not (eqb h.1.head.id id)) gs in rw here (omega (arith, most))
+fewer id (suc place) (g ∷ gs) l e = by_test (fewer id place gs (omega (arith, l)) e) (not (eqb g.1.head.id id))
+  where
+    by_test : length (without_group id gs) < length gs → (b : Bool) → length (cond b (g ∷ without_group id gs) (without_group id gs)) < suc (length gs)
+    by_test others true = omega (arith, others)
+    by_test others false = omega (arith, others)
+
+left_stand : (n : ℕ) (k : KeptGroups) → length k.groups ≤ n → first_refusal (groups_in (kept_groups n k).groups) [] ≡ None
+left_stand zero k h = by_groups k.groups h
+  where
+    by_groups : (gs : List (ℕ × TextGroup)) → length gs ≤ 0 → first_refusal (groups_in gs) [] ≡ None
+    by_groups [] h = refl
+    by_groups (g ∷ gs) h = absurd (omega (arith, h))
+left_stand (suc n) k h = by_refusal (left_stand n) (first_refusal (groups_in k.groups) []) refl
+  where
+    by_refusal : ((m : KeptGroups) → length m.groups ≤ n → first_refusal (groups_in (kept_groups n m).groups) [] ≡ None) → (o : Option (ℕ × Code)) → first_refusal (groups_in k.groups) [] ≡ o → first_refusal (groups_in (kept_groups n (after_refusal o k)).groups) [] ≡ None
+    by_refusal others None e = ap (λ (m : KeptGroups). first_refusal (groups_in m.groups) []) (none_left n k e) ∙ e
+    by_refusal others (Some r) e = others (after_refusal (Some r) k) (omega (arith, h, fewer (id_at r.0 k.groups) r.0 k.groups (place_within k.groups r e) refl))
+
+pub kept_stand : (gs : List GroupLine) (rs : List (ℕ × Code)) (now : KeptGroups) → now ≡ kept_groups (length gs) (record { groups = map view_group_line gs; refused = rs }) → first_refusal (groups_in now.groups) [] ≡ None
+kept_stand gs rs now e = ap (λ (k : KeptGroups). first_refusal (groups_in k.groups) []) e ∙ left_stand (length gs) (record { groups = map view_group_line gs; refused = rs }) (omega (arith, length-map gs view_group_line))
+
+-- ---- a flow beside groups of which none is refused
+
+pub alone : (gs : List TextGroup) (f : Flow) → first_refusal gs [] ≡ None → refusal_alone gs f ≡ first_of (refusals_behind gs [] f)
+unfolding refusal_alone
+alone gs f h = ap (λ (o : Option (ℕ × Code)). option_map (λ r. r.1) (option_map_or Some o (refused_from gs [] (f ∷ [])))) (groups_stand gs [] h) ∙ by_code (first_of (refusals_behind gs [] f))
+  where
+    by_code : (o : Option Code) → option_map (λ (r : ℕ × Code). r.1) (option_map_or (λ code. Some (length gs + 0, code)) o None) ≡ o
+    by_code None = refl
+    by_code (Some code) = refl
 
 filter_both : {X : Type 0} (q : X → Bool) (xs ys : List X) → filter q (xs ++ ys) ≡ filter q xs ++ filter q ys
 filter_both q [] ys = refl

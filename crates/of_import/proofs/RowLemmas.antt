@@ -4,7 +4,6 @@ use Rattle.std.specs.Prelude.{map, nat_lt}
 use Rattle.std.specs.List.{AllByRecursion, flat_map, list_all}
 use Rattle.of_actions.specs.declared.action.Action.{Action}
 use Rattle.of_actions.specs.Rising.{is_ascending}
-use Rattle.of_text.specs.declared.flow.FlowText.{FlowText}
 use Rattle.of_lines.specs.declared.order.Place.{Place}
 use Rattle.of_lines.specs.declared.order.Place.TheVariants.{Start, InGroup, InBucket, InFlow}
 use Rattle.of_lines.specs.declared.row.Row.{Row}
@@ -108,15 +107,6 @@ pub parsed_rows : (ls : List GroupLine) (ms : List FlowLine) (gs : List TextGrou
 parsed_rows ls ms gs fs s h g f =
     let place = groups_stand (view_groups (map (λ g. g.group) ls)) (viewed_rise ls s.rising) in
     rw (g, f) (rows_from (view_groups (map (λ g. g.group) ls)) (view_flows (map (λ f. f.flow) ms)) (record { fits = viewed_fit ls s.each; place = place.0; order = place.1; whole = viewed_whole ms h }))
-
--- the lines of groups and a flow
-pub parsed_row : (ls : List GroupLine) (gs : List TextGroup) (fs : List Flow) (f : Flow) → AreSoundGroups ls → IsSoundFlow f → gs ≡ view_groups (map (λ g. g.group) ls) → fs ≡ f ∷ [] → AreRows (text_rows gs fs)
-parsed_row ls gs fs f s h g k =
-    let place = groups_stand (view_groups (map (λ g. g.group) ls)) (viewed_rise ls s.rising) in
-    rw (g, k) (rows_from (view_groups (map (λ g. g.group) ls)) (f ∷ []) (record { fits = viewed_fit ls s.each; place = place.0; order = place.1; whole = (record { fits = h.fits; order = h.order }, tt) }))
-
-pub one_flow : (old new : List FlowText) (x : FlowText) (f : Flow) → old ≡ [] → new ≡ old ++ x ∷ [] → view x ≡ f → view_flows new ≡ f ∷ []
-one_flow old new x f o e v = ap view_flows (e ∙ ap (λ (xs : List FlowText). xs ++ x ∷ []) o) ∙ ap (λ (g : Flow). g ∷ []) v
 
 -- the groups and flows that were read
 pub parsed_groups : (gs : List GroupLine) → view_groups (map (λ g. g.group) gs) ≡ map (λ g. g.1) (map view_group_line gs)

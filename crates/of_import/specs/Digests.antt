@@ -1,18 +1,10 @@
--- A NUMBER OF A FLOW that is the same for flows that replace each other: if no later flow has it, none has to be compared.
-use Rattle.std.specs.Prelude.{◌≡◌, ℕ, ◌+◌, ◌*◌, ◌%◌, ◌^◌, cond, List, map, nat_eq, Some, is_some}
+-- THE DIGESTS OF FLOWS, each with a place: if no later flow has the digest of a flow, none has to be compared.
+use Rattle.std.specs.Prelude.{◌≡◌, ℕ, cond, List, map, nat_eq, Some, is_some}
 use Rattle.std.specs.HashMap.{HashMap, get}
-use Rattle.std.specs.List.{fold, list_any}
-use Rattle.std.specs.Option.{unwrap_or}
-use Rattle.of_oxm.specs.declared.match_field.MatchField.{MatchField}
-use Rattle.of_text.specs.Flows.{Flow}
+use Rattle.std.specs.List.{list_any}
+use Rattle.of_text.specs.Digests.{flow_digest}
 use Rattle.of_text.specs.Views.{view}
 use Rattle.of_import.specs.declared.parsed_lines.FlowLine.{FlowLine}
-
-unfoldable pub field_mixed : ℕ → MatchField → ℕ
-field_mixed sum e = (((((sum * 1000003) % 2 ^ 128 + e.value) % 2 ^ 128) * 1000003) % 2 ^ 128 + unwrap_or e.mask 0) % 2 ^ 128
-
-unfoldable pub flow_digest : Flow → ℕ
-flow_digest f = fold field_mixed (((f.head.table * 65536) % 2 ^ 128 + f.head.priority) % 2 ^ 128) f.fields
 
 abbrev pub digests_of : List FlowLine → List ℕ
 digests_of fs = map (λ f. flow_digest (view f.flow)) fs

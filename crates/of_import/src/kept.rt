@@ -1,23 +1,23 @@
 //! Which groups and flows of a table are kept.
-ghost use Rattle.std.specs.Prelude.{◌≡◌, ◌++◌, ◌∷◌, false, map, length, is_some, nat_eq, slice_get, slice_index_or, [], IfOk, OnOk};
+ghost use Rattle.std.specs.Prelude.{◌≡◌, ◌++◌, ◌∷◌, false, map, length, is_some, nat_eq, slice_get, slice_index_or, [], None, IfOk, OnOk};
 ghost use Rattle.std.specs.HashMap.{get};
 ghost use Rattle.std.specs.List.{AllByRecursion, list_any};
 ghost use Rattle.of_oxm.specs.SameMatch.{is_same_match};
-ghost use Rattle.std.specs.Option.{option_map, option_map_or};
+ghost use Rattle.std.specs.Option.{option_map_or};
 ghost use Rattle.of_text.specs.First.{first_refusal};
 ghost use Rattle.of_text.specs.Flows.{text_rows};
 ghost use Rattle.of_text.specs.Texts.{AreRows};
 ghost use Rattle.of_text.specs.Views.{view, view_flows, view_group, view_groups};
-ghost use Rattle.of_import.specs.Digests.{flow_digest, digests_of, field_mixed as mixed_of, HasDigests, PutsDigest};
-ghost use Rattle.of_import.specs.Kept.{accepted, after_refusal, groups_in, kept_groups, kept_of_lines, refusal_alone as refusal_alone_of, refused_flows as refused_of, replaces as replaces_flow, with_older, youngest as youngest_of};
+ghost use Rattle.of_text.specs.Digests.{flow_digest};
+ghost use Rattle.of_import.specs.Digests.{digests_of, HasDigests, PutsDigest};
+ghost use Rattle.of_import.specs.Kept.{accepted, after_refusal, groups_in, kept_groups, kept_of_lines, refused_flows as refused_of, replaces as replaces_flow, with_older, youngest as youngest_of};
 ghost use Rattle.of_import.specs.KeptViews.{view_kept, view_kept_groups, view_refusal};
 ghost use Rattle.of_import.specs.ParsedLinesViews.{AreSoundGroups, FlowIsSound, view_flow_line, view_group_line};
-ghost use Rattle.of_import.specs.Sound.{IsSoundFlow};
 
-use crate::copies::{copy_flow, copy_group};
+use crate::copies::copy_group;
 use crate::parsed_lines::{FlowLine, GroupLine, remove_id};
-use of_oxm::{Code, MatchField};
-use of_text::{Config, FillError, FlowText, GroupText};
+use of_oxm::Code;
+use of_text::{Config, FillError, FlowText, GroupText, digest, refusal_beside};
 use std::alloc::{AllocError, Global};
 use std::collections::HashMap;
 
@@ -119,7 +119,7 @@ fn leave_first(
     }
 }
 
-/// Leaves out the groups that the switch refuses.
+/// Leaves out the groups that the switch refuses, so that none of the others is refused.
 pub fn keep_groups(
     alloc: Global,
     groups: &mut Vec<GroupLine>,
@@ -127,6 +127,7 @@ pub fn keep_groups(
 ) -> Result<(), AllocError>
     requires { AreSoundGroups groups.old.items }
     ensures left { OnOk result (view_kept_groups groups.new refused.new ≡ kept_groups (length groups.old.items) (view_kept_groups groups.old refused.old)) }
+    ensures none { OnOk result (first_refusal (groups_in (map view_group_line groups.new.items)) [] ≡ None) }
     ensures sound { OnOk result (AreSoundGroups groups.new.items) }
 {
     let count = groups.len();
@@ -140,59 +141,23 @@ pub fn keep_groups(
     Ok(())
 }
 
-fn code_of(refusal: Option<(usize, Code)>) -> Option<Code>
-    ensures { result ≡ option_map (λ r. r.1) refusal }
-{
-    match refusal {
-        Some((_place, code)) => Some(code),
-        None => None,
-    }
-}
-
-fn one_copy(alloc: Global, flow: &FlowText) -> Result<Vec<FlowText>, AllocError>
-    ensures { IfOk result (λ copies. view_flows copies.items ≡ view flow.now ∷ []) }
-{
-    let mut copies = Vec::new(alloc);
-    copies.push(copy_flow(alloc, flow)?)?;
-    Ok(copies)
-}
-
-// Why the switch refuses a flow as the only one beside these groups.
-fn refusal_alone(
-    alloc: Global,
-    groups: &[GroupLine],
-    flow: &FlowText,
-) -> Result<Option<Code>, AllocError>
-    requires groups { AreSoundGroups groups.now }
-    requires flow { IsSoundFlow (view flow.now) }
-    ensures { IfOk result (λ r. r ≡ refusal_alone_of (groups_in (map view_group_line groups.now)) (view flow.now)) }
-{
-    let copies = copies_of(alloc, groups)?;
-    let flows = one_copy(alloc, flow)?;
-    match refusal_among(alloc, copies, flows) {
-        Ok(refusal) => Ok(code_of(refusal)),
-        Err(error) => Err(error),
-    }
-}
-
 // Puts a flow to those that are accepted, or its line to those that are refused.
 fn judge(
-    alloc: Global,
-    groups: &[GroupLine],
+    groups: &[GroupText],
     kept: &mut Vec<FlowLine>,
     refused: &mut Vec<LineRefusal>,
     it: FlowLine,
 ) -> Result<(), AllocError>
-    requires groups { AreSoundGroups groups.now }
+    requires groups { first_refusal (view_groups groups.now) [] ≡ None }
     requires kept { AllByRecursion FlowIsSound kept.old.items }
     requires flow { FlowIsSound it }
     ensures accepted { OnOk result (map view_flow_line kept.new.items ≡
-        map view_flow_line kept.old.items ++ accepted (groups_in (map view_group_line groups.now)) (view_flow_line it ∷ [])) }
+        map view_flow_line kept.old.items ++ accepted (view_groups groups.now) (view_flow_line it ∷ [])) }
     ensures refused { OnOk result (map view_refusal refused.new.items ≡
-        map view_refusal refused.old.items ++ refused_of (groups_in (map view_group_line groups.now)) (view_flow_line it ∷ [])) }
+        map view_refusal refused.old.items ++ refused_of (view_groups groups.now) (view_flow_line it ∷ [])) }
     ensures sound { OnOk result (AllByRecursion FlowIsSound kept.new.items) }
 {
-    match refusal_alone(alloc, groups, &it.flow)? {
+    match refusal_beside(groups, &it.flow) {
         Some(code) => refused.push(LineRefusal {
             line: it.line,
             code,
@@ -202,14 +167,14 @@ fn judge(
     Ok(())
 }
 
-/// The flows that the switch accepts beside these groups; the others are appended to those that it refuses.
+/// The flows that the switch accepts beside these groups, of which none is refused; the others are appended to those that it refuses.
 pub fn keep_flows(
     alloc: Global,
     groups: &[GroupLine],
     flows: Vec<FlowLine>,
     refused: &mut Vec<LineRefusal>,
 ) -> Result<Vec<FlowLine>, AllocError>
-    requires groups { AreSoundGroups groups.now }
+    requires groups { first_refusal (groups_in (map view_group_line groups.now)) [] ≡ None }
     requires flows { AllByRecursion FlowIsSound flows.items }
     ensures accepted { IfOk result (λ kept. map view_flow_line kept.items ≡
         accepted (groups_in (map view_group_line groups.now)) (map view_flow_line flows.items)) }
@@ -217,11 +182,12 @@ pub fn keep_flows(
         map view_refusal refused.old.items ++ refused_of (groups_in (map view_group_line groups.now)) (map view_flow_line flows.items)) }
     ensures sound { IfOk result (λ kept. AllByRecursion FlowIsSound kept.items) }
 {
+    let texts = copies_of(alloc, groups)?;
     let mut kept = Vec::new(alloc);
     let mut left = flows;
     left.reverse();
     while let Some(it) = left.pop() {
-        judge(alloc, groups, &mut kept, refused, it)?;
+        judge(&texts, &mut kept, refused, it)?;
     }
     Ok(kept)
 }
@@ -246,27 +212,6 @@ fn replaces(flow: &FlowText, other: &FlowText) -> bool
     other.head.table == flow.head.table
         && other.head.priority == flow.head.priority
         && has_fields_of(flow, other)
-}
-
-#[tactic(auto, unfolding(crate::specs::Digests::field_mixed))]
-fn mixed(sum: u128, e: MatchField) -> u128
-    ensures { result ≡ mixed_of sum e }
-{
-    sum.wrapping_mul(1_000_003)
-        .wrapping_add(e.value)
-        .wrapping_mul(1_000_003)
-        .wrapping_add(e.mask.unwrap_or(0))
-}
-
-// A number that is the same for flows that replace each other.
-#[tactic(auto, unfolding(crate::specs::Digests::flow_digest))]
-fn digest(flow: &FlowText) -> u128
-    ensures { result ≡ flow_digest (view flow.now) }
-{
-    let seed = u128::from(flow.head.table)
-        .wrapping_mul(65536)
-        .wrapping_add(u128::from(flow.head.priority));
-    flow.fields.iter().fold(seed, |sum, e| mixed(sum, *e))
 }
 
 // Whether the flow at that place, if there is one, replaces another.

@@ -1,0 +1,2 @@
+pub mod LeadingLemmas
+mod JsonLemmas

@@ -1,12 +1,15 @@
 -- WHERE PATHS LEAD, by their steps, for some ingress port (OpenFlow 1.3.5, 5.12).
-use Rattle.std.specs.Prelude.{ℕ, ◌==◌, ◌||◌, Bool, true, false, List, [], ◌∷◌, length, Option, Some, None}
-use Rattle.std.specs.List.{list_any}
+use Rattle.std.specs.Prelude.{◌≡◌, ℕ, ◌==◌, ◌||◌, Bool, true, false, List, [], ◌∷◌, length, Option, Some, None}
+use Rattle.std.specs.List.{Contains, list_any}
 use Rattle.of_wire.specs.declared.limits.TheConstants.{OFPP_ALL, OFPP_CONTROLLER, OFPP_FLOOD, OFPP_IN_PORT}
 use Rattle.of_actions.specs.declared.action.Action.TheVariants.{Output}
+use Rattle.of_machine.specs.declared.data.Item.{Item}
+use Rattle.of_machine.specs.declared.data.Item.TheVariants.{PacketIn, Sent}
 use Rattle.of_machine.specs.declared.data.Step.{Step}
 use Rattle.of_machine.specs.declared.data.Step.TheVariants.{Act, TtlExpired}
 use Rattle.of_paths.specs.declared.path.Path.{Path}
 use Rattle.of_paths.specs.declared.path.PathClass.{PathClass}
+use Rattle.of_paths.specs.Paths.{InPaths}
 use Rattle.of_paths_report.specs.declared.destination.Destination.{Destination}
 use Rattle.of_paths_report.specs.declared.destination.Destination.TheVariants.{Controller, Nothing, Port}
 
@@ -47,3 +50,17 @@ is_class_leading Controller c = has_destination Controller c.paths.items
 abbrev pub is_class_shown : Option Destination → PathClass → Bool
 is_class_shown None c = true
 is_class_shown (Some to) c = is_class_leading to c
+
+-- ---- what leaves
+
+-- the item leaves by the port, or goes to the controller
+abbrev pub leaves_to : Destination → Item → Bool
+leaves_to (Port port) (Sent number frame) = number == port
+leaves_to (Port port) (PacketIn p) = false
+leaves_to Controller (Sent number frame) = false
+leaves_to Controller (PacketIn p) = true
+leaves_to Nothing item = false
+
+-- the frame is one of those of a class that leads there
+abbrev pub InClassLeadingTo : Destination → List PathClass → List ℕ → ℕ → Type 0
+InClassLeadingTo to classes frame port = (c : PathClass) × Contains classes c × (is_class_leading to c ≡ true) × InPaths c.paths.items frame port

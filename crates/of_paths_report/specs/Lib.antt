@@ -1,3 +1,5 @@
+pub mod Asked
 pub mod Destinations
 pub mod PathsWords
+pub mod PathsJson
 pub mod PathsFiles

@@ -7,9 +7,17 @@ use Rattle.of_replay.specs.declared.event_file.Ended.TheVariants.{Done}
 use Rattle.of_paths.specs.Paths.{ArePaths}
 use Rattle.of_paths.specs.declared.path.Paths.{Paths}
 use Rattle.of_paths_report.specs.declared.destination.Destination.{Destination}
+use Rattle.of_paths_report.specs.declared.writing.PathsForm.{PathsForm}
+use Rattle.of_paths_report.specs.declared.writing.PathsForm.TheVariants.{Json, Words}
 use Rattle.of_paths_report.specs.declared.writing.PathsVerdict.{PathsVerdict}
 use Rattle.of_paths_report.specs.declared.writing.PathsVerdict.TheVariants.{Complete, Undecided}
 use Rattle.of_paths_report.specs.PathsWords.{paths_words}
+use Rattle.of_paths_report.specs.PathsJson.{paths_json}
+
+-- in words or as JSON
+abbrev pub paths_text : PathsForm → Forwarding → Option Destination → Paths → List ℕ
+paths_text Words f to found = paths_words f to found
+paths_text Json f to found = paths_json f to found
 
 -- it is known of all frames if no set of frames is undecided
 abbrev pub paths_verdict : Paths → PathsVerdict
@@ -21,5 +29,5 @@ IsPathsResult (Ok verdict) is = verdict ≡ is
 IsPathsResult (Err ended) is = ended ≢ Done
 
 -- THE TEXT of the paths of a switch, for the frames that conditions match: those that lead to a place, if one is asked for
-abbrev pub IsPathsReport : Result PathsVerdict Ended → List MatchField → Option Destination → Forwarding → List ℕ → Type 0
-IsPathsReport result within to f text = (found : Paths) × ArePaths (world_of f) within found × (text ≡ paths_words f to found) × IsPathsResult result (paths_verdict found)
+abbrev pub IsPathsReport : Result PathsVerdict Ended → PathsForm → List MatchField → Option Destination → Forwarding → List ℕ → Type 0
+IsPathsReport result form within to f text = (found : Paths) × ArePaths (world_of f) within found × (text ≡ paths_text form f to found) × IsPathsResult result (paths_verdict found)

@@ -15,8 +15,8 @@ use of_switch::{Switch, SwitchError};
 use of_trace::{Trace, push_heading, push_step, trace};
 use std::alloc::{AllocError, Global};
 
-// The steps of the frame of a class.
-fn traced<L: Lookup>(
+/// The steps of the frame of a class.
+pub fn traced<L: Lookup>(
     alloc: Global,
     switch: &Switch<L>,
     class: &PathClass,

@@ -1,11 +1,17 @@
-//! The report of `paths`: which steps the frames that a switch receives take, in words.
+//! The report of `paths`: which steps the frames that a switch receives take, in words or as JSON.
 #![tactic(auto)]
 
+mod asked;
 mod classes;
 mod destination;
 mod hits;
+mod json;
+mod json_hits;
+mod laws;
 mod undecided;
 mod writing;
 
+pub use asked::asked_conditions;
 pub use destination::Destination;
-pub use writing::{PathsVerdict, write_paths};
+pub use laws::what_leaves_is_in_leading_classes;
+pub use writing::{PathsForm, PathsVerdict, write_paths};

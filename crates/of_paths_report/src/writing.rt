@@ -4,11 +4,12 @@ ghost use Rattle.of_datapath.specs.Datapath.{world_of};
 ghost use Rattle.of_regions.specs.Conditions.{AreConditions};
 ghost use Rattle.of_replay.specs.FileRuns.{Writes, ended_as};
 ghost use Rattle.of_paths.specs.Paths.{ArePaths};
-ghost use Rattle.of_paths_report.specs.PathsFiles.{IsPathsReport, paths_verdict};
+ghost use Rattle.of_paths_report.specs.PathsFiles.{IsPathsReport, paths_text, paths_verdict};
 ghost use Rattle.of_paths_report.specs.PathsWords.{paths_words};
 
 use crate::classes::push_classes;
 use crate::destination::Destination;
+use crate::json::paths_as_json;
 use crate::undecided::{push_path_summary, push_undecided_frames};
 use of_classifier::Lookup;
 use of_oxm::MatchField;
@@ -16,6 +17,15 @@ use of_paths::{Paths, paths};
 use of_replay::{Ended, Sink, write_all};
 use of_switch::Switch;
 use std::alloc::{AllocError, Global};
+
+/// How the report on the frames that a switch receives is written.
+#[derive(Clone, Copy, Debug, PartialEq, Eq)]
+pub enum PathsForm {
+    /// In words.
+    Words,
+    /// As a JSON document (docs/JSON.md).
+    Json,
+}
 
 /// Whether it is known of all frames which steps they take.
 #[derive(Clone, Copy, Debug, PartialEq, Eq)]
@@ -56,6 +66,22 @@ fn paths_in_words<L: Lookup>(
     Ok(out)
 }
 
+// The text of what is found.
+fn found_text<L: Lookup>(
+    alloc: Global,
+    form: PathsForm,
+    switch: &Switch<L>,
+    to: Option<Destination>,
+    found: &Paths,
+) -> Result<Vec<u8>, AllocError>
+    ensures { IfOk result (λ text. text.items ≡ paths_text form switch.now.core.forwarding to found.now) }
+{
+    match form {
+        PathsForm::Words => paths_in_words(alloc, switch, to, found),
+        PathsForm::Json => paths_as_json(alloc, switch, to, found),
+    }
+}
+
 fn verdict_for(found: &Paths) -> PathsVerdict
     ensures { result ≡ paths_verdict found.now }
 {
@@ -77,17 +103,18 @@ pub fn write_paths<L: Lookup, W: Sink>(
     within: &[MatchField],
     to: Option<Destination>,
     steps: usize,
+    form: PathsForm,
     writer: &mut W,
 ) -> Result<PathsVerdict, Ended>
     requires conditions { AreConditions within.now }
     requires well { W.failures writer.old ≡ 0 }
-    ensures output { Writes (IsPathsReport result within.now to switch.now.core.forwarding) (ended_as result) (W.taken writer.old) (W.taken writer.new) }
+    ensures output { Writes (IsPathsReport result form within.now to switch.now.core.forwarding) (ended_as result) (W.taken writer.old) (W.taken writer.new) }
     ensures write_fault { (ended_as result ≡ Ended.WriteFault) ↔ (0 < W.failures writer.new) }
 {
     let Ok(found) = find_paths(alloc, switch, within, steps) else {
         return Err(Ended::NoMemory);
     };
-    let Ok(text) = paths_in_words(alloc, switch, to, &found) else {
+    let Ok(text) = found_text(alloc, form, switch, to, &found) else {
         return Err(Ended::NoMemory);
     };
     if write_all(writer, &text) {

@@ -56,6 +56,15 @@ tables_more before f h =
     set_one 16 0 f.head.table before f (omega arith) h
     ∙ ap (λ (x : List Flow). set (tables_from 16 0 before) f.head.table (x ++ f ∷ [])) (sym (table_at before f.head.table h))
 
+none_from : (n t i : ℕ) → get_or (tables_from n t []) i [] ≡ []
+none_from zero t i = refl
+none_from (suc n) t zero = refl
+none_from (suc n) t (suc i) = none_from n (suc t) i
+
+pub none_before : (t : ℕ) → slice_index_or (tables_of_flows []) t [] ≡ []
+unfolding tables_of_flows
+none_before t = none_from 16 0 t
+
 length_tables : (n t : ℕ) (fs : List Flow) → length (tables_from n t fs) ≡ n
 length_tables zero t fs = refl
 length_tables (suc n) t fs = let others = length_tables n (suc t) fs in omega (arith, others)

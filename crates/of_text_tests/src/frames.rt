@@ -1,4 +1,4 @@
-use of_frame_words::{NoFrame, Why, is_frame_words, read_frame};
+use of_frame_words::{NoFrame, Why, is_frame_words, read_conditions, read_frame};
 use of_test_rows::{bytes_of, number_of, sides};
 use std::alloc::Global;
 use std::process::Abort;
@@ -34,6 +34,29 @@ const REFUSED: &[(&str, &str, bool)] = &[
     ("ip,nw_dst=10.0.0.1,nw_dst=10.0.0.2", "nw_dst", false),
     ("metadata=1", "metadata", false),
 ];
+
+/// Words of a match, and how many fields it has, or the word that is refused.
+const CONDITIONS: &str = "
+ip,nw_dst=10.0.0.0/8 | 2
+in_port=3,tcp,tp_dst=80,dl_vlan=5,dl_vlan_pcp=2 | 6
+nw_dst=0.0.0.0/0 | 0
+nw_dst=10.0.0.0/8 | nw_dst
+dl_type=0x0800/0xff00 | dl_type
+tcp,tp_dst=80,icmp_type=3 | icmp_type
+ip,actions=drop | actions=drop
+";
+
+fn asks(rt: &impl Abort, alloc: Global, (words, wanted): (&str, &str)) -> Result<(), Fail> {
+    match read_conditions(alloc, words.as_bytes()) {
+        Ok(fields) => assert_eq!(rt; fields.len(), number_of(wanted)?, "{words}"),
+        Err(NoFrame::Refused(refusal)) => {
+            let word = std::str::from_utf8(&refusal.word).ok().ok_or("a word")?;
+            assert_eq!(rt; word, wanted, "{words}");
+        }
+        Err(NoFrame::NoMemory) => return Err("memory".into()),
+    }
+    Ok(())
+}
 
 fn reads(rt: &impl Abort, alloc: Global, (words, wanted): (&str, &str)) -> Result<(), Fail> {
     let (port, bytes) = wanted.split_once(' ').ok_or("a port and bytes")?;
@@ -73,6 +96,16 @@ fn frames_in_words(rt: HostRuntime) -> Result<(), Fail> {
     for line in FRAMES.lines() {
         if let Some(row) = sides(line)? {
             reads(&rt, rt.alloc(), row)?;
+        }
+    }
+    Ok(())
+}
+
+#[test]
+fn conditions_in_words(rt: HostRuntime) -> Result<(), Fail> {
+    for line in CONDITIONS.lines() {
+        if let Some(row) = sides(line)? {
+            asks(&rt, rt.alloc(), row)?;
         }
     }
     Ok(())

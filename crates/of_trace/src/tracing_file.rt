@@ -41,15 +41,18 @@ fn ports_up(alloc: Global) -> Result<Vec<Event>, AllocError>
     Ok(events)
 }
 
-/// A new switch with ports 1 to 64, whose links are up, and with the groups and flows of a flow text.
-pub fn switch_of_text<L: Lookup>(alloc: Global, config: &Config) -> Result<Switch<L>, SwitchError>
+/// A new switch with ports 1 to 64, whose links are up, and with the groups and flows of a flow text. Err: out of memory.
+pub fn switch_of_text<L: Lookup>(alloc: Global, config: &Config) -> Result<Switch<L>, AllocError>
     ensures { IfOk result (λ s. s ≡ traced_switch config.now) }
 {
     let mut switch = Switch::new(alloc, DPID)?;
     let mut reports = Vec::new(alloc);
     switch.run(&ports_up(alloc)?, &mut reports)?;
-    switch.load(config)?;
-    Ok(switch)
+    match switch.load(config) {
+        Ok(()) => Ok(switch),
+        Err(SwitchError::NoMemory) => Err(AllocError),
+        Err(_) => unreachable!(),
+    }
 }
 
 /// Reads a flow text (docs/FLOWTEXT.md) and writes what `output` says of the trace of a frame received at a port, on a new switch with ports 1 to

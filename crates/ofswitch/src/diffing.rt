@@ -13,7 +13,7 @@ use of_report::{Content, content_of};
 use of_switch::Switch;
 use of_trace::switch_of_text;
 
-/// Why nothing is found about two switches. Standard error has the name of the file that is at fault.
+/// Why nothing is found about switches. Standard error has the name of the file that is at fault.
 #[derive(Drop)]
 pub enum NoDiff<'a> {
     /// A file is not read.
@@ -27,6 +27,8 @@ pub enum NoDiff<'a> {
         seen: Seen,
         ended: Ended,
     },
+    /// Words are no match, which standard error says.
+    NoMatch,
     /// As other runs end.
     Ended(Ended),
 }

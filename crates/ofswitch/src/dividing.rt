@@ -1,8 +1,8 @@
 //! Paths of the frames of a switch.
 use crate::diffing::{NoDiff, switch_of_file};
 use of_command_line::{Leading, PathsAsked};
-use of_paths::ingress_conditions;
-use of_paths_report::{Destination, PathsVerdict, write_paths};
+use of_frame_words::NoFrame;
+use of_paths_report::{Destination, PathsForm, PathsVerdict, asked_conditions, write_paths};
 use of_replay::Ended;
 use of_replay::streams::WriterSink;
 
@@ -22,15 +22,40 @@ fn asked_place(to: Option<Leading>) -> Option<Destination> {
     }
 }
 
+fn form_of(json: bool) -> PathsForm {
+    if json {
+        PathsForm::Json
+    } else {
+        PathsForm::Words
+    }
+}
+
+// Says why words are no match.
+fn without_match<'a>(rt: &HostRuntime, why: &NoFrame) -> NoDiff<'a> {
+    match why {
+        NoFrame::NoMemory => NoDiff::Ended(Ended::NoMemory),
+        NoFrame::Refused(refusal) => {
+            let word = std::str::from_utf8(&refusal.word).unwrap_or("?");
+            let _ = eprintln!(rt; "bad match: {word}: {}", refusal.why);
+            NoDiff::NoMatch
+        }
+    }
+}
+
 /// Prints which steps the frames take that the switch of a file receives, and returns whether it is known of all of them.
 pub fn divided<'a>(rt: &HostRuntime, asked: &'a PathsAsked) -> Result<PathsVerdict, NoDiff<'a>> {
     let switch = switch_of_file(rt, asked.file.as_str())?;
-    let Ok(within) = ingress_conditions(rt.alloc(), asked.port) else {
-        return Err(NoDiff::Ended(Ended::NoMemory));
+    let within = match asked_conditions(rt.alloc(), asked.port, asked.within.as_bytes()) {
+        Ok(within) => within,
+        Err(why) => return Err(without_match(rt, &why)),
     };
-    let (to, steps) = (asked_place(asked.to), asked.steps as usize);
+    let (to, steps, form) = (
+        asked_place(asked.to),
+        asked.steps as usize,
+        form_of(asked.json),
+    );
     let mut writer = WriterSink::new(rt.stdout());
-    match write_paths(rt.alloc(), &switch, &within, to, steps, &mut writer) {
+    match write_paths(rt.alloc(), &switch, &within, to, steps, form, &mut writer) {
         Ok(verdict) => Ok(verdict),
         Err(ended) => Err(NoDiff::Ended(ended)),
     }

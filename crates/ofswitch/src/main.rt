@@ -288,6 +288,7 @@ fn run_paths(rt: &HostRuntime, asked: &PathsAsked) -> ExitCode {
 fn end_without_switch(rt: &HostRuntime, why: NoDiff<'_>) -> ExitCode {
     match why {
         NoDiff::Ended(ended) => end(rt, &ended),
+        NoDiff::NoMatch => ExitCode::from(BAD_LINES),
         NoDiff::File { path, seen, ended } => end_file(rt, path, &seen, &ended),
         NoDiff::Unread { path, why } => end_unread(rt, path, why),
     }

@@ -1,4 +1,5 @@
 use Rattle.std.proofs.Common.{refl}
+use Rattle.of_symbolic_switch.proofs.GroupedLemmas.{if_ok}
 use Rattle.of_diff.proofs.FindingLemmas.{on_appended, put_alike, put_found, put_pairs, put_undecided}
 use Rattle.of_diff.proofs.differing.put.Goals as goal
 
@@ -10,10 +11,10 @@ returns-in-Pairs c =
 pub returns-in-Alike : goal.returns-in-Alike
 returns-in-Alike c = λ k w v pair next so_far. put_alike k w v c.args.pairs.now.items pair c.args.so_far.now (rw c.in-Alike.is at next) so_far
 
-pub returns-in_ok-push-in-Differs : goal.returns-in_ok-push-in-Differs
-returns-in_ok-push-in-Differs c = λ k w v pair next so_far.
-    let is = rw c.in-Differs.is at next in
-    put_found k w v c.args.pairs.now.items pair c.args.so_far.now _ c.in-Differs.difference c.in_ok-push-in-Differs.ensures.items refl is.0 is.1 so_far
+pub returns-in-Differs : goal.returns-in-Differs
+returns-in-Differs c =
+    if_ok c.put_difference.result _ _
+    (λ puts k w v pair next so_far. (let is = rw c.in-Differs.is at next in put_found k w v c.args.pairs.now.items pair c.args.so_far.now _ c.in-Differs.difference puts refl is.0 is.1 so_far)) c.put_difference.ensures
 
 pub returns-in_ok-push-in-Undecided : goal.returns-in_ok-push-in-Undecided
 returns-in_ok-push-in-Undecided c = λ k w v pair next so_far.

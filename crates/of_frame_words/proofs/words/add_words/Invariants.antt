@@ -7,4 +7,4 @@ abbrev pub decreases-loop-rest : goal.decreases-loop-rest
 decreases-loop-rest l = length l.rest
 
 abbrev pub invariant-loop-rest : goal.invariant-loop-rest
-invariant-loop-rest l = with_setting_words l.fn.settings.items (words_from 0 l.text) ≡ with_setting_words l.settings.items (words_from 0 l.rest)
+invariant-loop-rest l = with_setting_words l.masks l.fn.settings.items (words_from 0 l.text) ≡ with_setting_words l.masks l.settings.items (words_from 0 l.rest)

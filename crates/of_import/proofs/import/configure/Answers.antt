@@ -1,4 +1,4 @@
-use Rattle.std.proofs.Common.{◌≡◌, ◌∙◌, ap, ℕ, List, ◌++◌}
+use Rattle.std.proofs.Common.{◌∙◌, ap, ℕ, List, ◌++◌}
 use Rattle.std.specs.Prelude.{map}
 use Rattle.of_text.specs.Views.{view_flows, view_groups}
 use Rattle.of_import.specs.ParsedLinesViews.{view_flow_line, view_group_line}

@@ -1,4 +1,6 @@
 use Rattle.std.proofs.Common.{vec_len}
+use Rattle.of_text.specs.Configs.{view_tables}
+use Rattle.of_text.specs.Digests.{ShowsRepeats}
 use Rattle.of_text.specs.Views.{view_flows, view_groups}
 use Rattle.of_text.proofs.FillLemmas.{Filling}
 use Rattle.of_text.proofs.assembling.fill.Given as goal
@@ -7,4 +9,7 @@ abbrev pub decreases-loop-flow : goal.decreases-loop-flow
 decreases-loop-flow l = vec_len l.left
 
 abbrev pub invariant-loop-flow : goal.invariant-loop-flow
-invariant-loop-flow l = Filling (view_groups l.groups) (view_flows l.fn.flows.items) l.left.items l.tables.items
+invariant-loop-flow l = record {
+  filling : Filling (view_groups l.groups) (view_flows l.fn.flows.items) l.left.items l.tables.items;
+  repeats : ShowsRepeats l.digests (view_tables l.tables.items);
+}

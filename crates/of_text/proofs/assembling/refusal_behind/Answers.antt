@@ -20,7 +20,7 @@ pub returns-clause-refusal : goal.returns-clause-refusal
 returns-clause-refusal c =
     let own = flow_refusals (view c.args.flow.now) in
     let beside = table_refusals (view_groups c.args.groups.now) (slice_index_or (view_tables c.args.tables.now) c.args.flow.now.head.table []) (view c.args.flow.now) in
-    let lt : c.args.flow.now.head.table < length c.args.tables.now = omega (arith, c.in_default.ensures.table, c.requires) in
+    let lt : c.args.flow.now.head.table < length c.args.tables.now = omega (arith, c.in_default.ensures.table, c.requires.sixteen) in
     c.table_refusal.ensures
     ∙ (ap (λ (t : List Flow). first_of (table_refusals (view_groups c.args.groups.now) t (view c.args.flow.now))) (ap view_flows c.deref.ensures.value ∙ lent_table c.args.tables.now c.args.flow.now.head.table c.index-tables-from.result _ lt (rw c.from.ensures at c.index-tables-from.is))
     ∙ sym (first_append own beside ∙ ap (λ (x : Option Code). or_else x (first_of beside)) (sym c.flow_refusal.ensures.refusal ∙ c.in_default.is)))

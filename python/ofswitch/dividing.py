@@ -1,0 +1,36 @@
+"""Which steps the frames that a switch receives take, as `ofswitch paths` finds them (docs/PATHS.md)."""
+
+from __future__ import annotations
+
+import os
+from typing import Any
+
+from .program import StrPath, document_of, file_of, find
+
+# Exit statuses: an argument or a file has a fault; frames are undecided.
+_BAD_ARGUMENT = 1
+_BAD_FILE = 2
+_UNDECIDED = 5
+
+
+def paths(
+    switch: str | os.PathLike[str],
+    *,
+    port: int | None = None,
+    match: str | None = None,
+    to: int | str | None = None,
+    steps: int | None = None,
+    program: StrPath | None = None,
+    timeout: float = 600.0,
+) -> dict[str, Any]:
+    """The steps that the frames take that a switch receives, as docs/JSON.md describes them: `paths`, `classes` and `undecided`.
+
+    The switch is a text, or the path of a file (a `pathlib.Path`): flow text, an event file, or what `ovs-ofctl` prints. With
+    `port` only frames that come in by that port are divided, and with `match` those that match: `"ip,nw_dst=10.0.0.0/8"`. With
+    `to` only paths are returned that lead there: the number of a port, `"controller"` or `"drop"`. `steps` is that of `--steps`.
+    ValueError if an argument or the text has a fault.
+    """
+    given = {"--port": port, "--match": match, "--to": to, "--steps": steps}
+    options = [word for name, value in given.items() if value is not None for word in (name, str(value))]
+    with file_of(switch) as file:
+        return document_of([find(program), "paths", "--json", *options, file], timeout, (0, _UNDECIDED), (_BAD_ARGUMENT, _BAD_FILE))
