@@ -1,4 +1,5 @@
 """The crates of the repository, and the calls of `rattle` for one of them: for tools/build, tools/prove and tools/times.
+By itself it prints how many checks run side by side, for tools/test.
 
 A library is built as statements, the parts that crates above may cite (`rattle build --statements`, as in the gate), into
 crates/NAME/out/built: a check above it then need not read its proofs.
@@ -150,3 +151,7 @@ class Crates:
         if not status:
             os.replace(f"{made}.new", made)
         return status
+
+
+if __name__ == "__main__":
+    print(processors())
