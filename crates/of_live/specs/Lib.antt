@@ -4,5 +4,4 @@ pub mod Turns
 pub mod Ends
 pub mod Recorded
 pub mod RunningRows
-pub mod Memory
 pub mod Working

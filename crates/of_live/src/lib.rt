@@ -2,7 +2,6 @@
 #![tactic(auto)]
 
 mod laws;
-pub mod memory;
 mod network;
 mod peers;
 mod rows;

@@ -3,7 +3,6 @@ pub mod Turns
 pub mod Serves
 pub mod Gathering
 pub mod FileRows
-pub mod Memory
 pub mod Connections
 pub mod Pauses
 pub mod Calls

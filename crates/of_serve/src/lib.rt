@@ -5,7 +5,6 @@ mod calls;
 mod event_rows;
 mod gathering;
 mod laws;
-pub mod memory;
 mod pauses;
 mod peers;
 mod refusals;

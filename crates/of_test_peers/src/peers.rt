@@ -3,8 +3,8 @@ ghost use Rattle.std.specs.Bool.{OnTrue};
 ghost use Rattle.std.specs.Option.{option_map};
 ghost use Rattle.std.specs.Prelude.{◌≡◌, ◌++◌, ◌+◌, ◌<◌, ◌≤◌, ◌^◌, ◌∷◌, [], None, Some, length, slice_get, take, min, IfOk, OnOk, OnErr};
 
-use crate::peers::{Accepted, Clock, Peers};
 use of_replay::{Reading, Writing};
+use of_serve::{Accepted, Clock, Peers};
 use of_wire::Bytes;
 use std::alloc::{AllocError, Global};
 use std::marker::Model;
@@ -105,7 +105,7 @@ pub struct MemoryPeers {
 }
 
 impl MemoryPeers {
-    ghost use Rattle.of_serve.specs.Memory.{peers_came};
+    ghost use Rattle.of_test_peers.specs.Peers.{peers_came};
 
     /// Peers of that script, whose writes take `chunk` bytes at most.
     pub fn new(alloc: Global, script: Vec<Line>, chunk: usize, failing: Failing) -> MemoryPeers
@@ -145,7 +145,7 @@ impl MemoryPeers {
     ghost use Rattle.std.specs.Bool.{OnTrue, OnFalse};
     ghost use Rattle.of_serve.specs.Told.{Answered, onto};
     ghost use Rattle.of_replay.specs.Told.{Failed};
-    ghost use Rattle.of_serve.specs.Memory.{peers_came};
+    ghost use Rattle.of_test_peers.specs.Peers.{peers_came};
 
     // The newest connection takes bytes, unless there is none or memory runs out.
     fn take(&mut self, bytes: &[u8]) -> bool
@@ -245,7 +245,7 @@ impl Peers for MemoryPeers {
     ghost use Rattle.std.specs.Option.{option_map};
     ghost use Rattle.of_replay.specs.Told.{answer_of, write_count, write_faults, IsReading, IsWriting};
     ghost use Rattle.of_serve.specs.Told.{PeerCame, accept_came, Answered, then_told, accept_faults, then_begun, then_onto};
-    ghost use Rattle.of_serve.specs.Memory.{peers_came};
+    ghost use Rattle.of_test_peers.specs.Peers.{peers_came};
 
     ghost came = { λ p. Some (peers_came p) };
 

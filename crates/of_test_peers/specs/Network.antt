@@ -1,9 +1,9 @@
 -- What a network in memory records.
 use Rattle.std.specs.Prelude.{ℕ, ◌++◌, Bool, true, false, List, map, Option, Some, None, if◌then◌else◌}
 use Rattle.of_switch.specs.declared.event.Event.TheVariants.{Ports}
-use Rattle.of_live.specs.declared.memory.Passed.{Passed}
-use Rattle.of_live.specs.declared.memory.Passed.TheVariants as passed
-use Rattle.of_live.specs.declared.memory.MemoryNetwork.{MemoryNetwork}
+use Rattle.of_test_peers.specs.declared.network.Passed.{Passed}
+use Rattle.of_test_peers.specs.declared.network.Passed.TheVariants as passed
+use Rattle.of_test_peers.specs.declared.network.MemoryNetwork.{MemoryNetwork}
 use Rattle.of_live.specs.Live.{Came, Time, Datagram, Opened, Heard, Ended, Ready, Row, Nothing, Fault}
 use Rattle.of_live.specs.Turns.{Act, Told, Drops, Logs, Sends, Writes, Closes}
 

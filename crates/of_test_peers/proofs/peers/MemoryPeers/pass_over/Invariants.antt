@@ -1,5 +1,5 @@
 use Rattle.std.proofs.Common.{◌≡◌, ◌-◌, length, take}
-use Rattle.of_serve.proofs.memory.MemoryPeers.pass_over.Given as goal
+use Rattle.of_test_peers.proofs.peers.MemoryPeers.pass_over.Given as goal
 
 abbrev pub invariant-loop-self : goal.invariant-loop-self
 invariant-loop-self l =
