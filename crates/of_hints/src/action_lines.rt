@@ -14,7 +14,7 @@ fn write_word<W: Write>(f: &mut Formatter<W>, word: &[u8]) -> fmt::Result {
 }
 
 /// The words of all actions, each after a comma.
-#[derive(Clone, Copy, Debug, PartialEq, Eq)]
+#[derive(Clone, Copy, Debug)]
 pub struct ActionWords;
 
 impl Display for ActionWords {
@@ -28,7 +28,7 @@ impl Display for ActionWords {
 }
 
 /// The line of an action, as people write it.
-#[derive(Clone, Copy, Debug, PartialEq, Eq)]
+#[derive(Clone, Copy, Debug)]
 pub struct ActionUsage {
     word: [u8; 12],
     others: &'static str,

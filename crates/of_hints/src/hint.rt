@@ -10,7 +10,7 @@ use of_text::is_passed_over;
 use thiserror::Error;
 
 /// What is wrong with a line, as a sentence that says what to do.
-#[derive(Clone, Copy, Debug, PartialEq, Eq, Error)]
+#[derive(Clone, Copy, Debug, Error)]
 pub enum Hint {
     #[error("{0}")]
     Layout(LayoutFault),

@@ -9,7 +9,7 @@ use thiserror::Error;
 const LONGEST: usize = 1_048_576;
 
 /// What is wrong with the bytes of a line.
-#[derive(Clone, Copy, Debug, PartialEq, Eq, Error)]
+#[derive(Clone, Copy, Debug, Error)]
 pub enum LayoutFault {
     #[error("a line has at most 1,048,576 bytes")]
     TooLong,

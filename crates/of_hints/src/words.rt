@@ -5,68 +5,90 @@ use crate::forms::{Form, Word};
 use crate::values::{is_decimal, prefix_in, value_in, value_of};
 use of_actions::ActionRow;
 use of_layers::Field;
+use std::fmt::{self, Display, Formatter};
 use thiserror::Error;
 
-/// What is wrong with the words of a line. Words count from 1.
-#[derive(Clone, Copy, Debug, PartialEq, Eq, Error)]
+/// What is wrong with the words of a line.
+#[derive(Clone, Copy, Debug, Error)]
 pub enum WordFault {
     #[error("a missing or extra word: write {0}")]
     Form(&'static str),
     #[error("a missing or extra word: write {0}")]
     Action(ActionUsage),
-    #[error("word {0}: a decimal number, without a sign and without leading zeros")]
-    Decimal(usize),
-    #[error("word {place}: the number is at most {most}")]
-    Most { place: usize, most: u64 },
-    #[error("word {0}: an odd number of hexadecimal digits; a byte has two")]
-    OddDigits(usize),
-    #[error("word {0}: bytes are hexadecimal digits, without 0x and without separators, or - for none")]
-    Bytes(usize),
-    #[error("word {0}: a hardware address is 12 hexadecimal digits, without colons")]
-    Hardware(usize),
-    #[error("word {0}: a port's name has 1 to 15 bytes, of a to z and 0 to 9")]
-    PortName(usize),
-    #[error("word {0}: up or down")]
-    State(usize),
-    #[error("word {0}: all, indirect or ff")]
-    GroupKind(usize),
-    #[error("word {place}: 0x and {digits} lower case hexadecimal digits")]
-    Hex { place: usize, digits: usize },
-    #[error("word {place}: 0x and 4 lower case hexadecimal digits, here 0x{value:04x}")]
-    Short { place: usize, value: u64 },
-    #[error("word {place}: 0x and 8 lower case hexadecimal digits, here 0x{value:08x}")]
-    Long { place: usize, value: u64 },
-    #[error("word {place}: 0x and 12 lower case hexadecimal digits, here 0x{value:012x}")]
-    Address { place: usize, value: u64 },
-    #[error("word {place}: a value and a mask of 8 hexadecimal digits, here 0x{value:08x} 0x{mask:08x}")]
-    Prefix { place: usize, value: u64, mask: u64 },
-    #[error("word {0}: unknown field; fields are in_port, metadata, eth_dst, eth_src, eth_type, vlan_vid, vlan_pcp, ip_dscp, ip_ecn, ip_proto, ipv4_src, ipv4_dst, tcp_src, tcp_dst, udp_src, udp_dst, icmpv4_type, icmpv4_code, arp_op, arp_spa, arp_tpa, arp_sha, arp_tha, ipv6_src, ipv6_dst, ipv6_flabel, icmpv6_type, icmpv6_code")]
-    Field(usize),
+    /// Words count from 1.
+    #[error("word {place}: {wanted}")]
+    Word { place: usize, wanted: Wanted },
+}
+
+/// What a word has to be.
+#[derive(Clone, Copy, Debug, Error)]
+pub enum Wanted {
+    #[error("a decimal number, without a sign and without leading zeros")]
+    Decimal,
+    #[error("the number is at most {0}")]
+    Most(u64),
+    #[error("an odd number of hexadecimal digits; a byte has two")]
+    EvenDigits,
+    #[error("bytes are hexadecimal digits, without 0x and without separators, or - for none")]
+    Bytes,
+    #[error("a hardware address is 12 hexadecimal digits, without colons")]
+    Hardware,
+    #[error("a port's name has 1 to 15 bytes, of a to z and 0 to 9")]
+    PortName,
+    #[error("up or down")]
+    State,
+    #[error("all, indirect or ff")]
+    GroupKind,
+    #[error("0x and {0} lower case hexadecimal digits")]
+    Hex(usize),
+    #[error("0x and {digits} lower case hexadecimal digits, here {here}")]
+    Number { digits: usize, here: HexNumber },
+    #[error("a value and a mask of 8 hexadecimal digits, here {value} {mask}")]
+    Prefix { value: HexNumber, mask: HexNumber },
+    #[error("unknown field; fields are in_port, metadata, eth_dst, eth_src, eth_type, vlan_vid, vlan_pcp, ip_dscp, ip_ecn, ip_proto, ipv4_src, ipv4_dst, tcp_src, tcp_dst, udp_src, udp_dst, icmpv4_type, icmpv4_code, arp_op, arp_spa, arp_tpa, arp_sha, arp_tha, ipv6_src, ipv6_dst, ipv6_flabel, icmpv6_type, icmpv6_code")]
+    Field,
+}
+
+/// A number of 4, 8 or 12 hexadecimal digits.
+#[derive(Clone, Copy, Debug)]
+pub struct HexNumber {
+    digits: usize,
+    value: u64,
+}
+
+impl Display for HexNumber {
+    fn fmt<W: fmt::Write>(&self, f: &mut Formatter<W>) -> fmt::Result {
+        match self.digits {
+            4 => write!(f, "0x{:04x}", self.value),
+            8 => write!(f, "0x{:08x}", self.value),
+            _ => write!(f, "0x{:012x}", self.value),
+        }
+    }
 }
 
 fn is(word: &[u8], wanted: &[u8]) -> bool {
     word == wanted
 }
 
-fn decimal_fault(word: &[u8], place: usize, most: u64) -> Option<WordFault> {
+fn decimal_fault(word: &[u8], most: u64) -> Option<Wanted> {
     if !is_decimal(word) {
-        return Some(WordFault::Decimal(place));
+        return Some(Wanted::Decimal);
     }
     match value_of(word) {
         Some(value) if value <= most => None,
-        _ => Some(WordFault::Most { place, most }),
+        _ => Some(Wanted::Most(most)),
     }
 }
 
-fn bytes_fault(word: &[u8], place: usize) -> Option<WordFault> {
+fn bytes_fault(word: &[u8]) -> Option<Wanted> {
     if is(word, b"-") {
         return None;
     }
     if !word.iter().all(|byte| byte.is_ascii_hexdigit()) {
-        return Some(WordFault::Bytes(place));
+        return Some(Wanted::Bytes);
     }
     if word.len() % 2 == 1 {
-        return Some(WordFault::OddDigits(place));
+        return Some(Wanted::EvenDigits);
     }
     None
 }
@@ -75,26 +97,33 @@ fn is_lower_hex(byte: u8) -> bool {
     byte.is_ascii_digit() || (b'a'..=b'f').contains(&byte)
 }
 
-fn hex_fault(word: &[u8], place: usize, bytes: usize) -> Option<WordFault> {
+fn hex_fault(word: &[u8], bytes: usize) -> Option<Wanted> {
     let digits = bytes.saturating_mul(2);
     match word.strip_prefix(b"0x") {
         Some(rest) if rest.len() == digits && rest.iter().all(|byte| is_lower_hex(*byte)) => None,
-        _ => Some(value_fault(word, place, digits)),
+        _ => Some(value_fault(word, digits)),
     }
 }
 
 // The fault of a value that is not hexadecimal: how it is written, if it is a number or an address.
-fn value_fault(word: &[u8], place: usize, digits: usize) -> WordFault {
+fn value_fault(word: &[u8], digits: usize) -> Wanted {
     if digits == 8 {
         if let Some((value, mask)) = prefix_in(word) {
-            return WordFault::Prefix { place, value, mask };
+            return Wanted::Prefix {
+                value: HexNumber { digits, value },
+                mask: HexNumber {
+                    digits,
+                    value: mask,
+                },
+            };
         }
     }
     match value_in(word, digits) {
-        Some(value) if digits == 4 => WordFault::Short { place, value },
-        Some(value) if digits == 8 => WordFault::Long { place, value },
-        Some(value) => WordFault::Address { place, value },
-        None => WordFault::Hex { place, digits },
+        Some(value) => Wanted::Number {
+            digits,
+            here: HexNumber { digits, value },
+        },
+        None => Wanted::Hex(digits),
     }
 }
 
@@ -114,31 +143,28 @@ fn field_named(word: &[u8]) -> Option<Field> {
 }
 
 // The fault where the test fails.
-fn unless(good: bool, fault: WordFault) -> Option<WordFault> {
-    if good { None } else { Some(fault) }
+fn unless(good: bool, wanted: Wanted) -> Option<Wanted> {
+    if good { None } else { Some(wanted) }
 }
 
 // What is wrong with a word, after the name of this field.
-fn word_fault(kind: Word, word: &[u8], place: usize, field: Option<Field>) -> Option<WordFault> {
+fn word_fault(kind: Word, word: &[u8], field: Option<Field>) -> Option<Wanted> {
     match kind {
-        Word::Decimal(most) => decimal_fault(word, place, most),
-        Word::Hex(bytes) => hex_fault(word, place, bytes),
-        Word::Bytes => bytes_fault(word, place),
+        Word::Decimal(most) => decimal_fault(word, most),
+        Word::Hex(bytes) => hex_fault(word, bytes),
+        Word::Bytes => bytes_fault(word),
         Word::Hardware => unless(
             word.len() == 12 && word.iter().all(|byte| byte.is_ascii_hexdigit()),
-            WordFault::Hardware(place),
+            Wanted::Hardware,
         ),
-        Word::PortName => unless(is_port_name(word), WordFault::PortName(place)),
-        Word::State => unless(
-            is(word, b"up") || is(word, b"down"),
-            WordFault::State(place),
-        ),
+        Word::PortName => unless(is_port_name(word), Wanted::PortName),
+        Word::State => unless(is(word, b"up") || is(word, b"down"), Wanted::State),
         Word::GroupKind => unless(
             is(word, b"all") || is(word, b"indirect") || is(word, b"ff"),
-            WordFault::GroupKind(place),
+            Wanted::GroupKind,
         ),
-        Word::Field => unless(field_named(word).is_some(), WordFault::Field(place)),
-        Word::Value | Word::Mask => hex_fault(word, place, field?.row().bytes),
+        Word::Field => unless(field_named(word).is_some(), Wanted::Field),
+        Word::Value | Word::Mask => hex_fault(word, field?.row().bytes),
     }
 }
 
@@ -166,8 +192,8 @@ fn fault_among(
     let mut field = None;
     for (kind, word) in kinds.iter().zip(words?.split(|byte| *byte == b' ')) {
         place = place.saturating_add(1);
-        if let Some(fault) = word_fault(*kind, word, place, field) {
-            return Some(fault);
+        if let Some(wanted) = word_fault(*kind, word, field) {
+            return Some(WordFault::Word { place, wanted });
         }
         if *kind == Word::Field {
             field = field_named(word);
