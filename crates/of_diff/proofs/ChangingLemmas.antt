@@ -39,13 +39,14 @@ use Rattle.of_diff.specs.declared.alike.Compared.{Compared}
 use Rattle.of_diff.specs.declared.pair.Pair.{Pair}
 use Rattle.of_diff.specs.Changing.{AddsPairs, AddsSet, AreAtTableBefore, AreMarkedAskedIn, AreMatchedSets, ArePairsOf, FirstSetIsOfPorts, IsAgreement, IsAskedIn, MatchedBySome, entries_in}
 use Rattle.of_diff.specs.Differences.{InSets, IsTreatedAlike}
-use Rattle.of_diff.specs.Emitting.{SendTheSame}
+use Rattle.of_diff.specs.Emitting.{LeaveAlike}
 use Rattle.of_diff.specs.Pairs.{ArePairs, AreStatesOfRuns, InPairs}
 use Rattle.of_diff.specs.SamePorts.{SamePorts}
 use Rattle.of_diff.specs.SameTables.{AreChanged, AreSameHits, EntrySays, IsUnmarkedHit, SayTheSame}
 use Rattle.of_diff.proofs.Agreeing.{all_both, works_from}
 use Rattle.of_diff.proofs.AgreeingRuns.{all_from, rests_agree}
 use Rattle.of_diff.proofs.CutLemmas.{rests_alike}
+use Rattle.of_diff.proofs.EmissionLemmas.{receives_at}
 use Rattle.of_diff.proofs.PairLemmas.{copy_at, same_tasks}
 use Rattle.of_diff.proofs.HitLemmas.{IsWinner, unchanged_hits, winner_is}
 
@@ -268,7 +269,7 @@ none_marked_matches asked l metadata flows marks h frame port is none i e at mar
     by_test true is_so = let m = h i e at mark frame port is is_so in let no = none m.0 m.1 in let yes = m.2 in absurd cc
 
 module _ (c : Compared) (f g : Forwarding) (sound : IsSound (world_of f)) (sound' : IsSound (world_of g)) (ports : SamePorts f.ports g.ports) (a : Agreement) (agreed : IsAgreement f g a) (pair : Pair) (here : AreAtTableBefore a.from pair.first pair.second)
-    (sent : SendTheSame c pair.first.emitted.items pair.second.emitted.items) (x : SymbolicTask) (xs : List SymbolicTask) (first : pair.first.tasks.items ≡ x ∷ xs) (asked : List (Vec MatchField))
+    (sent : LeaveAlike c f.ports pair.frames pair.first.emitted.items pair.second.emitted.items) (x : SymbolicTask) (xs : List SymbolicTask) (first : pair.first.tasks.items ≡ x ∷ xs) (asked : List (Vec MatchField))
     (marked : AreMarkedAskedIn asked x.packet.rewrites x.packet.metadata (entries_in f (a.from - 1)) a.changed.a.items) (also : AreMarkedAskedIn asked x.packet.rewrites x.packet.metadata (entries_in g (a.from - 1)) a.changed.b.items) where
   abbrev last : ℕ
   last = a.from - 1
@@ -323,7 +324,7 @@ module _ (c : Compared) (f g : Forwarding) (sound : IsSound (world_of f)) (sound
         let from = subst (AllFrom a.from) (sym one.tasks) (all_both (TaskFrom a.from) _ _ (subst (λ (k : ℕ). AllFrom k (row (world_of f) p work).left) next same.from) others_from) in
         let r = rests_agree a.from (world_of f) (world_of g) sound sound' agreed.agree (entering frame port) refl (suc at.0.steps) (suc at.1.steps) tasks from in
         rests_alike c _ _ (items_at (world_of f) frame port) (items_at (world_of g) frame port)
-        (rw (one.items, two.items, same.first, same.second, at.0.items, at.1.items) (rw (append-nil (items_for f.ports pair.first.emitted.items frame port), append-nil (items_for g.ports pair.second.emitted.items frame port)) (sent f.ports g.ports ports frame port))) r
+        (rw (one.items, two.items, same.first, same.second, at.0.items, at.1.items) (rw (append-nil (items_for f.ports pair.first.emitted.items frame port), append-nil (items_for g.ports pair.second.emitted.items frame port)) (sent g.ports ports frame port (receives_at (world_of f) frame port received) within))) r
 
   -- the frames that some list matches are in pairs, and the others are treated alike
   pub changed_are_pairs : (frames : FrameSet) (sets : List FrameSet) (pairs : List Pair) → AreFramesMatching [] pair.frames frames → AreMatchedSets frames asked sets → ArePairsOf (world_of f) (world_of g) pair sets pairs →

@@ -12,11 +12,12 @@ use Rattle.of_diff.specs.declared.pair.Pair.{Pair}
 use Rattle.of_diff.specs.Agreeing.{AgreeFrom, AllFrom, GoOnAlike}
 use Rattle.of_diff.specs.Alike.{LeavesAlike, sent_by, to_controller}
 use Rattle.of_diff.specs.Differences.{IsTreatedAlike}
-use Rattle.of_diff.specs.Emitting.{SendTheSame}
+use Rattle.of_diff.specs.Emitting.{LeaveAlike}
 use Rattle.of_diff.specs.Pairs.{AreStatesOfRuns}
 use Rattle.of_diff.specs.SamePorts.{SamePorts}
 use Rattle.of_diff.proofs.AgreeingRuns.{RestsAgree, rests_agree}
 use Rattle.of_diff.proofs.AlikeLemmas.{sent_front, told_front}
+use Rattle.of_diff.proofs.EmissionLemmas.{receives_at}
 use Rattle.of_diff.proofs.PairLemmas.{same_tasks}
 
 alike_before : (c : Compared) (a b x : List Item) → LeavesAlike c a b → LeavesAlike c (a ++ x) (b ++ x)
@@ -30,11 +31,11 @@ pub rests_alike : (c : Compared) (a b a' b' : List Item) → LeavesAlike c a b �
 rests_alike c a b a' b' h r = rw (r.first, r.second) (alike_before c a b r.more h)
 
 module _ (c : Compared) (w v : TheWorld) (n : ℕ) (sound : IsSound w) (sound' : IsSound v) (ports : SamePorts w.ports v.ports) (agree : AgreeFrom n w v) where
-  pub go_on_treated_alike : (pair : Pair) → GoOnAlike n pair.first pair.second → SendTheSame c pair.first.emitted.items pair.second.emitted.items →
+  pub go_on_treated_alike : (pair : Pair) → GoOnAlike n pair.first pair.second → LeaveAlike c w.ports pair.frames pair.first.emitted.items pair.second.emitted.items →
       AreStatesOfRuns w v pair → (frame : List ℕ) (port : ℕ) → IsReceivedAt w frame port → InFrames pair.frames frame port → IsTreatedAlike c w v frame port
   go_on_treated_alike pair go sent states frame port received within =
       let at = states frame port received.frame_is within in
       let same = same_tasks frame port pair.first.tasks.items pair.second.tasks.items go.same in
       let from : AllFrom n (map (task_for frame port) pair.first.tasks.items) = go.from frame port in
       let r = rests_agree n w v sound sound' agree (entering frame port) refl at.0.steps at.1.steps (at.0.tasks ∙ (sym same ∙ sym at.1.tasks)) (subst (AllFrom n) (sym at.0.tasks) from) in
-      rests_alike c _ _ (items_at w frame port) (items_at v frame port) (rw (at.0.items, at.1.items) (sent w.ports v.ports ports frame port)) r
+      rests_alike c _ _ (items_at w frame port) (items_at v frame port) (rw (at.0.items, at.1.items) (sent v.ports ports frame port (receives_at w frame port received) within)) r

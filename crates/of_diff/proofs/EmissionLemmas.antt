@@ -9,6 +9,7 @@ use Rattle.of_machine.specs.declared.data.Item.TheVariants.{Sent}
 use Rattle.of_machine.specs.declared.data.Packet.{Packet}
 use Rattle.of_machine.specs.Rows.{Emitted, emission, to_port}
 use Rattle.of_machine.specs.TheWorld.{TheWorld}
+use Rattle.of_symbolic_switch.specs.PortNumbers.{IsReceivingPort}
 use Rattle.of_symbolic_switch.specs.Received.{IsReceivedAt}
 use Rattle.of_diff.specs.SamePorts.{PortKey, SamePorts, port_key}
 
@@ -86,6 +87,9 @@ same_emission ps qs e p port max_len =
 found_port : (r : Option Port) (x : Port) → option_map port_key r ≡ Some (port_key x) → (q : Port) × (r ≡ Some q) × (port_key x ≡ port_key q)
 found_port None x e = absurd cc
 found_port (Some q) x e = let h : Some (port_key q) ≡ Some (port_key x) = e in (q, refl, (let k : port_key x ≡ port_key q = cc in k))
+
+pub receives_at : (w : TheWorld) (frame : List ℕ) (port : ℕ) → IsReceivedAt w frame port → IsReceivingPort w.ports port
+receives_at w frame port is = record { port = is.ingress; there = is.there; receives = is.receives }
 
 pub received_too : (v w : TheWorld) → SamePorts v.ports w.ports → (frame : List ℕ) (port : ℕ) → IsReceivedAt v frame port → IsReceivedAt w frame port
 received_too v w e frame port is =

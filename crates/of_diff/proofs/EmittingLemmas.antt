@@ -1,6 +1,7 @@
 -- What two runs emit, by the actions on the frame.
-use Rattle.std.proofs.Common.{◌≡◌, ℕ, ◌==◌, cond, Bool, true, false, List, [], ◌∷◌, ◌++◌, Option, Some, None, refl, sym, ap, subst, ◌∙◌, if◌then◌else◌}
-use Rattle.std.specs.Prelude.{◌||◌}
+use Rattle.std.proofs.Common.{◌≡◌, ℕ, ◌==◌, cond, Bool, true, false, List, [], ◌∷◌, ◌++◌, map, Option, Some, None, refl, sym, ap, subst, ◌∙◌, if◌then◌else◌}
+use Rattle.std.specs.Prelude.{not, ◌||◌}
+use Rattle.std.specs.Option.{IfNone, is_some}
 use Rattle.std.proofs.lemmas.Bool.{eqb-true}
 use Rattle.of_wire.specs.declared.limits.TheConstants.{OFPP_ALL, OFPP_CONTROLLER, OFPP_FLOOD, OFPP_IN_PORT}
 use Rattle.of_wire.specs.declared.reasons.PacketInReason.{PacketInReason}
@@ -11,13 +12,16 @@ use Rattle.of_machine.specs.declared.data.Item.{Item}
 use Rattle.of_machine.specs.declared.data.Item.TheVariants.{Sent}
 use Rattle.of_machine.specs.declared.data.Count.TheVariants.{TxDropped}
 use Rattle.of_machine.specs.Rows.{Emitted, empty_emitted, output_reason, packet_in_emitted, to_port}
+use Rattle.of_symbolic_run.specs.declared.frame_set.FrameSet.{FrameSet}
 use Rattle.of_symbolic_run.specs.declared.state.Emission.{Emission}
 use Rattle.of_symbolic_run.specs.declared.state.Emission.TheVariants.{InvalidTtl, Output}
 use Rattle.of_symbolic_run.specs.declared.state.SymbolicPacket.{SymbolicPacket}
 use Rattle.of_symbolic_run.specs.States.{items_for, items_of_emission, packet_for}
 use Rattle.of_diff.specs.declared.alike.Compared.{Compared}
+use Rattle.of_diff.specs.declared.alike.Where.{Where}
+use Rattle.of_diff.specs.declared.alike.Where.TheVariants.{Controller, Port as ByPort}
 use Rattle.of_diff.specs.Alike.{LeavesAlike, sent_by, to_controller}
-use Rattle.of_diff.specs.Emitting.{AreSamePackets, EmitAllTheSame, EmitTheSame, SameIfRest, SameOutputs, SendAlike, SendTheSame}
+use Rattle.of_diff.specs.Emitting.{AlikeIfRest, AreSameAt, AreSamePackets, EmitTheSame, IsSameAt, LeaveAlike, SameOutputs, SendAlike, rewrites_of}
 use Rattle.of_diff.proofs.AlikeLemmas.{sent_front, told_front}
 use Rattle.of_diff.proofs.EmissionLemmas.{same_emission}
 
@@ -77,17 +81,26 @@ same_expired p q h ps qs same frame ingress = packet_in_same p q frame ingress r
 
 -- ---- lists
 
-begin_alike : (c : Compared) (behind rest : List Emission) (e f : Emission) → EmitTheSame e f → SendTheSame c behind rest → SendTheSame c (e ∷ behind) (f ∷ rest)
-begin_alike c behind rest e f same others ps qs ports frame port =
+begin_alike : (c : Compared) (ports : List Port) (s : FrameSet) (behind rest : List Emission) (e f : Emission) → EmitTheSame e f → LeaveAlike c ports s behind rest → LeaveAlike c ports s (e ∷ behind) (f ∷ rest)
+begin_alike c ps s behind rest e f same others qs ports frame port receives within =
     subst (λ (x : List Item). LeavesAlike c (items_of_emission ps e frame port ++ items_for ps behind frame port) (x ++ items_for qs rest frame port)) (same ps qs ports frame port)
-    (alike_behind c (items_of_emission ps e frame port) _ _ (others ps qs ports frame port))
+    (alike_behind c (items_of_emission ps e frame port) _ _ (others qs ports frame port receives within))
 
-pub behind_alike : (a b behind rest : List Emission) (e f : Emission) → a ≡ e ∷ behind → b ≡ f ∷ rest → EmitTheSame e f → SameIfRest a b behind rest
-behind_alike a b behind rest e f first second same c others = rw (first, second) (begin_alike c behind rest e f same others)
+pub behind_alike : (a b behind rest : List Emission) (e f : Emission) → a ≡ e ∷ behind → b ≡ f ∷ rest → EmitTheSame e f → AlikeIfRest a b behind rest
+behind_alike a b behind rest e f first second same c ports s others = rw (first, second) (begin_alike c ports s behind rest e f same others)
 
-pub list_more : (xs ys behind rest : List Emission) (e f : Emission) → xs ≡ e ∷ behind → ys ≡ f ∷ rest → EmitTheSame e f → EmitAllTheSame behind rest → EmitAllTheSame xs ys
-list_more xs ys behind rest e f first second same others =
+-- ---- at one place
+
+pub same_more : (at : Where) (xs ys behind rest : List Emission) (e f : Emission) → xs ≡ e ∷ behind → ys ≡ f ∷ rest → IsSameAt at e f → AreSameAt at behind rest → AreSameAt at xs ys
+same_more Controller xs ys behind rest e f first second same others =
     rw (first, second) (λ ps qs ports frame port. ap (λ x. x ++ items_for ps behind frame port) (same ps qs ports frame port) ∙ ap (λ y. items_of_emission qs f frame port ++ y) (others ps qs ports frame port))
+same_more (ByPort q) xs ys behind rest e f first second same others = ap (map rewrites_of) first ∙ (ap (λ x. x ∷ map rewrites_of behind) same ∙ (ap (λ l. rewrites_of f ∷ l) others ∙ sym (ap (map rewrites_of) second)))
 
-pub list_end : (xs ys : List Emission) → xs ≡ [] → ys ≡ [] → EmitAllTheSame xs ys
-list_end xs ys first second = rw (first, second) (λ ps qs ports frame port. refl)
+pub same_end : (at : Where) (xs ys : List Emission) → xs ≡ [] → ys ≡ [] → AreSameAt at xs ys
+same_end Controller xs ys first second = rw (first, second) (λ ps qs ports frame port. refl)
+same_end (ByPort q) xs ys first second = ap (map rewrites_of) (first ∙ sym second)
+
+pub none_if : {Y : Type 0} (r : Option Y) (P : Type 0) (b : Bool) → IfNone r P → is_some r ≡ not b → b ≡ true → P
+none_if None P b h is true_is = h
+none_if (Some y) P true h is true_is = absurd cc
+none_if (Some y) P false h is true_is = absurd cc

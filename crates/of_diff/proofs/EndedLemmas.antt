@@ -11,18 +11,19 @@ use Rattle.of_diff.specs.declared.alike.Compared.{Compared}
 use Rattle.of_diff.specs.declared.pair.Pair.{Pair}
 use Rattle.of_symbolic_switch.specs.Received.{IsReceivedAt, items_at}
 use Rattle.of_diff.specs.Differences.{IsTreatedAlike}
-use Rattle.of_diff.specs.Emitting.{SendTheSame}
+use Rattle.of_diff.specs.Emitting.{LeaveAlike}
 use Rattle.of_diff.specs.Pairs.{AreStatesOfRuns}
 use Rattle.of_diff.specs.SamePorts.{SamePorts}
+use Rattle.of_diff.proofs.EmissionLemmas.{receives_at}
 
 -- a state without packets gives what the run of each of its frames gives
 abbrev pub GivesRuns : Type 0
 GivesRuns = (w : TheWorld) (frame : List ℕ) (port : ℕ) (s : SymbolicState) → IsSound w → IsAt w frame port s → s.tasks.items ≡ [] → (run_of w (entering frame port) (Lookup 0 ∷ [])).items ≡ items_for w.ports s.emitted.items frame port
 
-pub ended_alike : (c : Compared) (w v : TheWorld) (pair : Pair) → GivesRuns → IsSound w → IsSound v → SamePorts w.ports v.ports → pair.first.tasks.items ≡ [] → pair.second.tasks.items ≡ [] → SendTheSame c pair.first.emitted.items pair.second.emitted.items →
+pub ended_alike : (c : Compared) (w v : TheWorld) (pair : Pair) → GivesRuns → IsSound w → IsSound v → SamePorts w.ports v.ports → pair.first.tasks.items ≡ [] → pair.second.tasks.items ≡ [] → LeaveAlike c w.ports pair.frames pair.first.emitted.items pair.second.emitted.items →
     AreStatesOfRuns w v pair → (frame : List ℕ) (port : ℕ) → IsReceivedAt w frame port → InFrames pair.frames frame port → IsTreatedAlike c w v frame port
 ended_alike c w v pair gives sound sound' ports done done' same h frame port received within =
     let at = h frame port received.frame_is within in
     let first : items_at w frame port ≡ items_for w.ports pair.first.emitted.items frame port = gives w frame port pair.first sound at.0 done in
     let second : items_at v frame port ≡ items_for v.ports pair.second.emitted.items frame port = gives v frame port pair.second sound' at.1 done' in
-    rw (first, second) (same w.ports v.ports ports frame port)
+    rw (first, second) (same v.ports ports frame port (receives_at w frame port received) within)

@@ -4,7 +4,8 @@ pub mod EmissionLemmas
 pub mod Agreeing
 pub mod AgreeingRuns
 pub mod EmittingLemmas
-pub mod PlaceLemmas
+pub mod SendingLemmas
+pub mod IngressPortLemmas
 mod ChangedLemmas
 pub mod HitLemmas
 pub mod PairLemmas

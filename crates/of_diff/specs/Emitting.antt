@@ -1,24 +1,26 @@
--- For contracts inside this crate: what two runs emit, for all frames that came in.
-use Rattle.std.specs.Prelude.{◌≡◌, ℕ, ◌==◌, Bool, true, false, not, ◌&&◌, ◌||◌, List, filter, ⊤}
-use Rattle.std.specs.List.{list_any}
+-- For contracts inside this crate: what two runs emit, for frames that came in.
+use Rattle.std.specs.Prelude.{◌≡◌, ℕ, ◌==◌, Bool, true, false, not, ◌&&◌, ◌||◌, List, filter, map, if◌then◌else◌}
+use Rattle.std.specs.Option.{option_map_or}
 use Rattle.of_wire.specs.declared.limits.TheConstants.{OFPP_ALL, OFPP_CONTROLLER, OFPP_FLOOD, OFPP_IN_PORT}
+use Rattle.of_actions.specs.declared.action.Action.{Action}
 use Rattle.of_ports.specs.declared.port.Port.{Port}
+use Rattle.of_ports.specs.Ports.{may_receive, may_send, port_at}
 use Rattle.of_machine.specs.declared.data.Packet.{Packet}
 use Rattle.of_machine.specs.Rows.{emission}
+use Rattle.of_symbolic_run.specs.declared.frame_set.FrameSet.{FrameSet}
 use Rattle.of_symbolic_run.specs.declared.state.Emission.{Emission}
 use Rattle.of_symbolic_run.specs.declared.state.Emission.TheVariants.{InvalidTtl, Output}
 use Rattle.of_symbolic_run.specs.declared.state.SymbolicPacket.{SymbolicPacket}
+use Rattle.of_symbolic_run.specs.FrameSets.{InFrames}
 use Rattle.of_symbolic_run.specs.States.{items_for, items_of_emission}
+use Rattle.of_symbolic_switch.specs.PortNumbers.{IsReceivingPort}
 use Rattle.of_diff.specs.Alike.{LeavesAlike}
 use Rattle.of_diff.specs.SamePorts.{SamePorts}
 use Rattle.of_diff.specs.declared.alike.Compared.{Compared}
-use Rattle.of_diff.specs.declared.alike.Compared.TheVariants.{All, Frames}
 use Rattle.of_diff.specs.declared.alike.Where.{Where}
 use Rattle.of_diff.specs.declared.alike.Where.TheVariants.{Controller, Port as ByPort}
 
--- the same leaves by the same ports, for each frame
-abbrev pub SendTheSame : Compared → List Emission → List Emission → Type 0
-SendTheSame c a b = (ps qs : List Port) → SamePorts ps qs → (frame : List ℕ) (port : ℕ) → LeavesAlike c (items_for ps a frame port) (items_for qs b frame port)
+-- ---- for all frames
 
 -- two emissions emit the same
 abbrev pub EmitTheSame : Emission → Emission → Type 0
@@ -45,45 +47,87 @@ pub record SameOutputs (p q : SymbolicPacket) (port : ℕ) : Type 0 where
   pub rewrites : p.rewrites ≡ q.rewrites
   pub told : port ≡ OFPP_CONTROLLER → AreSamePackets p q
 
--- an emission to the controller
-abbrev pub is_for_controller : Emission → Bool
-is_for_controller (Output packet port max_len) = port == OFPP_CONTROLLER
-is_for_controller (InvalidTtl packet) = true
-
--- ---- at one place
+-- ---- where the packet of an emission goes, of a frame that came in by port r
 
 -- an OUTPUT to this port sends by each port except the ingress port (7.2.1)
 abbrev pub is_flooding : ℕ → Bool
 is_flooding port = (port == OFPP_FLOOD) || (port == OFPP_ALL)
 
--- the emission may send there: to the controller, by the ingress port, which is IN_PORT here, or by a port of another number, which is not the ingress port
-abbrev pub may_send_to : Where → Emission → Bool
-may_send_to Controller e = is_for_controller e
-may_send_to (ByPort q) (Output packet port max_len) = (port == q) || (is_flooding port && not (q == OFPP_IN_PORT))
-may_send_to (ByPort q) (InvalidTtl packet) = false
+-- an OUTPUT to this port goes to port q: that to IN_PORT to r alone, those to FLOOD and ALL to each port but r, and that to a number to its port, if this is not r (7.2.1)
+abbrev pub output_goes_by : ℕ → ℕ → ℕ → Bool
+output_goes_by r q port =
+    if port == OFPP_IN_PORT then q == r
+    else if is_flooding port then not (q == r)
+    else (q == port) && (not (port == OFPP_CONTROLLER) && not (port == r))
 
--- those that may, in order
-abbrev pub sending_to : Where → List Emission → List Emission
-sending_to at es = filter (may_send_to at) es
+-- the controller gets a packet of the emission
+abbrev pub is_for_controller : Emission → Bool
+is_for_controller (Output packet port max_len) = port == OFPP_CONTROLLER
+is_for_controller (InvalidTtl packet) = true
 
--- they emit the same
-abbrev pub SendTheSameTo : Where → List Emission → List Emission → Type 0
-SendTheSameTo at a b = EmitAllTheSame (sending_to at a) (sending_to at b)
+-- it goes there
+abbrev pub emits_at : ℕ → Where → Emission → Bool
+emits_at r Controller e = is_for_controller e
+emits_at r (ByPort q) (Output packet port max_len) = output_goes_by r q port
+emits_at r (ByPort q) (InvalidTtl packet) = false
 
--- the controller gets the same, if that is compared
-abbrev pub TellTheSame : Compared → List Emission → List Emission → Type 0
-TellTheSame All a b = SendTheSameTo Controller a b
-TellTheSame Frames a b = ⊤
+-- the emissions that do, in order
+abbrev pub emitting_at : ℕ → Where → List Emission → List Emission
+emitting_at r at es = filter (emits_at r at) es
 
--- an OUTPUT to this port; CONTROLLER and IN_PORT are none
-abbrev pub names_port : ℕ → Emission → Bool
-names_port q (Output packet port max_len) = (port == q) && not (port == OFPP_CONTROLLER) && not (port == OFPP_IN_PORT)
-names_port q (InvalidTtl packet) = false
+-- the actions on the frame before it is emitted
+abbrev pub rewrites_of : Emission → List Action
+rewrites_of (Output packet port max_len) = packet.rewrites
+rewrites_of (InvalidTtl packet) = packet.rewrites
 
--- by each port that one of these names the same is sent
-abbrev pub SendTheSameByPortsOf : List Emission → List Emission → List Emission → Type 0
-SendTheSameByPortsOf named a b = (q : ℕ) → list_any (names_port q) named ≡ true → SendTheSameTo (ByPort q) a b
+-- both emit the same there: to the controller the same packet, by a port a frame after the same actions
+abbrev pub IsSameAt : Where → Emission → Emission → Type 0
+IsSameAt Controller x y = EmitTheSame x y
+IsSameAt (ByPort q) x y = rewrites_of x ≡ rewrites_of y
 
--- if the same is sent by what follows, it is by all
-abbrev pub SameIfRest : List Emission → List Emission → List Emission → List Emission → Type 0
-SameIfRest a b left right = (c : Compared) → SendTheSame c left right → SendTheSame c a b
+abbrev pub AreSameAt : Where → List Emission → List Emission → Type 0
+AreSameAt Controller xs ys = EmitAllTheSame xs ys
+AreSameAt (ByPort q) xs ys = map rewrites_of xs ≡ map rewrites_of ys
+
+-- those that go there emit the same, in the same order
+abbrev pub EmitAlikeAt : ℕ → Where → List Emission → List Emission → Type 0
+EmitAlikeAt r at a b = AreSameAt at (emitting_at r at a) (emitting_at r at b)
+
+-- so it is if this port may send
+abbrev pub IsAlikeBy : ℕ → List Emission → List Emission → Port → Type 0
+IsAlikeBy r a b p = may_send p ≡ true → EmitAlikeAt r (ByPort p.number) a b
+
+-- ---- what leaves by the ports of a switch
+
+-- the port of this number is there, and may send
+abbrev pub may_send_at : List Port → ℕ → Bool
+may_send_at ports q = option_map_or may_send (port_at ports q) false
+
+-- the emission sends a frame by port q
+abbrev pub sends_by : List Port → ℕ → ℕ → Emission → Bool
+sends_by ports r q e = may_send_at ports q && emits_at r (ByPort q) e
+
+-- the actions on each frame that leaves by port q, in order
+abbrev pub rewrites_sent : List Port → ℕ → ℕ → List Emission → List (List Action)
+rewrites_sent ports r q es = map rewrites_of (filter (sends_by ports r q) es)
+
+-- by each port frames leave after the same actions, in the same order
+abbrev pub SendAlikeFrom : List Port → ℕ → List Emission → List Emission → Type 0
+SendAlikeFrom ports r a b = (q : ℕ) → rewrites_sent ports r q a ≡ rewrites_sent ports r q b
+
+-- ---- for all frames of a set
+
+-- the same leaves for the frames of the set that came in by this port, if it receives
+abbrev pub IsAlikeFrom : Compared → List Port → FrameSet → List Emission → List Emission → Port → Type 0
+IsAlikeFrom c ports s a b p =
+    may_receive p ≡ true → (frame : List ℕ) → InFrames s frame p.number → LeavesAlike c (items_for ports a frame p.number) (items_for ports b frame p.number)
+
+-- the same leaves for each frame of the set that came in by a port that receives, also from a switch whose ports do the same
+abbrev pub LeaveAlike : Compared → List Port → FrameSet → List Emission → List Emission → Type 0
+LeaveAlike c ports s a b =
+    (others : List Port) → SamePorts ports others → (frame : List ℕ) (port : ℕ) → IsReceivingPort ports port → InFrames s frame port →
+    LeavesAlike c (items_for ports a frame port) (items_for others b frame port)
+
+-- if this is so of what follows, it is so of all
+abbrev pub AlikeIfRest : List Emission → List Emission → List Emission → List Emission → Type 0
+AlikeIfRest a b left right = (c : Compared) (ports : List Port) (s : FrameSet) → LeaveAlike c ports s left right → LeaveAlike c ports s a b

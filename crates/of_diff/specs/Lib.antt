@@ -4,6 +4,7 @@ pub mod SameGroups
 pub mod SameTables
 pub mod Agreeing
 pub mod Emitting
+pub mod IngressPorts
 pub mod Differences
 pub mod Pairs
 pub mod Changing

@@ -2,18 +2,47 @@
 ghost use Rattle.std.specs.Prelude.{◌≡◌, [], IfOk};
 ghost use Rattle.of_datapath.specs.Datapath.{world_of};
 ghost use Rattle.of_datapath.specs.Numbers.{forwarding_of};
+ghost use Rattle.of_diff.specs.declared.pair.Next.TheVariants.{Alike as AllAlike};
 ghost use Rattle.of_diff.specs.Agreeing.{AgreeFrom, GoOnAlike};
+ghost use Rattle.of_diff.specs.Emitting.{LeaveAlike};
 ghost use Rattle.of_diff.specs.Pairs.{NextIs};
 ghost use Rattle.of_diff.specs.SamePorts.{SamePorts};
 
 use crate::alike::Compared;
-use crate::emissions::send_the_same;
 use crate::ending::try_frame;
+use crate::leaving::leave_alike;
 use crate::pair::{Next, Pair};
 use of_classifier::Lookup;
 use of_datapath::Datapath;
 use of_symbolic_run::ended_states_give_runs;
 use std::alloc::{AllocError, Global};
+
+// What was sent decides: if it leaves alike, all frames are treated alike; else one of them runs on both switches.
+fn compare_sent<'a, L: Lookup>(
+    alloc: Global,
+    first: &Datapath<L>,
+    second: &Datapath<L>,
+    compared: Compared,
+    pair: Pair<'a>,
+    steps: usize,
+) -> Result<Next<'a>, AllocError>
+    requires { LeaveAlike compared (world_of (forwarding_of first.now)).ports pair.frames pair.first.emitted.items pair.second.emitted.items →
+        NextIs compared (world_of (forwarding_of first.now)) (world_of (forwarding_of second.now)) pair AllAlike }
+    ensures { IfOk result (NextIs compared (world_of (forwarding_of first.now)) (world_of (forwarding_of second.now)) pair.entry) }
+{
+    first.known_world();
+    let ports = first.port_list();
+    if leave_alike(
+        compared,
+        ports,
+        &pair.frames,
+        &pair.first.emitted,
+        &pair.second.emitted,
+    ) {
+        return Ok(Next::Alike);
+    }
+    try_frame(alloc, first, second, compared, pair, steps)
+}
 
 /// Both runs go on alike: if the same was sent, all frames are treated alike; else one of them runs on both switches.
 pub fn compare_rests<'a, L: Lookup>(
@@ -32,10 +61,7 @@ pub fn compare_rests<'a, L: Lookup>(
 {
     first.known_world();
     second.known_world();
-    if send_the_same(compared, &pair.first.emitted, &pair.second.emitted) {
-        return Ok(Next::Alike);
-    }
-    try_frame(alloc, first, second, compared, pair, steps)
+    compare_sent(alloc, first, second, compared, pair, steps)
 }
 
 /// Both runs are done: if the same was sent, all frames are treated alike; else one of them runs on both switches.
@@ -55,8 +81,5 @@ pub fn compare_ended<'a, L: Lookup>(
     first.known_world();
     second.known_world();
     ended_states_give_runs();
-    if send_the_same(compared, &pair.first.emitted, &pair.second.emitted) {
-        return Ok(Next::Alike);
-    }
-    try_frame(alloc, first, second, compared, pair, steps)
+    compare_sent(alloc, first, second, compared, pair, steps)
 }

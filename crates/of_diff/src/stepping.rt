@@ -14,8 +14,8 @@ use crate::alike::Compared;
 use crate::changing::changed_pairs;
 use crate::continuing::{go_on_alike, have_equal_tasks};
 use crate::cutting::{compare_ended, compare_rests};
-use crate::emissions::send_the_same;
 use crate::joining::joint_pairs;
+use crate::leaving::leave_alike;
 use crate::pair::{Next, Pair, step_first, step_second};
 use crate::tables::have_same_entries;
 use crate::turns::{Turn, are_at_table_before, next_turn};
@@ -61,9 +61,16 @@ fn look_up_in_both<'a, L: Lookup>(
     requires lookup { answer_to_tasks pair.first.tasks.items ≡ WantsLookup table }
     ensures { IfOk result (NextIs compared (world_of (forwarding_of first.now)) (world_of (forwarding_of second.now)) pair.entry) }
 {
+    first.known_world();
     if agreement.changed.are_few()
         && are_at_table_before(&pair.first, &pair.second, agreement.from)
-        && send_the_same(compared, &pair.first.emitted, &pair.second.emitted)
+        && leave_alike(
+            compared,
+            first.port_list(),
+            &pair.frames,
+            &pair.first.emitted,
+            &pair.second.emitted,
+        )
     {
         if let Some(pairs) = changed_pairs(alloc, first, second, agreement, &pair)? {
             return Ok(Next::Pairs(pairs));

@@ -1,10 +1,9 @@
-use Rattle.std.proofs.Common.{refl, sym}
 use Rattle.of_datapath.specs.Datapath.{world_of}
 use Rattle.of_datapath.specs.Numbers.{forwarding_of}
 use Rattle.of_diff.proofs.EndedLemmas.{ended_alike}
 use Rattle.of_diff.proofs.cutting.compare_ended.Goals as goal
 
-pub returns-then-send_the_same : goal.returns-then-send_the_same
-returns-then-send_the_same g c =
+pub compare_sent-requires : goal.compare_sent-requires
+compare_sent-requires g c =
     ended_alike c.args.compared (world_of (forwarding_of c.args.first.now)) (world_of (forwarding_of c.args.second.now)) c.args.pair c.ended_states_give_runs.ensures.items c.known_world.ensures c.known_world-2.ensures
-    c.requires.ports c.requires.first c.requires.second (rw (sym c.deref.ensures.value, sym c.deref-2.ensures.value) (c.if-send_the_same.ensures refl))
+    c.requires.ports c.requires.first c.requires.second

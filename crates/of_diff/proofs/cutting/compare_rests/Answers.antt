@@ -1,10 +1,9 @@
-use Rattle.std.proofs.Common.{refl, sym}
 use Rattle.of_datapath.specs.Datapath.{world_of}
 use Rattle.of_datapath.specs.Numbers.{forwarding_of}
 use Rattle.of_diff.proofs.CutLemmas.{go_on_treated_alike}
 use Rattle.of_diff.proofs.cutting.compare_rests.Goals as goal
 
-pub returns-then-send_the_same : goal.returns-then-send_the_same
-returns-then-send_the_same g c =
+pub compare_sent-requires : goal.compare_sent-requires
+compare_sent-requires g c =
     go_on_treated_alike c.args.compared (world_of (forwarding_of c.args.first.now)) (world_of (forwarding_of c.args.second.now)) c.args.table c.known_world.ensures c.known_world-2.ensures
-    c.requires.ports c.requires.agree c.args.pair c.requires.alike (rw (sym c.deref.ensures.value, sym c.deref-2.ensures.value) (c.if-send_the_same.ensures refl))
+    c.requires.ports c.requires.agree c.args.pair c.requires.alike

@@ -1,0 +1,12 @@
+use Rattle.std.proofs.Common.{subst, take_all}
+use Rattle.std.specs.List.{All}
+use Rattle.std.proofs.lemmas.List.Elements.{All-more}
+use Rattle.of_diff.specs.Emitting.{IsAlikeBy}
+use Rattle.of_diff.proofs.sending.are_alike_by.Goals as goal
+
+pub loop-port-preserved : goal.loop-port-preserved
+loop-port-preserved c =
+    All-more (IsAlikeBy c.args.ingress c.args.a.now c.args.b.now) c.args.ports.now c.loop-port.port-index _ c.loop-port-test.true c.loop-port.invariant (c.is_alike_by.ensures c.if-not-is_alike_by.false)
+
+pub returns : goal.returns
+returns c = λ yes. subst (All (IsAlikeBy c.args.ingress c.args.a.now c.args.b.now)) (take_all c.loop-port.port-index c.args.ports.now c.loop-port-test.false) c.loop-port.invariant
