@@ -5,7 +5,8 @@ use Rattle.std.specs.List.{Contains}
 use Rattle.std.proofs.lemmas.List.Elements.{Contains-append_cases, Contains-append_left, Contains-append_right, Contains-push, Contains-push_cases}
 use Rattle.of_machine.specs.TheWorld.{TheWorld}
 use Rattle.of_symbolic_run.specs.declared.frame_set.FrameSet.{FrameSet}
-use Rattle.of_symbolic_run.specs.FrameSets.{InFrames}
+use Rattle.of_oxm.specs.declared.match_field.MatchField.{MatchField}
+use Rattle.of_symbolic_run.specs.FrameSets.{AreFramesMatching, InFrames}
 use Rattle.of_symbolic_switch.specs.Received.{IsReceivedAt, items_at}
 use Rattle.of_diff.specs.Alike.{DiffersAt}
 use Rattle.of_diff.specs.Differences.{InDifferences, InSets, IsDifference, SomeDiffers}
@@ -13,6 +14,8 @@ use Rattle.of_diff.specs.Pairs.{PutsDifference, place_of_difference}
 use Rattle.of_diff.specs.declared.alike.Compared.{Compared}
 use Rattle.of_diff.specs.declared.alike.Where.{Where}
 use Rattle.of_diff.specs.declared.difference.Difference.{Difference}
+use Rattle.of_diff.specs.declared.ending.FrameShown.{FrameShown}
+use Rattle.of_diff.specs.Shown.{IsShown}
 
 none_contained : {A : Type 0} (x : A) → Contains {X = A} [] x → ⊥
 none_contained x h = absurd (omega (arith, h.1))
@@ -43,6 +46,17 @@ one_set_differs c w v d s sets within received received' first second differs = 
   where
     differs_there : DiffersAt c d.at (items_at w d.frame.items d.in_port) (items_at v d.frame.items d.in_port)
     differs_there = rw (sym first, sym second) differs
+
+-- a frame of some of the frames of a set is one of the set
+pub shown_in_more : (c : Compared) (w v : TheWorld) (m : List MatchField) (old new : FrameSet) (x : FrameShown) → AreFramesMatching m old new → IsShown c w v new x → IsShown c w v old x
+shown_in_more c w v m old new x some h = record {
+  within = (some.within x.frame.items x.in_port h.within).0;
+  received_first = h.received_first;
+  received_second = h.received_second;
+  first = h.first;
+  second = h.second;
+  differs = h.differs;
+}
 
 -- ---- a further difference
 

@@ -13,6 +13,7 @@ use Rattle.of_oxm.specs.declared.match_field.MatchField.{MatchField}
 use Rattle.of_oxm.specs.Relations.{agrees, bits_looked_at, matches_map}
 use Rattle.of_regions.specs.declared.meeting.Meeting.TheVariants.{Apart, Whole}
 use Rattle.of_regions.specs.declared.region.Region.{Region}
+use Rattle.of_regions.specs.Conditions.{AreConditions}
 use Rattle.of_regions.specs.Meeting.{Meets}
 use Rattle.of_regions.specs.Regions.{InRegion}
 use Rattle.of_symbolic.specs.Parts.{received_fields}
@@ -23,6 +24,10 @@ use Rattle.of_diff.specs.IngressPorts.{HasNoneFrom, MatchesAllFrom, came_in_by}
 within_port : (port : ℕ) → port < 2 ^ 32 → bit_and port (ones_of InPort) ≡ port
 unfolding row_of
 within_port port fits = under_ones InPort port (omega (arith, fits))
+
+pub came_is_condition : (port : ℕ) → port < 2 ^ 32 → (e : MatchField) → e ≡ came_in_by port → AreConditions (e ∷ [])
+unfolding row_of
+came_is_condition port fits e is = rw is (record { within = within_port (ones_of InPort) (omega arith); value = within_port port fits }, tt)
 
 met_from : (port : ℕ) → port < 2 ^ 32 → (fields : Field → Option ℕ) → fields InPort ≡ Some port → matches_map (came_in_by port ∷ []) fields ≡ true
 met_from port fits fields from = ap (λ o. agrees (came_in_by port) o && true) from ∙ ap (λ b. b && true) (eq-eqb (bit_and port (ones_of InPort)) port (within_port port fits))

@@ -7,4 +7,5 @@ pub mod Emitting
 pub mod IngressPorts
 pub mod Differences
 pub mod Pairs
+pub mod Shown
 pub mod Changing

@@ -9,8 +9,8 @@ ghost use Rattle.of_diff.specs.Pairs.{NextIs};
 ghost use Rattle.of_diff.specs.SamePorts.{SamePorts};
 
 use crate::alike::Compared;
-use crate::ending::try_frame;
-use crate::leaving::leave_alike;
+use crate::ending::try_pair;
+use crate::leaving::other_ingress;
 use crate::pair::{Next, Pair};
 use of_classifier::Lookup;
 use of_datapath::Datapath;
@@ -32,16 +32,16 @@ fn compare_sent<'a, L: Lookup>(
 {
     first.known_world();
     let ports = first.port_list();
-    if leave_alike(
+    match other_ingress(
         compared,
         ports,
         &pair.frames,
         &pair.first.emitted,
         &pair.second.emitted,
     ) {
-        return Ok(Next::Alike);
+        None => Ok(Next::Alike),
+        Some(ingress) => try_pair(alloc, first, second, compared, pair, ingress, steps),
     }
-    try_frame(alloc, first, second, compared, pair, steps)
 }
 
 /// Both runs go on alike: if the same was sent, all frames are treated alike; else one of them runs on both switches.

@@ -39,7 +39,7 @@ pub enum Why {
     Steps,
     /// The search for a frame among them took as many steps as it may, or found none with a port of the switches.
     Search,
-    /// The actions on the frames differ, but what they made of the frame that was run is the same.
+    /// The actions on the frames differ, but what they made of each frame that was run is the same.
     OtherActions,
 }
 

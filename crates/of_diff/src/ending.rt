@@ -8,15 +8,40 @@ ghost use Rattle.of_symbolic_run.specs.FrameSets.{InFrames};
 ghost use Rattle.of_diff.specs.declared.alike.Compared.{Compared as WhatIsCompared};
 ghost use Rattle.of_diff.specs.declared.pair.Pair.{Pair as ThePair};
 ghost use Rattle.of_diff.specs.Pairs.{NextIs};
+ghost use Rattle.of_diff.specs.Shown.{IsShown, TriedIs};
 
-use crate::alike::{Compared, first_difference};
+use crate::alike::{Compared, Where, first_difference};
 use crate::difference::{Difference, EmittedByBoth, Undecided, Why};
+use crate::ingress::ingress_condition;
 use crate::pair::{Next, Pair};
 use of_classifier::Lookup;
 use of_datapath::Datapath;
+use of_machine::Items;
 use of_symbolic_run::{FrameFound, FrameSet};
 use of_symbolic_switch::receiving_port;
 use std::alloc::{AllocError, Global};
+
+/// A frame for which something else leaves, and where.
+#[derive(Drop)]
+pub struct FrameShown {
+    pub frame: Vec<u8>,
+    pub in_port: u32,
+    pub at: Where,
+    /// What leaves the first switch.
+    pub first: Items,
+    /// What leaves the second switch.
+    pub second: Items,
+}
+
+/// What comes of a search for a frame of a set, which runs on both switches.
+#[derive(Drop)]
+pub enum Tried {
+    Shown(FrameShown),
+    /// There is no frame.
+    Empty,
+    /// No frame was found for which something else leaves.
+    Undecided(Why),
+}
 
 /// It is not known whether these frames are treated alike.
 pub fn not_decided<'a>(frames: FrameSet, why: Why) -> Next<'a>
@@ -34,39 +59,59 @@ fn one_set(alloc: Global, frames: FrameSet) -> Result<Vec<FrameSet>, AllocError>
     Ok(sets)
 }
 
-// A frame of the pair runs on both switches.
-fn run_both<'a, L: Lookup>(
-    alloc: Global,
-    first: &Datapath<L>,
-    second: &Datapath<L>,
-    compared: Compared,
-    pair: Pair<'a>,
-    frame: Vec<u8>,
-    in_port: u32,
-) -> Result<Next<'a>, AllocError>
-    requires frame_is { IsFrame frame.items }
-    requires short { length frame.items ≤ 9216 }
-    requires within { InFrames pair.frames frame.items in_port }
-    ensures { IfOk result (NextIs compared (world_of (forwarding_of first.now)) (world_of (forwarding_of second.now)) pair.entry) }
+// Something else leaves for a frame of the pair.
+fn differs<'a>(alloc: Global, pair: Pair<'a>, shown: FrameShown) -> Result<Next<'a>, AllocError>
+    ensures { IfOk result (λ next. (c : WhatIsCompared) (w v : TheWorld) → IsShown c w v pair.entry.frames shown → NextIs c w v pair.entry next) }
 {
     let Pair {
         frames,
         first: one,
         second: other,
     } = pair;
+    let FrameShown {
+        frame,
+        in_port,
+        at,
+        first,
+        second,
+    } = shown;
+    Ok(Next::Differs(Difference {
+        sets: one_set(alloc, frames)?,
+        emitted: EmittedByBoth {
+            first: one.emitted,
+            second: other.emitted,
+        },
+        frame,
+        in_port,
+        at,
+        first,
+        second,
+    }))
+}
+
+// A frame of a set runs on both switches.
+fn run_both<L: Lookup>(
+    alloc: Global,
+    first: &Datapath<L>,
+    second: &Datapath<L>,
+    compared: Compared,
+    frames: &FrameSet,
+    frame: Vec<u8>,
+    in_port: u32,
+) -> Result<Tried, AllocError>
+    requires frame_is { IsFrame frame.items }
+    requires short { length frame.items ≤ 9216 }
+    requires within { InFrames frames.now frame.items in_port }
+    ensures { IfOk result (TriedIs compared (world_of (forwarding_of first.now)) (world_of (forwarding_of second.now)) frames.now) }
+{
     if !receiving_port(first.port_list(), in_port) || !receiving_port(second.port_list(), in_port) {
-        return Ok(not_decided(frames, Why::Search));
+        return Ok(Tried::Undecided(Why::Search));
     }
     let left = first.received_items(alloc, in_port, &frame)?;
     let right = second.received_items(alloc, in_port, &frame)?;
     match first_difference(alloc, compared, &left, &right)? {
-        None => Ok(not_decided(frames, Why::OtherActions)),
-        Some(at) => Ok(Next::Differs(Difference {
-            sets: one_set(alloc, frames)?,
-            emitted: EmittedByBoth {
-                first: one.emitted,
-                second: other.emitted,
-            },
+        None => Ok(Tried::Undecided(Why::OtherActions)),
+        Some(at) => Ok(Tried::Shown(FrameShown {
             frame,
             in_port,
             at,
@@ -76,22 +121,81 @@ fn run_both<'a, L: Lookup>(
     }
 }
 
-/// A frame of the pair is searched, in so many steps at most, and runs on both switches.
-pub fn try_frame<'a, L: Lookup>(
+// A frame of a set is searched, in so many steps at most, and runs on both switches.
+fn try_frame<L: Lookup>(
+    alloc: Global,
+    first: &Datapath<L>,
+    second: &Datapath<L>,
+    compared: Compared,
+    frames: &FrameSet,
+    steps: usize,
+) -> Result<Tried, AllocError>
+    ensures { IfOk result (TriedIs compared (world_of (forwarding_of first.now)) (world_of (forwarding_of second.now)) frames.now) }
+{
+    match frames.find(alloc, steps)? {
+        FrameFound::Frame { frame, in_port } => {
+            run_both(alloc, first, second, compared, frames, frame, in_port)
+        }
+        FrameFound::Empty => Ok(Tried::Empty),
+        FrameFound::Undecided => Ok(Tried::Undecided(Why::Search)),
+    }
+}
+
+// A frame of the set that came in by this port.
+fn try_frame_from<L: Lookup>(
+    alloc: Global,
+    first: &Datapath<L>,
+    second: &Datapath<L>,
+    compared: Compared,
+    frames: &FrameSet,
+    ingress: u32,
+    steps: usize,
+) -> Result<Tried, AllocError>
+    ensures { IfOk result (TriedIs compared (world_of (forwarding_of first.now)) (world_of (forwarding_of second.now)) frames.now) }
+{
+    let from = frames.matching(alloc, &[ingress_condition(ingress)])?;
+    match try_frame(alloc, first, second, compared, &from, steps)? {
+        Tried::Shown(shown) => Ok(Tried::Shown(shown)),
+        Tried::Empty | Tried::Undecided(_) => Ok(Tried::Undecided(Why::OtherActions)),
+    }
+}
+
+// Any frame of the set, and if nothing else leaves for it, one that came in by this port.
+fn try_frames<L: Lookup>(
+    alloc: Global,
+    first: &Datapath<L>,
+    second: &Datapath<L>,
+    compared: Compared,
+    frames: &FrameSet,
+    ingress: u32,
+    steps: usize,
+) -> Result<Tried, AllocError>
+    ensures { IfOk result (TriedIs compared (world_of (forwarding_of first.now)) (world_of (forwarding_of second.now)) frames.now) }
+{
+    match try_frame(alloc, first, second, compared, frames, steps)? {
+        Tried::Undecided(Why::OtherActions) => {
+            try_frame_from(alloc, first, second, compared, frames, ingress, steps)
+        }
+        tried => Ok(tried),
+    }
+}
+
+/// A frame of the pair is searched, in so many steps at most, and runs on both switches. If nothing else leaves for it, so does one that came in by the
+/// ingress port, for which the runs sent something else.
+pub fn try_pair<'a, L: Lookup>(
     alloc: Global,
     first: &Datapath<L>,
     second: &Datapath<L>,
     compared: Compared,
     pair: Pair<'a>,
+    ingress: u32,
     steps: usize,
 ) -> Result<Next<'a>, AllocError>
     ensures { IfOk result (NextIs compared (world_of (forwarding_of first.now)) (world_of (forwarding_of second.now)) pair.entry) }
 {
-    match pair.frames.find(alloc, steps)? {
-        FrameFound::Frame { frame, in_port } => {
-            run_both(alloc, first, second, compared, pair, frame, in_port)
-        }
-        FrameFound::Empty => Ok(Next::Alike),
-        FrameFound::Undecided => Ok(not_decided(pair.frames, Why::Search)),
+    match try_frames(alloc, first, second, compared, &pair.frames, ingress, steps)? {
+        Tried::Shown(shown) => differs(alloc, pair, shown),
+        Tried::Empty => Ok(Next::Alike),
+        Tried::Undecided(why) => Ok(not_decided(pair.frames, why)),
     }
 }

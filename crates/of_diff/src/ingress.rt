@@ -2,6 +2,7 @@
 ghost use Rattle.std.specs.Prelude.{◌≡◌, ◌∷◌, ℕ, List, [], true};
 ghost use Rattle.std.specs.List.{All};
 ghost use Rattle.of_regions.specs.declared.meeting.Meeting.TheVariants.{Apart, Whole};
+ghost use Rattle.of_regions.specs.Conditions.{AreConditions};
 ghost use Rattle.of_regions.specs.Meeting.{Meets};
 ghost use Rattle.of_symbolic_run.specs.FrameSets.{InFrames};
 ghost use Rattle.of_diff.specs.IngressPorts.{HasNoneFrom, MatchesAllFrom, came_in_by};
@@ -13,7 +14,8 @@ use of_symbolic_run::FrameSet;
 
 /// The condition that a packet came in by this port.
 pub fn ingress_condition(port: u32) -> MatchField
-    ensures { result ≡ came_in_by port }
+    ensures is { result ≡ came_in_by port }
+    ensures conditions { AreConditions (result ∷ []) }
 {
     MatchField {
         field: Field::InPort,

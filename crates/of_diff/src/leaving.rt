@@ -1,5 +1,5 @@
 //! Whether the same leaves two switches, for all frames of a set.
-ghost use Rattle.std.specs.Prelude.{◌≡◌, ℕ, List, [], IsTrue, true};
+ghost use Rattle.std.specs.Prelude.{◌≡◌, ℕ, List, [], IfNone, IsTrue, true};
 ghost use Rattle.std.specs.List.{All};
 ghost use Rattle.of_actions.specs.Rising.{is_ascending};
 ghost use Rattle.of_ports.specs.Ports.{number_of_port};
@@ -72,23 +72,23 @@ fn is_alike_from(
     !port.may_receive() || are_alike_from(compared, ports, frames, port.number, a, b)
 }
 
-// Whether it does for each port.
-fn are_alike_from_each(
+// The first port that receives by which frames of the set may come in for which something else leaves.
+fn first_ingress(
     compared: Compared,
     ports: &[Port],
     frames: &FrameSet,
     a: &[Emission],
     b: &[Emission],
-) -> bool
+) -> Option<u32>
     requires { IsTrue (is_ascending number_of_port ports.now) }
-    ensures { result ≡ true → All (IsAlikeFrom compared ports.now frames.now a.now b.now) ports.now }
+    ensures { IfNone result (All (IsAlikeFrom compared ports.now frames.now a.now b.now) ports.now) }
 {
     for port in ports {
         if !is_alike_from(compared, ports, frames, port, a, b) {
-            return false;
+            return Some(port.number);
         }
     }
-    true
+    None
 }
 
 // What follows in two lists after all that they begin with in common.
@@ -109,10 +109,28 @@ fn are_empty(a: &[Emission], b: &[Emission]) -> bool
     a.is_empty() && b.is_empty()
 }
 
-/// Whether what two runs emit leaves by the same ports in the same order, and goes to the controller if that is compared, for each frame of the set that
-/// comes in by a port that receives (OpenFlow 1.3.5, 5.1 and 7.2.1).
+/// A port by which frames of the set may come in for which two runs send something else: by a port, by the actions on the frame, or to the controller, if
+/// that is compared. None if for each frame of the set that comes in by a port that receives the same leaves (OpenFlow 1.3.5, 5.1 and 7.2.1).
 ///
-/// What follows after a common beginning is compared by each pair of ports, unless it is nothing.
+/// What follows after a common beginning is compared for each pair of ports, unless it is nothing.
+pub fn other_ingress(
+    compared: Compared,
+    ports: &[Port],
+    frames: &FrameSet,
+    a: &[Emission],
+    b: &[Emission],
+) -> Option<u32>
+    requires { IsTrue (is_ascending number_of_port ports.now) }
+    ensures { IfNone result (LeaveAlike compared ports.now frames.now a.now b.now) }
+{
+    let (left, right) = rests(a, b);
+    if are_empty(left, right) {
+        return None;
+    }
+    first_ingress(compared, ports, frames, left, right)
+}
+
+/// Whether the same leaves for each frame of the set that comes in by a port that receives (OpenFlow 1.3.5, 5.1 and 7.2.1).
 pub fn leave_alike(
     compared: Compared,
     ports: &[Port],
@@ -123,6 +141,5 @@ pub fn leave_alike(
     requires { IsTrue (is_ascending number_of_port ports.now) }
     ensures { result ≡ true → LeaveAlike compared ports.now frames.now a.now b.now }
 {
-    let (left, right) = rests(a, b);
-    are_empty(left, right) || are_alike_from_each(compared, ports, frames, left, right)
+    other_ingress(compared, ports, frames, a, b).is_none()
 }

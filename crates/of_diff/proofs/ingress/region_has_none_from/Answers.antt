@@ -8,4 +8,4 @@ returns-then-match_all_from c = λ yes.
     (c.match_all_from.ensures c.if-match_all_from.true)
 
 pub returns : goal.returns
-returns c = λ yes. away_from c.args.lacks.now c.args.region.now c.args.port c.ingress_condition.result c.ranges.port.fits c.ingress_condition.ensures (c.never_matches.ensures yes)
+returns c = λ yes. away_from c.args.lacks.now c.args.region.now c.args.port c.ingress_condition.result c.ranges.port.fits c.ingress_condition.ensures.is (c.never_matches.ensures yes)

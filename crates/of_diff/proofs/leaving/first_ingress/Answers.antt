@@ -2,11 +2,11 @@ use Rattle.std.proofs.Common.{subst, take_all}
 use Rattle.std.specs.List.{All}
 use Rattle.std.proofs.lemmas.List.Elements.{All-more}
 use Rattle.of_diff.specs.Emitting.{IsAlikeFrom}
-use Rattle.of_diff.proofs.leaving.are_alike_from_each.Goals as goal
+use Rattle.of_diff.proofs.leaving.first_ingress.Goals as goal
 
 pub loop-port-preserved : goal.loop-port-preserved
 loop-port-preserved c =
     All-more (IsAlikeFrom c.args.compared c.args.ports.now c.args.frames.now c.args.a.now c.args.b.now) c.args.ports.now c.loop-port.port-index _ c.loop-port-test.true c.loop-port.invariant (c.is_alike_from.ensures c.if-not-is_alike_from.false)
 
 pub returns : goal.returns
-returns c = λ yes. subst (All (IsAlikeFrom c.args.compared c.args.ports.now c.args.frames.now c.args.a.now c.args.b.now)) (take_all c.loop-port.port-index c.args.ports.now c.loop-port-test.false) c.loop-port.invariant
+returns c = subst (All (IsAlikeFrom c.args.compared c.args.ports.now c.args.frames.now c.args.a.now c.args.b.now)) (take_all c.loop-port.port-index c.args.ports.now c.loop-port-test.false) c.loop-port.invariant
