@@ -41,7 +41,7 @@ fn leave_alike_from(
     tell_alike(compared, ingress, a, b) && send_alike_from(ports, ingress, a, b)
 }
 
-// Whether it leaves for each frame of the set that came in by this port.
+// Whether it does for each frame of the set that came in by this port.
 fn are_alike_from(
     compared: Compared,
     ports: &[Port],
@@ -57,7 +57,7 @@ fn are_alike_from(
     leave_alike_from(compared, ports, ingress, a, b) || has_none_from(frames, ingress)
 }
 
-// Whether it does if the port receives.
+// Whether it does for each of them if the port receives.
 fn is_alike_from(
     compared: Compared,
     ports: &[Port],
@@ -72,7 +72,7 @@ fn is_alike_from(
     !port.may_receive() || are_alike_from(compared, ports, frames, port.number, a, b)
 }
 
-// The first port that receives by which frames of the set may come in for which something else leaves.
+// The first port that receives, and by which frames of the set may come in for which something else leaves.
 fn first_ingress(
     compared: Compared,
     ports: &[Port],
@@ -103,6 +103,7 @@ fn rests<'a>(a: &'a [Emission], b: &'a [Emission]) -> (&'a [Emission], &'a [Emis
     (left, right)
 }
 
+// Whether nothing is emitted.
 fn are_empty(a: &[Emission], b: &[Emission]) -> bool
     ensures { result ≡ true → (a.now ≡ []) × (b.now ≡ []) }
 {

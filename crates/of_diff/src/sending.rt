@@ -1,6 +1,5 @@
 //! What two runs emit for a frame that came in by one port, at one place and by each port.
 ghost use Rattle.std.specs.Prelude.{◌≡◌, ◌∷◌, ◌<◌, [], IfNone, IfSome, length, true};
-ghost use Rattle.std.specs.List.{All};
 ghost use Rattle.of_diff.specs.Emitting.{EmitAlikeAt, IsAlikeBy, IsSameAt, SendAlikeFrom, emits_at, emitting_at, is_for_controller, output_goes_by, rewrites_of};
 
 use crate::alike::Where;
@@ -106,9 +105,9 @@ fn is_alike_by(port: &Port, ingress: u32, a: &[Emission], b: &[Emission]) -> boo
     !port.may_send() || emit_alike_at(ingress, Where::Port(port.number), a, b)
 }
 
-// Whether the same is sent by each of the ports that may send.
-fn are_alike_by(ports: &[Port], ingress: u32, a: &[Emission], b: &[Emission]) -> bool
-    ensures { result ≡ true → All (IsAlikeBy ingress a.now b.now) ports.now }
+/// Whether two runs send the same by each port, by the actions on the frame, for frames that came in by this port.
+pub fn send_alike_from(ports: &[Port], ingress: u32, a: &[Emission], b: &[Emission]) -> bool
+    ensures { result ≡ true → SendAlikeFrom ports.now ingress a.now b.now }
 {
     for port in ports {
         if !is_alike_by(port, ingress, a, b) {
@@ -116,11 +115,4 @@ fn are_alike_by(ports: &[Port], ingress: u32, a: &[Emission], b: &[Emission]) ->
         }
     }
     true
-}
-
-/// Whether two runs send the same by each port, by the actions on the frame, for frames that came in by this port.
-pub fn send_alike_from(ports: &[Port], ingress: u32, a: &[Emission], b: &[Emission]) -> bool
-    ensures { result ≡ true → SendAlikeFrom ports.now ingress a.now b.now }
-{
-    are_alike_by(ports, ingress, a, b)
 }
