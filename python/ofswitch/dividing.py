@@ -18,6 +18,7 @@ def paths(
     *,
     port: int | None = None,
     match: str | None = None,
+    each: bool = False,
     to: int | str | None = None,
     steps: int | None = None,
     program: StrPath | None = None,
@@ -27,10 +28,12 @@ def paths(
 
     The switch is a text, or the path of a file (a `pathlib.Path`): flow text, an event file, or what `ovs-ofctl` prints. With
     `port` only frames that come in by that port are divided, and with `match` those that match: `"ip,nw_dst=10.0.0.0/8"`. With
-    `to` only paths are returned that lead there: the number of a port, `"controller"` or `"drop"`. `steps` is that of `--steps`.
-    ValueError if an argument or the text has a fault.
+    `each` each set of frames is a path of its own, with a frame of it. With `to` only paths are returned that lead there: the
+    number of a port, `"controller"` or `"drop"`. `steps` is that of `--steps`. ValueError if an argument or the text has a fault.
     """
     given = {"--port": port, "--match": match, "--to": to, "--steps": steps}
     options = [word for name, value in given.items() if value is not None for word in (name, str(value))]
+    if each:
+        options.append("--each")
     with file_of(switch) as file:
         return document_of([find(program), "paths", "--json", *options, file], timeout, (0, _UNDECIDED), (_BAD_ARGUMENT, _BAD_FILE))

@@ -180,10 +180,16 @@ class Switch:
         return diff(self._events(), other._events(), frames=frames, steps=steps, program=self._program)
 
     def paths(
-        self, *, port: int | None = None, match: str | None = None, to: int | str | None = None, steps: int | None = None
+        self,
+        *,
+        port: int | None = None,
+        match: str | None = None,
+        each: bool = False,
+        to: int | str | None = None,
+        steps: int | None = None,
     ) -> dict[str, Any]:
         """The steps that the frames take that this switch receives, as it is now (docs/PATHS.md), as `ofswitch.paths` returns them."""
-        return paths(self._events(), port=port, match=match, to=to, steps=steps, program=self._program)
+        return paths(self._events(), port=port, match=match, each=each, to=to, steps=steps, program=self._program)
 
     def frame_of(self, words: str) -> bytes:
         """The frame that has these fields: "tcp,nw_src=10.0.0.1,tp_dst=80" (docs/TRACE.md). ValueError if there is none.

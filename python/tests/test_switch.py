@@ -395,6 +395,10 @@ def test_frames_are_divided_by_their_steps(switch):
     frame = bytes.fromhex(path["frame"])
     assert (path["in_port"], path["items"]) == (1, [{"port": "2", "frame": path["frame"]}])
     assert switch.frame(1, frame) == [Sent(2, frame)]
+    # a path for each of them, with a frame that hits its flow
+    each = switch.paths(each=True, to=2)["paths"]
+    assert sorted(hit["entry"] for path in each for [hit] in path["hits"]) == [0, 1]
+    assert sorted(path["frame"][24:28] for path in each) == ["0800", "0806"]
     [dropped] = switch.paths(port=2)["paths"]
     assert dropped["items"] == [] and dropped["hits"] == [[{"table": 0, "entry": 2}]]
     assert switch.paths(port=1, match="arp")["paths"][0]["hits"][0] == [{"table": 0, "entry": 0}]

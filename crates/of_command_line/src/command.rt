@@ -157,7 +157,8 @@ const PATHS: &str =
     "FILE is a flow text (`ofswitch asm --help`), an event file (`ofswitch replay --help`), or what ovs-ofctl prints (`ofswitch import
 --help`); the first word that is not in a comment says which. The switch of a flow text or a table of ovs-ofctl has its groups and
 flows, and ports 1 to 64, all of whose links are up; that of an event file is the one after its rows. All frames that it receives
-are divided into sets whose frames take the same steps. Sets whose steps differ only in which entries are hit are one path:
+are divided into sets whose frames take the same steps. Sets whose steps differ only in which entries are hit are one path; with
+--each, each set is a path of its own:
 
   path: in_port 1, eth 00:00:00:00:00:00 > 02:00:00:00:00:a1, eth_type 0x0806, ...
       frame: --port 1 0200000000a1...   a frame of the first set, as `trace` takes it; it was run
@@ -490,7 +491,7 @@ const DIFF: [Argument; 5] = [
     },
 ];
 
-const PATHS_ARGUMENTS: [Argument; 6] = [
+const PATHS_ARGUMENTS: [Argument; 7] = [
     Argument {
         name: "FILE",
         kind: Kind::Positional,
@@ -505,6 +506,11 @@ const PATHS_ARGUMENTS: [Argument; 6] = [
         name: "match",
         kind: Kind::Optional("match", "WORDS"),
         help: "Only frames that these words match, such as ip,nw_dst=10.0.0.0/8 (ovs-fields(7))",
+    },
+    Argument {
+        name: "each",
+        kind: Kind::Flag("each"),
+        help: "Print a path for each set of frames, with a frame of each",
     },
     Argument {
         name: "to",

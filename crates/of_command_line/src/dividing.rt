@@ -15,6 +15,8 @@ pub struct PathsAsked {
     pub port: Option<u32>,
     /// Only frames that these words match; empty words match each frame.
     pub within: String,
+    /// Whether each set of frames is a path of its own.
+    pub each: bool,
     /// Only paths that lead there are printed.
     pub to: Option<Leading>,
     /// After how many of them frames are given up.
@@ -55,6 +57,7 @@ pub(crate) fn paths_of(alloc: Global, matches: &ArgMatches<'_>) -> Result<PathsA
         file: matches.get_str("FILE").unwrap_or("-").to_string(alloc)?,
         port,
         within: matches.get_str("match").unwrap_or("").to_string(alloc)?,
+        each: matches.get_flag("each"),
         to: leading_of(alloc, matches.get_str("to"))?,
         steps: steps_of(alloc, matches.get_str("steps"))?,
         json: matches.get_flag("json"),

@@ -1,8 +1,7 @@
 -- The condition that a frame comes in by a port.
-use Rattle.std.proofs.Common.{◌≡◌, ◌<◌, ◌^◌, ℕ, None, arith}
+use Rattle.std.proofs.Common.{◌<◌, ◌^◌, ℕ, None, arith}
 use Rattle.of_layers.specs.Fields.{ones_of, row_of}
 use Rattle.of_layers.specs.declared.field.Field.TheVariants.{InPort}
-use Rattle.of_oxm.specs.declared.match_field.MatchField.{MatchField}
 use Rattle.of_oxm.proofs.Normal.{under_ones}
 use Rattle.of_regions.specs.Conditions.{IsCondition}
 

@@ -10,13 +10,15 @@ use Rattle.of_machine.specs.declared.data.Step.{Step}
 use Rattle.of_machine.specs.TheWorld.{TheWorld}
 use Rattle.of_symbolic_run.specs.FrameSets.{InFrames}
 use Rattle.of_symbolic_switch.specs.Received.{IsReceivedAt, items_at}
+use Rattle.of_paths.specs.declared.path.Merging.{Merging}
+use Rattle.of_paths.specs.declared.path.Merging.TheVariants.{Each, SameWay}
 use Rattle.of_paths.specs.declared.path.Path.{Path}
 use Rattle.of_paths.specs.declared.path.PathClass.{PathClass}
 use Rattle.of_paths.specs.declared.path.Paths.{Paths}
 use Rattle.of_paths.specs.declared.path.UndecidedFrames.{UndecidedFrames}
 use Rattle.of_paths.specs.declared.path.WhyUndecided.TheVariants.{Search}
-use Rattle.of_paths.specs.Paths.{AreMatched, InFirstPath, InPaths, IsPath, IsPathClass}
-use Rattle.of_paths.specs.SoFar.{AreFoundSoFar, IsFoundIn, PutsPath}
+use Rattle.of_paths.specs.Paths.{AreMatched, AreMerged, InFirstPath, InPaths, IsPath, IsPathClass}
+use Rattle.of_paths.specs.SoFar.{AreFoundSoFar, IsFoundIn, IsOtherWay, PutsAlone, PutsPath}
 use Rattle.of_paths.specs.Ways.{AreApart, class_way, paths_way, way_of}
 use Rattle.of_paths.proofs.WayLemmas.{apart_more}
 
@@ -32,10 +34,10 @@ more_undecided old new u classes undecided frame port (inr h) = inr (h.0, subst 
 pub last_undecided : (old new : Paths) (u : UndecidedFrames) → new.undecided.items ≡ old.undecided.items ++ u ∷ [] → (frame : List ℕ) (port : ℕ) → InFrames u.frames frame port → IsFoundIn new frame port
 last_undecided old new u undecided frame port h = inr (u, subst (λ (l : List UndecidedFrames). Contains l u) (sym undecided) (Contains-push old.undecided.items u), h)
 
-pub found_undecided : (w : TheWorld) (within : List MatchField) (old new : Paths) (u : UndecidedFrames) → new.classes.items ≡ old.classes.items → new.undecided.items ≡ old.undecided.items ++ u ∷ [] → AreMatched within u.frames → AreFoundSoFar w within old → AreFoundSoFar w within new
-found_undecided w within old new u classes undecided inside h = record {
+pub found_undecided : (m : Merging) (w : TheWorld) (within : List MatchField) (old new : Paths) (u : UndecidedFrames) → new.classes.items ≡ old.classes.items → new.undecided.items ≡ old.undecided.items ++ u ∷ [] → AreMatched within u.frames → AreFoundSoFar m w within old → AreFoundSoFar m w within new
+found_undecided m w within old new u classes undecided inside h = record {
   classes = λ c there. h.classes c (subst (λ (l : List PathClass). Contains l c) classes there);
-  apart = subst (λ (l : List PathClass). AreApart (map class_way l)) (sym classes) h.apart;
+  merged = subst (AreMerged m) (sym classes) h.merged;
   undecided = λ v there. elim (Contains-push_cases old.undecided.items u v (subst (λ (l : List UndecidedFrames). Contains l v) undecided there)) as (λ x. AreMatched within v.frames) [
     | inl before ↦ h.undecided v before
     | inr same ↦ subst (λ (x : UndecidedFrames). AreMatched within x.frames) same inside
@@ -43,20 +45,20 @@ found_undecided w within old new u classes undecided inside h = record {
 }
 
 module _ (w : TheWorld) (p : Path) where
-  pub puts_undecided : (old new : Paths) (u : UndecidedFrames) → new.classes.items ≡ old.classes.items → new.undecided.items ≡ old.undecided.items ++ u ∷ [] → u.frames ≡ p.frames → PutsPath w p old new
-  puts_undecided old new u classes undecided frames = record {
-    found = λ within is h. found_undecided w within old new u classes undecided (rw frames is.matched) h;
+  pub puts_undecided : (old new : Paths) (u : UndecidedFrames) → new.classes.items ≡ old.classes.items → new.undecided.items ≡ old.undecided.items ++ u ∷ [] → u.frames ≡ p.frames → PutsAlone w p old new
+  puts_undecided old new u classes undecided frames m other = record {
+    found = λ within is h. found_undecided m w within old new u classes undecided (rw frames is.matched) h;
     own = λ frame port received inside. last_undecided old new u undecided frame port (rw frames inside);
     kept = more_undecided old new u classes undecided;
   }
 
-  pub puts_unfound : (old new : Paths) → new.classes ≡ old.classes → new.undecided.items ≡ old.undecided.items ++ record { frames = p.frames; why = Search } ∷ [] → PutsPath w p old new
+  pub puts_unfound : (old new : Paths) → new.classes ≡ old.classes → new.undecided.items ≡ old.undecided.items ++ record { frames = p.frames; why = Search } ∷ [] → PutsAlone w p old new
   puts_unfound old new classes undecided = puts_undecided old new (record { frames = p.frames; why = Search }) (ap (λ (v : Vec PathClass). v.items) classes) undecided refl
 
   -- ---- a path without frames
 
-  pub puts_nothing : (old : Paths) → ((frame : List ℕ) (port : ℕ) → IsFrame frame → InFrames p.frames frame port → ⊥) → PutsPath w p old old
-  puts_nothing old empty = record {
+  pub puts_nothing : (old : Paths) → ((frame : List ℕ) (port : ℕ) → IsFrame frame → InFrames p.frames frame port → ⊥) → PutsAlone w p old old
+  puts_nothing old empty m other = record {
     found = λ within is h. h;
     own = λ frame port received inside. absurd (empty frame port received.frame_is inside);
     kept = λ frame port h. h;
@@ -80,15 +82,23 @@ module _ (w : TheWorld) (p : Path) where
     items = items;
   }
 
+  merged_more : (m : Merging) (old : Paths) (c : PathClass) → c.paths.items ≡ p ∷ [] → IsOtherWay m old p → AreMerged m old.classes.items → AreMerged m (old.classes.items ++ c ∷ [])
+  merged_more SameWay old c paths other are =
+      subst AreApart (sym (map-append class_way old.classes.items (c ∷ []))) (apart_more (map class_way old.classes.items) (class_way c) (λ there. other (subst (Contains (map class_way old.classes.items)) (ap paths_way paths) there)) are)
+  merged_more Each old c paths other are = λ d there. elim (Contains-push_cases old.classes.items c d there) as (λ x. length d.paths.items ≡ 1) [
+    | inl before ↦ are d before
+    | inr same ↦ subst (λ (x : PathClass). length x.paths.items ≡ 1) same (ap length paths)
+  ]
+
   pub puts_class : (old new : Paths) (c : PathClass) → new.classes.items ≡ old.classes.items ++ c ∷ [] → new.undecided.items ≡ old.undecided.items → c.paths.items ≡ p ∷ [] → IsReceivedAt w c.frame.items c.in_port → InFrames p.frames c.frame.items c.in_port →
-      c.items.items ≡ items_at w c.frame.items c.in_port → (Contains (map class_way old.classes.items) (way_of p.steps.items) → ⊥) → PutsPath w p old new
-  puts_class old new c classes undecided paths received inside items other = record {
+      c.items.items ≡ items_at w c.frame.items c.in_port → PutsAlone w p old new
+  puts_class old new c classes undecided paths received inside items m other = record {
     found = λ within is h. record {
       classes = λ d there. elim (Contains-push_cases old.classes.items c d (subst (λ (l : List PathClass). Contains l d) classes there)) as (λ x. IsPathClass w within d) [
         | inl before ↦ h.classes d before
         | inr same ↦ subst (IsPathClass w within) same (class_is within c paths received inside items is)
       ];
-      apart = subst AreApart (sym (ap (map class_way) classes ∙ map-append class_way old.classes.items (c ∷ []))) (apart_more (map class_way old.classes.items) (class_way c) (λ there. other (subst (Contains (map class_way old.classes.items)) (ap paths_way paths) there)) h.apart);
+      merged = subst (AreMerged m) (sym classes) (merged_more m old c paths other h.merged);
       undecided = λ u there. h.undecided u (subst (λ (l : List UndecidedFrames). Contains l u) undecided there);
     };
     own = λ frame port from within. inl (c, subst (λ (l : List PathClass). Contains l c) (sym classes) (Contains-push old.classes.items c), (p, subst (λ (l : List Path). Contains l p) (sym paths) (Contains-push [] p), within));
@@ -169,14 +179,14 @@ module _ (w : TheWorld) (p : Path) (old new : Paths) (i : ℕ) (x c : PathClass)
   there_is : Contains old.classes.items x
   there_is = (i, lt, sym is)
 
-  pub puts_joined : PutsPath w p old new
+  pub puts_joined : PutsPath SameWay w p old new
   puts_joined = record {
     found = λ within own h. record {
       classes = λ d there. elim (from_set old.classes.items i c d (subst (λ (l : List PathClass). Contains l d) classes there)) as (λ z. IsPathClass w within d) [
         | inl before ↦ h.classes d before
         | inr is_it ↦ subst (IsPathClass w within) is_it (joined_class within own (h.classes x there_is))
       ];
-      apart = subst AreApart (sym (ap (map class_way) classes ∙ same_ways old.classes.items i c x is lt one_way)) h.apart;
+      merged = subst AreApart (sym (ap (map class_way) classes ∙ same_ways old.classes.items i c x is lt one_way)) h.merged;
       undecided = λ u there. h.undecided u (subst (λ (l : List UndecidedFrames). Contains l u) undecided there);
     };
     own = λ f port from within. inl (c, subst (λ (l : List PathClass). Contains l c) (sym classes) (is_set old.classes.items i c lt), (p, subst (λ (l : List Path). Contains l p) (sym paths) (Contains-push x.paths.items p), within));

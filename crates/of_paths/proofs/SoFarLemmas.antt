@@ -1,5 +1,5 @@
 -- What is known of the frames while cases are left.
-use Rattle.std.proofs.Common.{◌≡◌, ℕ, true, List, [], ◌∷◌, ◌++◌, length, map, Result, Ok, Err, refl, sym, subst, arith, inl, inr, ◌⊎◌, zero, suc, reverse}
+use Rattle.std.proofs.Common.{◌≡◌, ℕ, true, List, [], ◌∷◌, ◌++◌, length, Result, Ok, Err, refl, sym, subst, arith, inl, inr, ◌⊎◌, zero, suc, reverse}
 use Rattle.std.specs.Prelude.{OnOk, if◌then◌else◌, is_ok}
 use Rattle.std.specs.Global.{Vec}
 use Rattle.std.specs.List.{Contains}
@@ -18,13 +18,15 @@ use Rattle.of_symbolic_run.specs.Cases.{AreCases}
 use Rattle.of_symbolic_run.specs.FrameSets.{InFrames}
 use Rattle.of_symbolic_run.specs.States.{IsAt}
 use Rattle.of_symbolic_switch.specs.Received.{IsReceivedAt}
+use Rattle.of_paths.specs.declared.path.Merging.{Merging}
+use Rattle.of_paths.specs.declared.path.Merging.TheVariants.{Each, SameWay}
 use Rattle.of_paths.specs.declared.path.Path.{Path}
 use Rattle.of_paths.specs.declared.path.Paths.{Paths}
 use Rattle.of_paths.specs.declared.path.PathClass.{PathClass}
 use Rattle.of_paths.specs.declared.path.UndecidedFrames.{UndecidedFrames}
-use Rattle.of_paths.specs.Paths.{ArePaths, AreMatched}
+use Rattle.of_paths.specs.Paths.{ArePaths, AreMatched, AreMerged}
 use Rattle.of_paths.specs.SoFar.{ArePathsSoFar, InCases, IsFoundIn, IsStateOfRuns, PutsPath}
-use Rattle.of_paths.specs.Ways.{AreApart, class_way, lines_at}
+use Rattle.of_paths.specs.Ways.{lines_at}
 use Rattle.of_paths.proofs.FoundLemmas.{found_undecided, last_undecided, more_undecided}
 
 pub on_appended : {X Y E : Type 0} (r : Result Y E) (new old more : List X) (Q : Type 0) → new ≡ (if is_ok r then old ++ more else old) → (new ≡ old ++ more → Q) → OnOk r Q
@@ -83,12 +85,16 @@ pub ended_lines : (w : TheWorld) (c : Case) → ((v : TheWorld) (frame : List �
     IsStateOfRuns w c → (frame : List ℕ) (port : ℕ) → IsReceivedAt w frame port → InFrames c.frames frame port → lines_at w frame port ≡ c.state.steps.items
 ended_lines w c give sound none holds frame port received inside = give w frame port c.state sound (holds frame port received.frame_is inside) none
 
-module _ (w : TheWorld) (within : List MatchField) where
+none_merged : (m : Merging) → AreMerged m []
+none_merged SameWay = tt
+none_merged Each = λ c there. absurd (omega (arith, there.1))
+
+module _ (m : Merging) (w : TheWorld) (within : List MatchField) where
   -- where a frame is that is received
   abbrev pub IsSomewhere : List Case → Paths → List ℕ → ℕ → Type 0
   IsSomewhere cases found frame port = InCases cases frame port ⊎ IsFoundIn found frame port
 
-  module _ (cases : List Case) (old : Case) (found : Paths) (h : ArePathsSoFar w within (cases ++ old ∷ []) found) where
+  module _ (cases : List Case) (old : Case) (found : Paths) (h : ArePathsSoFar m w within (cases ++ old ∷ []) found) where
     last_holds : IsStateOfRuns w old
     last_holds = h.hold old (Contains-push cases old)
 
@@ -110,7 +116,7 @@ module _ (w : TheWorld) (within : List MatchField) where
         by_place (inr same) = last (subst (λ (c : Case). InFrames c.frames frame port) (sym same) k.2)
     at_cases frame port A (inr k) last other rest = rest k
 
-    pub put_cases : (more : List Case) → AreCases w old.frames old.state more → ArePathsSoFar w within (cases ++ more) found
+    pub put_cases : (more : List Case) → AreCases w old.frames old.state more → ArePathsSoFar m w within (cases ++ more) found
     put_cases more are = record {
       hold = λ c there. elim (Contains-append_cases cases more c there) as (λ x. IsStateOfRuns w c) [
         | inl before ↦ others_hold c before
@@ -127,7 +133,7 @@ module _ (w : TheWorld) (within : List MatchField) where
           (λ k. inr k);
     }
 
-    pub put_ended : (p : Path) (found' : Paths) → p.frames ≡ old.frames → (IsStateOfRuns w old → (frame : List ℕ) (port : ℕ) → IsReceivedAt w frame port → InFrames old.frames frame port → lines_at w frame port ≡ p.steps.items) → PutsPath w p found found' → ArePathsSoFar w within cases found'
+    pub put_ended : (p : Path) (found' : Paths) → p.frames ≡ old.frames → (IsStateOfRuns w old → (frame : List ℕ) (port : ℕ) → IsReceivedAt w frame port → InFrames old.frames frame port → lines_at w frame port ≡ p.steps.items) → PutsPath m w p found found' → ArePathsSoFar m w within cases found'
     put_ended p found' frames takes puts = record {
       hold = others_hold;
       inside = others_inside;
@@ -138,11 +144,11 @@ module _ (w : TheWorld) (within : List MatchField) where
           (λ k. inr (puts.kept frame port k));
     }
 
-    pub put_undecided : (u : UndecidedFrames) (found' : Paths) → u.frames ≡ old.frames → found'.classes.items ≡ found.classes.items → found'.undecided.items ≡ found.undecided.items ++ u ∷ [] → ArePathsSoFar w within cases found'
+    pub put_undecided : (u : UndecidedFrames) (found' : Paths) → u.frames ≡ old.frames → found'.classes.items ≡ found.classes.items → found'.undecided.items ≡ found.undecided.items ++ u ∷ [] → ArePathsSoFar m w within cases found'
     put_undecided u found' frames classes undecided = record {
       hold = others_hold;
       inside = others_inside;
-      right = found_undecided w within found found' u classes undecided (rw frames last_inside) h.right;
+      right = found_undecided m w within found found' u classes undecided (rw frames last_inside) h.right;
       all = λ frame port received matched. at_cases frame port (IsSomewhere cases found' frame port) (h.all frame port received matched)
           (λ inside. inr (last_undecided found found' u undecided frame port (rw frames inside)))
           (λ k. inl k)
@@ -152,13 +158,13 @@ module _ (w : TheWorld) (within : List MatchField) where
   -- ---- the beginning and the end
 
   pub begins : (first : Case) (found : Paths) → found.classes.items ≡ [] → found.undecided.items ≡ [] → IsStateOfRuns w first → AreMatched within first.frames →
-      ((frame : List ℕ) (port : ℕ) → IsReceivedAt w frame port → matches_map within (received_fields frame port) ≡ true → InFrames first.frames frame port) → ArePathsSoFar w within (first ∷ []) found
+      ((frame : List ℕ) (port : ℕ) → IsReceivedAt w frame port → matches_map within (received_fields frame port) ≡ true → InFrames first.frames frame port) → ArePathsSoFar m w within (first ∷ []) found
   begins first found no_classes none holds inside all = record {
     hold = λ c there. subst (IsStateOfRuns w) (one c there) holds;
     inside = λ c there. subst (λ (x : Case). AreMatched within x.frames) (one c there) inside;
     right = record {
       classes = λ c there. absurd (nothing c (subst (λ (l : List PathClass). Contains l c) no_classes there));
-      apart = subst (λ (l : List PathClass). AreApart (map class_way l)) (sym no_classes) tt;
+      merged = subst (AreMerged m) (sym no_classes) (none_merged m);
       undecided = λ u there. absurd (nothing u (subst (λ (l : List UndecidedFrames). Contains l u) none there));
     };
     all = λ frame port received matched. inl (first, Contains-push [] first, all frame port received matched);
@@ -174,8 +180,8 @@ module _ (w : TheWorld) (within : List MatchField) where
           by_place (inl before) = absurd (omega (arith, before.1))
           by_place (inr same) = same
 
-  pub ends : (found : Paths) → ArePathsSoFar w within [] found → ArePaths w within found
-  ends found h = record { classes = h.right.classes; apart = h.right.apart; undecided = h.right.undecided; all = λ frame port received matched. by_place frame port (h.all frame port received matched) }
+  pub ends : (found : Paths) → ArePathsSoFar m w within [] found → ArePaths m w within found
+  ends found h = record { classes = h.right.classes; merged = h.right.merged; undecided = h.right.undecided; all = λ frame port received matched. by_place frame port (h.all frame port received matched) }
     where
       by_place : (frame : List ℕ) (port : ℕ) → IsSomewhere [] found frame port → IsFoundIn found frame port
       by_place frame port (inl k) = absurd (omega (arith, k.1.1))

@@ -1,5 +1,5 @@
--- THE PATHS OF ALL FRAMES THAT A SWITCH RECEIVES, in classes of one way each (OpenFlow 1.3.5, 5.1).
-use Rattle.std.specs.Prelude.{◌≡◌, ℕ, ◌⊎◌, List, [], ◌∷◌, map, true}
+-- THE PATHS OF ALL FRAMES THAT A SWITCH RECEIVES, in classes: those of one way together, or each alone (OpenFlow 1.3.5, 5.1).
+use Rattle.std.specs.Prelude.{◌≡◌, ℕ, ◌⊎◌, List, [], ◌∷◌, length, map, true}
 use Rattle.std.specs.List.{Contains}
 use Rattle.of_oxm.specs.declared.match_field.MatchField.{MatchField}
 use Rattle.of_oxm.specs.Relations.{matches_map}
@@ -8,6 +8,8 @@ use Rattle.of_symbolic.specs.Parts.{received_fields}
 use Rattle.of_symbolic_run.specs.declared.frame_set.FrameSet.{FrameSet}
 use Rattle.of_symbolic_run.specs.FrameSets.{InFrames}
 use Rattle.of_symbolic_switch.specs.Received.{IsReceivedAt, items_at}
+use Rattle.of_paths.specs.declared.path.Merging.{Merging}
+use Rattle.of_paths.specs.declared.path.Merging.TheVariants.{Each, SameWay}
 use Rattle.of_paths.specs.declared.path.Path.{Path}
 use Rattle.of_paths.specs.declared.path.PathClass.{PathClass}
 use Rattle.of_paths.specs.declared.path.Paths.{Paths}
@@ -46,10 +48,15 @@ pub record IsPathClass (w : TheWorld) (within : List MatchField) (c : PathClass)
   pub shown : InFirstPath c.paths.items c.frame.items c.in_port
   pub items : c.items.items ≡ items_at w c.frame.items c.in_port
 
--- each class is one, no two have the same way, and each frame that is received and that conditions match is in a class, or in an undecided set
-pub record ArePaths (w : TheWorld) (within : List MatchField) (found : Paths) : Type 0 where
+-- no two classes have the same way; or each class has one path
+abbrev pub AreMerged : Merging → List PathClass → Type 0
+AreMerged SameWay classes = AreApart (map class_way classes)
+AreMerged Each classes = (c : PathClass) → Contains classes c → length c.paths.items ≡ 1
+
+-- each class is one, their paths are merged as asked for, and each frame that is received and that conditions match is in a class, or in an undecided set
+pub record ArePaths (merging : Merging) (w : TheWorld) (within : List MatchField) (found : Paths) : Type 0 where
   pub classes : (c : PathClass) → Contains found.classes.items c → IsPathClass w within c
-  pub apart : AreApart (map class_way found.classes.items)
+  pub merged : AreMerged merging found.classes.items
   pub undecided : (u : UndecidedFrames) → Contains found.undecided.items u → AreMatched within u.frames
   pub all : (frame : List ℕ) (port : ℕ) → IsReceivedAt w frame port → matches_map within (received_fields frame port) ≡ true →
       InClasses found.classes.items frame port ⊎ InUndecidedFrames found.undecided.items frame port

@@ -1,5 +1,5 @@
 -- For contracts inside this crate: what is known of the frames while some runs are not done.
-use Rattle.std.specs.Prelude.{◌≡◌, ℕ, ◌⊎◌, List, map, true}
+use Rattle.std.specs.Prelude.{◌≡◌, ℕ, ◌⊎◌, List, map, true, ⊤}
 use Rattle.std.specs.List.{Contains}
 use Rattle.of_rewrite.specs.Frames.{IsFrame}
 use Rattle.of_oxm.specs.declared.match_field.MatchField.{MatchField}
@@ -11,14 +11,16 @@ use Rattle.of_symbolic_run.specs.Cases.{AreCases}
 use Rattle.of_symbolic_run.specs.FrameSets.{InFrames}
 use Rattle.of_symbolic_run.specs.States.{IsAt}
 use Rattle.of_symbolic_switch.specs.Received.{IsReceivedAt}
+use Rattle.of_paths.specs.declared.path.Merging.{Merging}
+use Rattle.of_paths.specs.declared.path.Merging.TheVariants.{Each, SameWay}
 use Rattle.of_paths.specs.declared.path.Path.{Path}
 use Rattle.of_paths.specs.declared.path.PathClass.{PathClass}
 use Rattle.of_paths.specs.declared.path.Paths.{Paths}
 use Rattle.of_paths.specs.declared.path.UndecidedFrames.{UndecidedFrames}
 use Rattle.of_paths.specs.declared.stepping.Next.{Next}
 use Rattle.of_paths.specs.declared.stepping.Next.TheVariants as next
-use Rattle.of_paths.specs.Paths.{AreMatched, InClasses, InUndecidedFrames, IsPath, IsPathClass}
-use Rattle.of_paths.specs.Ways.{AreApart, class_way, lines_at}
+use Rattle.of_paths.specs.Paths.{AreMatched, AreMerged, InClasses, InUndecidedFrames, IsPath, IsPathClass}
+use Rattle.of_paths.specs.Ways.{class_way, lines_at, way_of}
 
 -- the state is that of the run of each frame
 abbrev pub IsStateOfRuns : TheWorld → Case → Type 0
@@ -34,9 +36,9 @@ IsNextOf w old (next.Ended p) = (p.frames ≡ old.frames) × (IsStateOfRuns w ol
 IsNextOf w old (next.Undecided u) = u.frames ≡ old.frames
 
 -- what was found is right
-pub record AreFoundSoFar (w : TheWorld) (within : List MatchField) (found : Paths) : Type 0 where
+pub record AreFoundSoFar (merging : Merging) (w : TheWorld) (within : List MatchField) (found : Paths) : Type 0 where
   pub classes : (c : PathClass) → Contains found.classes.items c → IsPathClass w within c
-  pub apart : AreApart (map class_way found.classes.items)
+  pub merged : AreMerged merging found.classes.items
   pub undecided : (u : UndecidedFrames) → Contains found.undecided.items u → AreMatched within u.frames
 
 -- the frame is in it
@@ -44,14 +46,23 @@ abbrev pub IsFoundIn : Paths → List ℕ → ℕ → Type 0
 IsFoundIn found frame port = InClasses found.classes.items frame port ⊎ InUndecidedFrames found.undecided.items frame port
 
 -- a path was put to it
-pub record PutsPath (w : TheWorld) (p : Path) (old new : Paths) : Type 0 where
-  pub found : (within : List MatchField) → IsPath w within p → AreFoundSoFar w within old → AreFoundSoFar w within new
+pub record PutsPath (merging : Merging) (w : TheWorld) (p : Path) (old new : Paths) : Type 0 where
+  pub found : (within : List MatchField) → IsPath w within p → AreFoundSoFar merging w within old → AreFoundSoFar merging w within new
   pub own : (frame : List ℕ) (port : ℕ) → IsReceivedAt w frame port → InFrames p.frames frame port → IsFoundIn new frame port
   pub kept : (frame : List ℕ) (port : ℕ) → IsFoundIn old frame port → IsFoundIn new frame port
 
+-- no class has its way, if sets of one way are merged
+abbrev pub IsOtherWay : Merging → Paths → Path → Type 0
+IsOtherWay SameWay found p = Contains (map class_way found.classes.items) (way_of p.steps.items) → ⊥
+IsOtherWay Each found p = ⊤
+
+-- a path was put to it, and to no class that was there
+abbrev pub PutsAlone : TheWorld → Path → Paths → Paths → Type 0
+PutsAlone w p old new = (merging : Merging) → IsOtherWay merging old p → PutsPath merging w p old new
+
 -- all that is known while cases are left
-pub record ArePathsSoFar (w : TheWorld) (within : List MatchField) (cases : List Case) (found : Paths) : Type 0 where
+pub record ArePathsSoFar (merging : Merging) (w : TheWorld) (within : List MatchField) (cases : List Case) (found : Paths) : Type 0 where
   pub hold : (c : Case) → Contains cases c → IsStateOfRuns w c
   pub inside : (c : Case) → Contains cases c → AreMatched within c.frames
-  pub right : AreFoundSoFar w within found
+  pub right : AreFoundSoFar merging w within found
   pub all : (frame : List ℕ) (port : ℕ) → IsReceivedAt w frame port → matches_map within (received_fields frame port) ≡ true → InCases cases frame port ⊎ IsFoundIn found frame port

@@ -1,15 +1,14 @@
 //! Paths are put into classes.
-ghost use Rattle.std.specs.Prelude.{◌≡◌, ◌≤◌, ◌++◌, ◌∷◌, [], OnOk, length, map};
-ghost use Rattle.std.specs.List.{Contains};
+ghost use Rattle.std.specs.Prelude.{◌≡◌, ◌≤◌, ◌++◌, ◌∷◌, [], OnOk, length};
 ghost use Rattle.of_rewrite.specs.Frames.{IsFrame};
 ghost use Rattle.of_datapath.specs.Datapath.{world_of};
 ghost use Rattle.of_datapath.specs.Numbers.{forwarding_of};
 ghost use Rattle.of_symbolic_run.specs.FrameSets.{InFrames};
+ghost use Rattle.of_paths.specs.declared.path.Merging.TheVariants.{SameWay};
 ghost use Rattle.of_paths.specs.declared.path.WhyUndecided.TheVariants.{Search};
-ghost use Rattle.of_paths.specs.SoFar.{PutsPath};
-ghost use Rattle.of_paths.specs.Ways.{class_way, way_of};
+ghost use Rattle.of_paths.specs.SoFar.{PutsAlone, PutsPath};
 
-use crate::path::{Path, PathClass, Paths, UndecidedFrames, WhyUndecided};
+use crate::path::{Merging, Path, PathClass, Paths, UndecidedFrames, WhyUndecided};
 use crate::ways::place_of_way;
 use of_classifier::Lookup;
 use of_datapath::Datapath;
@@ -29,7 +28,7 @@ fn push_unfound(frames: FrameSet, found: &mut Paths) -> Result<(), AllocError>
     Ok(())
 }
 
-// A class for a path of another way: a frame of the path runs.
+// A class for a path alone: a frame of the path runs.
 fn push_class<L: Lookup>(
     alloc: Global,
     datapath: &Datapath<L>,
@@ -41,8 +40,7 @@ fn push_class<L: Lookup>(
     requires frame_is { IsFrame frame.items }
     requires short { length frame.items ≤ 9216 }
     requires within { InFrames path.frames frame.items in_port }
-    requires other { Contains (map class_way found.now.classes.items) (way_of path.steps.items) → ⊥ }
-    ensures { OnOk result (PutsPath (world_of (forwarding_of datapath.now)) path found.old found.new) }
+    ensures { OnOk result (PutsAlone (world_of (forwarding_of datapath.now)) path found.old found.new) }
 {
     if !receiving_port(datapath.port_list(), in_port) {
         return push_unfound(path.frames, found);
@@ -59,16 +57,15 @@ fn push_class<L: Lookup>(
     Ok(())
 }
 
-// A path whose way no class has: a frame of it is searched, in so many steps at most.
-fn put_other_way<L: Lookup>(
+// A class for a path alone, with a frame of it, which is searched in so many steps at most.
+fn put_alone<L: Lookup>(
     alloc: Global,
     datapath: &Datapath<L>,
     path: Path,
     steps: usize,
     found: &mut Paths,
 ) -> Result<(), AllocError>
-    requires { Contains (map class_way found.now.classes.items) (way_of path.steps.items) → ⊥ }
-    ensures { OnOk result (PutsPath (world_of (forwarding_of datapath.now)) path found.old found.new) }
+    ensures { OnOk result (PutsAlone (world_of (forwarding_of datapath.now)) path found.old found.new) }
 {
     match path.frames.find(alloc, steps)? {
         FrameFound::Frame { frame, in_port } => {
@@ -79,21 +76,39 @@ fn put_other_way<L: Lookup>(
     }
 }
 
-/// Puts a path into the class of its way, without a search, or into a new class with a frame of it that runs. A path without frames is dropped.
-pub fn put_path<L: Lookup>(
+// Puts a path into the class of its way, without a search, or into a new one.
+fn put_merged<L: Lookup>(
     alloc: Global,
     datapath: &Datapath<L>,
     path: Path,
     steps: usize,
     found: &mut Paths,
 ) -> Result<(), AllocError>
-    ensures { OnOk result (PutsPath (world_of (forwarding_of datapath.now)) path found.old found.new) }
+    ensures { OnOk result (PutsPath SameWay (world_of (forwarding_of datapath.now)) path found.old found.new) }
 {
     match place_of_way(&found.classes, &path.steps) {
         Some(place) => {
             found.classes[place].paths.push(path)?;
             Ok(())
         }
-        None => put_other_way(alloc, datapath, path, steps, found),
+        None => put_alone(alloc, datapath, path, steps, found),
+    }
+}
+
+/// Puts a path into the class of its way, if sets of one way are merged, or into a new class with a frame of it that runs. A path that needs a frame
+/// and has none is dropped.
+pub fn put_path<L: Lookup>(
+    alloc: Global,
+    datapath: &Datapath<L>,
+    merging: Merging,
+    path: Path,
+    steps: usize,
+    found: &mut Paths,
+) -> Result<(), AllocError>
+    ensures { OnOk result (PutsPath merging (world_of (forwarding_of datapath.now)) path found.old found.new) }
+{
+    match merging {
+        Merging::SameWay => put_merged(alloc, datapath, path, steps, found),
+        Merging::Each => put_alone(alloc, datapath, path, steps, found),
     }
 }

@@ -10,11 +10,12 @@ ghost use Rattle.of_symbolic.specs.Parts.{received_fields};
 ghost use Rattle.of_symbolic_run.specs.FrameSets.{InFrames};
 ghost use Rattle.of_symbolic_run.specs.declared.dividing.Case.{Case as ACase};
 ghost use Rattle.of_symbolic_switch.specs.Received.{IsReceivedAt};
+ghost use Rattle.of_paths.specs.declared.path.Merging.{Merging as AMerging};
 ghost use Rattle.of_paths.specs.Paths.{ArePaths, AreMatched};
 ghost use Rattle.of_paths.specs.SoFar.{ArePathsSoFar, IsStateOfRuns, IsNextOf};
 
 use crate::classing::put_path;
-use crate::path::{Paths, UndecidedFrames, WhyUndecided};
+use crate::path::{Merging, Paths, UndecidedFrames, WhyUndecided};
 use crate::stepping::{Next, step_case};
 use of_classifier::Lookup;
 use of_datapath::Datapath;
@@ -27,14 +28,15 @@ use std::alloc::{AllocError, Global};
 fn put_next<'a, L: Lookup>(
     alloc: Global,
     datapath: &Datapath<L>,
+    merging: Merging,
     next: Next<'a>,
     steps: usize,
     cases: &mut Vec<Case<'a>>,
     found: &mut Paths,
 ) -> Result<(), AllocError>
     ensures { OnOk result ((within : List AMatchField) (old : ACase) → IsNextOf (world_of (forwarding_of datapath.now)) old next.entry →
-        ArePathsSoFar (world_of (forwarding_of datapath.now)) within (cases.old.items ++ old ∷ []) found.old →
-        ArePathsSoFar (world_of (forwarding_of datapath.now)) within cases.new.items found.new) }
+        ArePathsSoFar merging (world_of (forwarding_of datapath.now)) within (cases.old.items ++ old ∷ []) found.old →
+        ArePathsSoFar merging (world_of (forwarding_of datapath.now)) within cases.new.items found.new) }
 {
     match next {
         Next::Cases(more) => {
@@ -43,7 +45,7 @@ fn put_next<'a, L: Lookup>(
             more.reverse();
             cases.append(&mut more)
         }
-        Next::Ended(path) => put_path(alloc, datapath, path, steps, found),
+        Next::Ended(path) => put_path(alloc, datapath, merging, path, steps, found),
         Next::Undecided(undecided) => {
             found.undecided.push(undecided)?;
             Ok(())
@@ -53,7 +55,8 @@ fn put_next<'a, L: Lookup>(
 
 // The runs took as many steps as they may.
 fn leave_undecided<'a>(cases: Vec<Case<'a>>, found: &mut Paths) -> Result<(), AllocError>
-    ensures { OnOk result ((w : TheWorld) (within : List AMatchField) → ArePathsSoFar w within cases.entry.items found.old → ArePaths w within found.new) }
+    ensures { OnOk result ((merging : AMerging) (w : TheWorld) (within : List AMatchField) →
+        ArePathsSoFar merging w within cases.entry.items found.old → ArePaths merging w within found.new) }
 {
     let mut cases = cases;
     while let Some(case) = cases.pop() {
@@ -84,17 +87,19 @@ fn first_case<'a, L: Lookup>(
     })
 }
 
-/// The paths of all frames that a switch receives and that conditions match, in classes (OpenFlow 1.3.5, 5.1).
+/// The paths of all frames that a switch receives and that conditions match, in classes (OpenFlow 1.3.5, 5.1): those whose steps differ only in which
+/// entries are hit together, or each alone.
 ///
 /// The runs of all frames take at most so many steps together, and each search for a frame as many.
 pub fn paths<L: Lookup>(
     alloc: Global,
     datapath: &Datapath<L>,
     within: &[MatchField],
+    merging: Merging,
     steps: usize,
 ) -> Result<Paths, AllocError>
     requires { AreConditions within.now }
-    ensures { IfOk result (ArePaths (world_of (forwarding_of datapath.now)) within.now) }
+    ensures { IfOk result (ArePaths merging (world_of (forwarding_of datapath.now)) within.now) }
 {
     let mut found = Paths {
         classes: Vec::new(alloc),
@@ -108,7 +113,9 @@ pub fn paths<L: Lookup>(
             return Ok(found);
         };
         let next = step_case(alloc, datapath, case)?;
-        put_next(alloc, datapath, next, steps, &mut cases, &mut found)?;
+        put_next(
+            alloc, datapath, merging, next, steps, &mut cases, &mut found,
+        )?;
         left -= 1;
     }
     leave_undecided(cases, &mut found)?;

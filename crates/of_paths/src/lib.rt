@@ -10,5 +10,5 @@ mod ways;
 
 pub use conditions::ingress_conditions;
 pub use dividing::paths;
-pub use path::{Path, PathClass, Paths, UndecidedFrames, WhyUndecided};
+pub use path::{Merging, Path, PathClass, Paths, UndecidedFrames, WhyUndecided};
 pub use ways::is_same_way;

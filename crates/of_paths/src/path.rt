@@ -21,6 +21,15 @@ pub struct PathClass {
     pub items: Items,
 }
 
+/// Which sets of frames are put into one class.
+#[derive(Clone, Copy, Debug, PartialEq, Eq)]
+pub enum Merging {
+    /// All sets whose steps differ only in which entries are hit. A frame of the first one is searched.
+    SameWay,
+    /// No two: a frame of each set is searched.
+    Each,
+}
+
 /// Why it is not known which steps frames take.
 #[derive(Clone, Copy, Debug, PartialEq, Eq)]
 pub enum WhyUndecided {

@@ -29,6 +29,7 @@ use Rattle.of_machine.specs.Runs.{Machine, or_end, run_of, starting, step, taken
 use Rattle.of_machine.specs.Weights.{task_weight}
 use Rattle.of_symbolic.specs.Parts.{received_fields}
 use Rattle.of_symbolic_switch.specs.Received.{IsReceivedAt, items_at}
+use Rattle.of_paths.specs.declared.path.Merging.{Merging}
 use Rattle.of_paths.specs.declared.path.Path.{Path}
 use Rattle.of_paths.specs.declared.path.PathClass.{PathClass}
 use Rattle.of_paths.specs.declared.path.Paths.{Paths}
@@ -251,9 +252,9 @@ class_leads (places.Port n) c p there way leads = first_leads (places.Port n) c.
 class_leads places.Controller c p there way leads = first_leads places.Controller c.paths.items p there way leads
 class_leads places.Nothing c p there way leads = absurd (never_both _ leads (no_step p.steps.items))
 
-pub all_that_leaves : (w : TheWorld) (within : List MatchField) (found : Paths) → ArePaths w within found → (to : Destination) (frame : List ℕ) (port : ℕ) → IsReceivedAt w frame port → matches_map within (received_fields frame port) ≡ true
+pub all_that_leaves : (m : Merging) (w : TheWorld) (within : List MatchField) (found : Paths) → ArePaths m w within found → (to : Destination) (frame : List ℕ) (port : ℕ) → IsReceivedAt w frame port → matches_map within (received_fields frame port) ≡ true
     → list_any (leaves_to to) (items_at w frame port) ≡ true → InClassLeadingTo to found.classes.items frame port ⊎ InUndecidedFrames found.undecided.items frame port
-all_that_leaves w within found are to frame port received matched leaves = elim (are.all frame port received matched) as (λ u. InClassLeadingTo to found.classes.items frame port ⊎ InUndecidedFrames found.undecided.items frame port) [
+all_that_leaves m w within found are to frame port received matched leaves = elim (are.all frame port received matched) as (λ u. InClassLeadingTo to found.classes.items frame port ⊎ InUndecidedFrames found.undecided.items frame port) [
   | inl in_class ↦
       let c = in_class.0 in
       let p = in_class.2.0 in

@@ -5,6 +5,7 @@ use Rattle.of_datapath.specs.Datapath.{Forwarding, world_of}
 use Rattle.of_replay.specs.declared.event_file.Ended.{Ended}
 use Rattle.of_replay.specs.declared.event_file.Ended.TheVariants.{Done}
 use Rattle.of_paths.specs.Paths.{ArePaths}
+use Rattle.of_paths.specs.declared.path.Merging.{Merging}
 use Rattle.of_paths.specs.declared.path.Paths.{Paths}
 use Rattle.of_paths_report.specs.declared.destination.Destination.{Destination}
 use Rattle.of_paths_report.specs.declared.writing.PathsForm.{PathsForm}
@@ -28,6 +29,7 @@ abbrev pub IsPathsResult : Result PathsVerdict Ended → PathsVerdict → Type 0
 IsPathsResult (Ok verdict) is = verdict ≡ is
 IsPathsResult (Err ended) is = ended ≢ Done
 
--- THE TEXT of the paths of a switch, for the frames that conditions match: those that lead to a place, if one is asked for
-abbrev pub IsPathsReport : Result PathsVerdict Ended → PathsForm → List MatchField → Option Destination → Forwarding → List ℕ → Type 0
-IsPathsReport result form within to f text = (found : Paths) × ArePaths (world_of f) within found × (text ≡ paths_text form f to found) × IsPathsResult result (paths_verdict found)
+-- THE TEXT of the paths of a switch, for the frames that conditions match, merged or each alone: those that lead to a place, if one is asked for
+abbrev pub IsPathsReport : Result PathsVerdict Ended → PathsForm → List MatchField → Merging → Option Destination → Forwarding → List ℕ → Type 0
+IsPathsReport result form within merging to f text =
+    (found : Paths) × ArePaths merging (world_of f) within found × (text ≡ paths_text form f to found) × IsPathsResult result (paths_verdict found)

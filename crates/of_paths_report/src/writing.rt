@@ -13,7 +13,7 @@ use crate::json::paths_as_json;
 use crate::undecided::{push_path_summary, push_undecided_frames};
 use of_classifier::Lookup;
 use of_oxm::MatchField;
-use of_paths::{Paths, paths};
+use of_paths::{Merging, Paths, paths};
 use of_replay::{Ended, Sink, write_all};
 use of_switch::Switch;
 use std::alloc::{AllocError, Global};
@@ -41,12 +41,13 @@ fn find_paths<L: Lookup>(
     alloc: Global,
     switch: &Switch<L>,
     within: &[MatchField],
+    merging: Merging,
     steps: usize,
 ) -> Result<Paths, AllocError>
     requires { AreConditions within.now }
-    ensures { IfOk result (ArePaths (world_of switch.now.core.forwarding) within.now) }
+    ensures { IfOk result (ArePaths merging (world_of switch.now.core.forwarding) within.now) }
 {
-    paths(alloc, switch.datapath(), within, steps)
+    paths(alloc, switch.datapath(), within, merging, steps)
 }
 
 // What is found, in words.
@@ -93,14 +94,15 @@ fn verdict_for(found: &Paths) -> PathsVerdict
 }
 
 /// Writes which steps the frames take that a switch receives and that conditions match (OpenFlow 1.3.5, 5.1): the paths that lead to a place, if one
-/// is asked for. The runs of all frames take at most so many steps together, and each search for a frame as many. Ok says whether it is known of
-/// all of them.
+/// is asked for; those of one way merged, or each alone. The runs of all frames take at most so many steps together, and each search for a frame as
+/// many. Ok says whether it is known of all of them.
 ///
 /// Err is `WriteFault`, where a write failed and a prefix of the text was written; or `NoMemory`, where nothing was.
 pub fn write_paths<L: Lookup, W: Sink>(
     alloc: Global,
     switch: &Switch<L>,
     within: &[MatchField],
+    merging: Merging,
     to: Option<Destination>,
     steps: usize,
     form: PathsForm,
@@ -108,10 +110,11 @@ pub fn write_paths<L: Lookup, W: Sink>(
 ) -> Result<PathsVerdict, Ended>
     requires conditions { AreConditions within.now }
     requires well { W.failures writer.old ≡ 0 }
-    ensures output { Writes (IsPathsReport result form within.now to switch.now.core.forwarding) (ended_as result) (W.taken writer.old) (W.taken writer.new) }
+    ensures output { Writes (IsPathsReport result form within.now merging to switch.now.core.forwarding) (ended_as result)
+        (W.taken writer.old) (W.taken writer.new) }
     ensures write_fault { (ended_as result ≡ Ended.WriteFault) ↔ (0 < W.failures writer.new) }
 {
-    let Ok(found) = find_paths(alloc, switch, within, steps) else {
+    let Ok(found) = find_paths(alloc, switch, within, merging, steps) else {
         return Err(Ended::NoMemory);
     };
     let Ok(text) = found_text(alloc, form, switch, to, &found) else {

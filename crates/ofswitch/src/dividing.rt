@@ -2,6 +2,7 @@
 use crate::diffing::{NoDiff, switch_of_file};
 use of_command_line::{Leading, PathsAsked};
 use of_frame_words::NoFrame;
+use of_paths::Merging;
 use of_paths_report::{Destination, PathsForm, PathsVerdict, asked_conditions, write_paths};
 use of_replay::Ended;
 use of_replay::streams::WriterSink;
@@ -19,6 +20,14 @@ fn asked_place(to: Option<Leading>) -> Option<Destination> {
     match to {
         None => None,
         Some(leading) => Some(destination_of(leading)),
+    }
+}
+
+fn merging_of(each: bool) -> Merging {
+    if each {
+        Merging::Each
+    } else {
+        Merging::SameWay
     }
 }
 
@@ -49,13 +58,10 @@ pub fn divided<'a>(rt: &HostRuntime, asked: &'a PathsAsked) -> Result<PathsVerdi
         Ok(within) => within,
         Err(why) => return Err(without_match(rt, &why)),
     };
-    let (to, steps, form) = (
-        asked_place(asked.to),
-        asked.steps as usize,
-        form_of(asked.json),
-    );
-    let mut writer = WriterSink::new(rt.stdout());
-    match write_paths(rt.alloc(), &switch, &within, to, steps, form, &mut writer) {
+    let (alloc, to, steps) = (rt.alloc(), asked_place(asked.to), asked.steps as usize);
+    let (merging, form) = (merging_of(asked.each), form_of(asked.json));
+    let mut out = WriterSink::new(rt.stdout());
+    match write_paths(alloc, &switch, &within, merging, to, steps, form, &mut out) {
         Ok(verdict) => Ok(verdict),
         Err(ended) => Err(NoDiff::Ended(ended)),
     }

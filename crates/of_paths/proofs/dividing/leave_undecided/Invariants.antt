@@ -1,11 +1,12 @@
 use Rattle.std.proofs.Common.{List, length}
 use Rattle.of_oxm.specs.declared.match_field.MatchField.{MatchField}
 use Rattle.of_machine.specs.TheWorld.{TheWorld}
+use Rattle.of_paths.specs.declared.path.Merging.{Merging}
 use Rattle.of_paths.specs.SoFar.{ArePathsSoFar}
 use Rattle.of_paths.proofs.dividing.leave_undecided.Given as goal
 
 abbrev pub invariant-loop-case : goal.invariant-loop-case
-invariant-loop-case l = (w : TheWorld) (within : List MatchField) → ArePathsSoFar w within l.fn.cases.items l.fn.found → ArePathsSoFar w within l.cases.items l.found
+invariant-loop-case l = (m : Merging) (w : TheWorld) (within : List MatchField) → ArePathsSoFar m w within l.fn.cases.items l.fn.found → ArePathsSoFar m w within l.cases.items l.found
 
 abbrev pub decreases-loop-case : goal.decreases-loop-case
 decreases-loop-case l = length l.cases.items

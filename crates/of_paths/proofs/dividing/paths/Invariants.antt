@@ -4,7 +4,7 @@ use Rattle.of_paths.specs.SoFar.{ArePathsSoFar}
 use Rattle.of_paths.proofs.dividing.paths.Given as goal
 
 abbrev pub invariant-loop-left : goal.invariant-loop-left
-invariant-loop-left g l = ArePathsSoFar (world_of (forwarding_of l.datapath)) l.within l.cases.items l.found
+invariant-loop-left g l = ArePathsSoFar l.merging (world_of (forwarding_of l.datapath)) l.within l.cases.items l.found
 
 abbrev pub decreases-loop-left : goal.decreases-loop-left
 decreases-loop-left g l = l.left

@@ -4,7 +4,7 @@ use Rattle.of_symbolic_run.specs.declared.finding.FrameFound.TheVariants.{Empty}
 use Rattle.of_symbolic_run.specs.FrameSets.{FindsFrame}
 use Rattle.of_symbolic_switch.proofs.GroupedLemmas.{if_ok}
 use Rattle.of_paths.proofs.FoundLemmas.{puts_nothing, puts_unfound}
-use Rattle.of_paths.proofs.classing.put_other_way.Goals as goal
+use Rattle.of_paths.proofs.classing.put_alone.Goals as goal
 
 pub returns-in-Empty : goal.returns-in-Empty
 returns-in-Empty g c =
