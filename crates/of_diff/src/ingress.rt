@@ -63,8 +63,8 @@ fn match_all_from(region: &Region, port: u32, conditions: &[MatchField]) -> bool
     true
 }
 
-// Whether no packet of the region that none of the lists matches came in by this port: none of the region did, or a list matches all that did.
-fn region_has_none_from(region: &Region, port: u32, lacks: &[Vec<MatchField>]) -> bool
+// Whether one of the lists matches each packet of the region that came in by this port.
+fn list_matches_all_from(region: &Region, port: u32, lacks: &[Vec<MatchField>]) -> bool
     ensures { result ≡ true → HasNoneFrom lacks.now port region.now }
 {
     for index in 0..lacks.len() {
@@ -72,7 +72,14 @@ fn region_has_none_from(region: &Region, port: u32, lacks: &[Vec<MatchField>]) -
             return true;
         }
     }
-    never_matches(region, ingress_condition(port))
+    false
+}
+
+// Whether no packet of the region that none of the lists matches came in by this port: none of the region did, or a list matches all that did.
+fn region_has_none_from(region: &Region, port: u32, lacks: &[Vec<MatchField>]) -> bool
+    ensures { result ≡ true → HasNoneFrom lacks.now port region.now }
+{
+    never_matches(region, ingress_condition(port)) || list_matches_all_from(region, port, lacks)
 }
 
 // Whether this is so of each of the regions.

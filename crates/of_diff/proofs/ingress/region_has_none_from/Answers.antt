@@ -1,11 +1,6 @@
-use Rattle.std.proofs.Common.{sym}
-use Rattle.of_diff.proofs.IngressPortLemmas.{away_from, none_by_list}
+use Rattle.std.proofs.Common.{refl}
+use Rattle.of_diff.proofs.IngressPortLemmas.{away_from}
 use Rattle.of_diff.proofs.ingress.region_has_none_from.Goals as goal
 
-pub returns-then-match_all_from : goal.returns-then-match_all_from
-returns-then-match_all_from c = λ yes.
-    none_by_list c.args.lacks.now c.args.region.now c.args.port c.index-lacks-index.result c.deref.result.now (c.loop-index.index, c.loop-index-test.true, sym c.index-lacks-index.is) c.deref.ensures.value
-    (c.match_all_from.ensures c.if-match_all_from.true)
-
-pub returns : goal.returns
-returns c = λ yes. away_from c.args.lacks.now c.args.region.now c.args.port c.ingress_condition.result c.ranges.port.fits c.ingress_condition.ensures.is (c.never_matches.ensures yes)
+pub returns-then-never_matches : goal.returns-then-never_matches
+returns-then-never_matches c = λ yes. away_from c.args.lacks.now c.args.region.now c.args.port c.ingress_condition.result c.ranges.port.fits c.ingress_condition.ensures.is (c.if-never_matches.ensures refl)
