@@ -46,7 +46,8 @@ DRAW_DESCRIPTION = """
 Prints the groups and flow tables of a flow text (docs/FLOWTEXT.md), or those of a switch after an event file, as a graph in the
 language of Graphviz: tables with their flows by priority, groups with their buckets, ports, and the arrows between them. Flows that
 never win (docs/CHECK.md) are gray. With a port and a frame, the path of the frame is blue, with the numbers of the steps of its trace
-(docs/TRACE.md), and each table on the path shows the values that it sees of the packet.
+(docs/TRACE.md), and each table on the path shows the values that it sees of the packet. With --path K it is the path of the frame that
+`ofswitch paths` shows for its path K (docs/PATHS.md), and the flows that other frames of that path hit are light blue.
 """
 
 DRAW_STATUSES = """
@@ -136,7 +137,8 @@ def add_draw(commands: argparse._SubParsersAction[Parser]) -> None:
     text = draw.add_mutually_exclusive_group(required=True)
     text.add_argument("--flows", metavar="FILE", help="a flow text")
     text.add_argument("--events", metavar="FILE", help="an event file: draw the tables that a switch has after it")
-    draw.add_argument("--port", metavar="N", type=int, help="the port at which the frame comes in")
+    draw.add_argument("--port", metavar="N", type=int, help="the port at which the frame comes in; with --path, only frames of this port are divided")
+    draw.add_argument("--path", metavar="K", type=int, help="draw path K, from 1, of those that `ofswitch paths` finds")
     draw.add_argument("--svg", metavar="FILE", help="write a picture to this file, with `dot` of Graphviz, instead of printing the graph")
     draw.add_argument("--program", metavar="PATH", help="the program ofswitch (by default OFSWITCH, or the one on the PATH)")
     draw.add_argument("frame", metavar="HEX", nargs="?", help="a frame whose path is drawn, two hexadecimal digits per byte")
@@ -304,8 +306,11 @@ def open_lines(file: str | int) -> TextIO:
 
 def main() -> int:
     asked = parser().parse_args()
-    if asked.command == "draw" and (asked.port is None) != (asked.frame is None):
-        parser().error("a frame needs its port, and a port its frame")
+    if asked.command == "draw":
+        if asked.path is not None and asked.frame is not None:
+            parser().error("a path has its own frame: give --path or a frame")
+        if asked.path is None and (asked.port is None) != (asked.frame is None):
+            parser().error("a frame needs its port, and a port its frame")
     logging.basicConfig(level=logging.INFO, format="%(message)s")
     try:
         commands = {"draw": picture.run, "capture": capture.run, "bridge": run, "live": run_live, "mininet": run_mininet}

@@ -25,12 +25,18 @@ in [shape=circle, label="in", width=0.5, fixedsize=true];"""
 _TABLE = "table border='0' cellborder='1' cellspacing='0' cellpadding='4'"
 _TAKEN = 'color="#0060c0", fontcolor="#0060c0", penwidth=2'
 _GRAY = "#999999"
+# The ground of the flows that the frame hits, and of those that other frames of its path hit.
+_HIT = "bgcolor='#cfe8ff'"
+_ALSO = "bgcolor='#eaf4ff'"
 
 
-def draw(configuration: Configuration, never: set[tuple[int, int]], walk: Walk) -> str:
-    """The graph. Flows that never win are gray; the flows that the frame of `walk` hits, and its arrows, are blue."""
+def draw(configuration: Configuration, never: set[tuple[int, int]], walk: Walk, also: set[tuple[int, int]] | None = None) -> str:
+    """The graph. Flows that never win are gray; the flows that the frame of `walk` hits, and its arrows, are blue.
+
+    The flows of `also`, which other frames of the same path hit, are light blue.
+    """
     lines = [_HEAD]
-    lines += [_table(configuration, table, never, walk) for table in configuration.tables()]
+    lines += [_table(configuration, table, never, walk, also or set()) for table in configuration.tables()]
     lines += [_group(it) for it in configuration.groups]
     ways = _ways(configuration)
     lines += [_port(it) for it in sorted({words[1] for _, words in ways if words[0] == "output"}, key=int)]
@@ -104,9 +110,8 @@ def _cell(lines: list[str], attributes: str = "", color: str = "") -> str:
     return f"<td align='left' {attributes}>{_text(lines, color)}</td>"
 
 
-def _row(flow: Flow, is_never: bool, is_hit: bool) -> str:
+def _row(flow: Flow, is_never: bool, ground: str) -> str:
     color = _GRAY if is_never else ""
-    ground = "bgcolor='#cfe8ff'" if is_hit else ""
     fields = [" ".join(_field(it) for it in flow.match) or "any packet"]
     does = _does(flow) + ["never wins"] * is_never
     cells = [
@@ -115,6 +120,12 @@ def _row(flow: Flow, is_never: bool, is_hit: bool) -> str:
         _cell(does, f"{ground} port='e{flow.place}'", color),
     ]
     return f"<tr>{''.join(cells)}</tr>"
+
+
+def _ground(place: tuple[int, int], walk: Walk, also: set[tuple[int, int]]) -> str:
+    if place in walk.hits:
+        return _HIT
+    return _ALSO if place in also else ""
 
 
 def _wide(lines: list[str], attributes: str = "", color: str = "") -> str:
@@ -129,11 +140,11 @@ def _labelled(name: str, head: str, ground: str, rows: list[str]) -> str:
     return f"{name} [label=<<{_TABLE}>{first}{''.join(rows)}</table>>];"
 
 
-def _table(configuration: Configuration, table: int, never: set[tuple[int, int]], walk: Walk) -> str:
+def _table(configuration: Configuration, table: int, never: set[tuple[int, int]], walk: Walk, also: set[tuple[int, int]]) -> str:
     flows = sorted(configuration.flows_of(table), key=lambda it: (-it.priority, it.place))
-    rows = [_row(it, (table, it.place) in never, (table, it.place) in walk.hits) for it in flows]
+    rows = [_row(it, (table, it.place) in never, _ground((table, it.place), walk, also)) for it in flows]
     if table in walk.misses:
-        rows.append(_wide(["no flow matches"], "bgcolor='#cfe8ff'"))
+        rows.append(_wide(["no flow matches"], _HIT))
     elif not flows:
         rows.append(_wide(["no flows"]))
     seen = walk.sees.get(table, [])

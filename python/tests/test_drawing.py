@@ -1,4 +1,4 @@
-"""`python -m ofswitch draw`: graphs of flow tables, and of a frame's way."""
+"""`python -m ofswitch draw`: graphs of flow tables, and of the way of a frame or of a class of frames."""
 
 import os
 import shutil
@@ -85,6 +85,44 @@ def test_the_way_of_a_frame(flows):
     assert "write step" in edges["t1:e0:e -> p2"]
     assert "step" not in edges["t0:e1:e -> t2:head:w"]
     assert "the packet has ipv4_dst=10.1.1.9" in graph
+
+
+ROUTES = """flow 0 20 0x0000000000000000 0 0 0
+match eth_type 0x0800
+match ipv4_dst 0x0a010000 0xffff0000
+apply
+output 2 0
+flow 0 20 0x0000000000000000 0 0 0
+match eth_type 0x0800
+match ipv4_dst 0x0a020000 0xffff0000
+apply
+output 2 0
+flow 0 0 0x0000000000000000 0 0 0
+apply
+output 3 0
+"""
+
+
+def test_a_path(flows):
+    graph, edges = drawn("--flows", flows(ROUTES), "--port", "1", "--path", "1")
+    assert "step" in edges["t0:e0:e -> p2"]
+    assert "step" not in edges["t0:e1:e -> p2"]
+    # a cell for the priority, the match and the instructions of each flow
+    assert (graph.count("#cfe8ff"), graph.count("#eaf4ff")) == (3, 3)
+    assert "step" in drawn("--flows", flows(ROUTES), "--path", "2")[1]["t0:e2:e -> p3"]
+
+
+@pytest.mark.parametrize("number", ["0", "3"])
+def test_a_path_that_does_not_exist(flows, number):
+    done = subprocess.run([*COMMAND, "--flows", flows(ROUTES), "--path", number], capture_output=True, text=True, timeout=120)
+    assert (done.returncode, done.stderr) == (1, f"there is no path {number}: `ofswitch paths` finds 2\n")
+
+
+def test_a_path_has_its_own_frame(flows):
+    words = ["--flows", flows(ROUTES), "--port", "1", "--path", "1", FRAME]
+    done = subprocess.run([*COMMAND, *words], capture_output=True, text=True, timeout=120)
+    assert done.returncode == 1
+    assert "give --path or a frame" in done.stderr
 
 
 def test_copies_are_apart(flows):

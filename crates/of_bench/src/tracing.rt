@@ -6,7 +6,8 @@ use crate::frames::TCP;
 use crate::lookups::Lookups;
 use crate::switching::switch_after;
 use of_switch::Switch;
-use of_trace::{print, trace};
+use of_trace::print;
+use of_tracing::trace;
 use std::alloc::Global;
 use std::io;
 

@@ -8,9 +8,8 @@ use of_replay::memory::MemorySink;
 use of_replay::streams::ReaderSource;
 use of_replay::{Ended, READ_SIZE, Reading, Source, push_effects, zeros};
 use of_switch::{Effect, PortChange, Switch};
-use of_trace::{
-    Asked, FirstLines, Form, Output, Reason, Style, explain, print, trace, why, write_trace,
-};
+use of_trace::{Asked, FirstLines, Form, Output, Style, explain, print, write_trace};
+use of_tracing::{Reason, trace, why};
 use std::alloc::Global;
 use std::process::Abort;
 use std::test::Fail;

@@ -9,13 +9,6 @@ use of_replay::memory::{MemorySink, MemorySource};
 use of_replay::{Ended, replay};
 use std::{fs, io};
 
-#[cfg(test)]
-mod memory_tests;
-#[cfg(test)]
-mod stream_tests;
-#[cfg(test)]
-mod tests;
-
 /// The event files, each beside the text that it is to print.
 const NAMES: &[&str] = &[
     "hello",

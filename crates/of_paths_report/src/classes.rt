@@ -2,7 +2,7 @@
 ghost use Rattle.std.specs.Prelude.{◌≡◌, ◌++◌, IfOk, OnOk, IsTrue};
 ghost use Rattle.std.specs.List.{flat_map};
 ghost use Rattle.of_datapath.specs.DryRun.{steps_in};
-ghost use Rattle.of_trace.specs.Encoded.{are_encoded, is_encoded};
+ghost use Rattle.of_tracing.specs.Encoded.{are_encoded, is_encoded};
 ghost use Rattle.of_paths_report.specs.PathsWords.{class_words, indented_line, shown_words};
 
 use crate::destination::{Destination, is_shown};
@@ -12,7 +12,8 @@ use of_leaving::{push_frame_line, push_side};
 use of_machine::Step;
 use of_paths::PathClass;
 use of_switch::{Switch, SwitchError};
-use of_trace::{Trace, push_heading, push_step, trace};
+use of_trace::{push_heading, push_step};
+use of_tracing::{Trace, trace};
 use std::alloc::{AllocError, Global};
 
 /// The steps of the frame of a class.

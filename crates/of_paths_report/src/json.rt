@@ -2,7 +2,7 @@
 ghost use Rattle.std.specs.Prelude.{◌≡◌, ◌++◌, ◌∷◌, List, IfOk, OnOk, IsTrue};
 ghost use Rattle.std.specs.List.{flat_map};
 ghost use Rattle.of_json.specs.Parts.{listed};
-ghost use Rattle.of_trace.specs.Encoded.{are_encoded, is_encoded};
+ghost use Rattle.of_tracing.specs.Encoded.{are_encoded, is_encoded};
 ghost use Rattle.of_paths.specs.declared.path.PathClass.{PathClass as APathClass};
 ghost use Rattle.of_paths_report.specs.PathsJson.{class_members, class_object, classes_member, listed_behind, paths_head, paths_json, shown_classes, step_string, steps_member, undecided_frames_member, undecided_frames_string, why_in_json};
 

@@ -1,5 +1,5 @@
-//! Tests of the public calls on a session's stream and on the switch: each once with ample memory, and events that are done again
-//! where there was none.
+//! Tests of the public calls on a session's stream and on the switch, and of event files that are replayed: each once with ample memory,
+//! events that are done again where there was none, and reads and writes that fail in turn.
 //!
 //! They are in a separate crate, since a crate that has tests is proved twice.
 #![tactic(auto)]
@@ -11,8 +11,14 @@ mod calling;
 #[cfg(test)]
 mod checks;
 #[cfg(test)]
+mod memory;
+#[cfg(test)]
 mod part;
 #[cfg(test)]
+mod replayed;
+#[cfg(test)]
 mod session;
+#[cfg(test)]
+mod streams;
 #[cfg(test)]
 mod switch;

@@ -1,6 +1,3 @@
-pub mod EncodedLemmas
-pub mod WhyLemmas
-pub mod ReasonLemmas
 pub mod PrintingLemmas
 pub mod FieldLemmas
 pub mod SightLemmas

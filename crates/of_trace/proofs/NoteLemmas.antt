@@ -30,10 +30,10 @@ use Rattle.of_trace.specs.declared.form.Asked.{Asked}
 use Rattle.of_trace.specs.declared.form.Asked.TheVariants.{Nothing}
 use Rattle.of_trace.specs.declared.form.Form.{Form}
 use Rattle.of_trace.specs.declared.form.Form.TheVariants.{Plain, Explained, Why}
-use Rattle.of_trace.specs.declared.reason.Reason.{Reason}
+use Rattle.of_tracing.specs.declared.reason.Reason.{Reason}
 use Rattle.of_trace.specs.declared.sight.Sight.{Sight}
 use Rattle.of_trace.specs.Sights.{key_seen, sight_after, stepped}
-use Rattle.of_trace.specs.Why.{reason_in}
+use Rattle.of_tracing.specs.Why.{reason_in}
 use Rattle.of_trace.specs.OnlyNotes.{NotedLine, OnlyNotesAdded}
 use Rattle.of_trace.specs.Notes.{step_changes, entry_notes, explained_trace, explained_from, first_notes, found_notes, group_notes, head_in, is_asked, is_many, is_set, is_unsent, step_line_in, look_notes, looks_at, match_notes, miss_notes, notes, output_note, plain_trace, port_note, port_words, reason_note, reasons_from, same_value, seen_notes, sending_notes, set_notes, styled, ttl_seen, ttl_words, reason_words, value_or_absent}
 use Rattle.of_trace.specs.Words.{entering_sights, flow_there, heading, leaving_text, words_text}

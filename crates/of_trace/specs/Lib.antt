@@ -1,6 +1,4 @@
-pub mod Encoded
 pub mod Text
-pub mod Why
 pub mod Sights
 pub mod Words
 pub mod Json

@@ -33,14 +33,14 @@ use Rattle.of_trace.specs.declared.form.Output.{Output}
 use Rattle.of_trace.specs.declared.form.Output.TheVariants as outputs
 use Rattle.of_trace.specs.declared.form.Form.{Form}
 use Rattle.of_trace.specs.declared.form.Form.TheVariants.{Plain, Explained, Why}
-use Rattle.of_trace.specs.declared.reason.Reason.{Reason}
-use Rattle.of_trace.specs.declared.reason.Reason.TheVariants.{Won, Differs, LowerPriority, Younger}
+use Rattle.of_tracing.specs.declared.reason.Reason.{Reason}
+use Rattle.of_tracing.specs.declared.reason.Reason.TheVariants.{Won, Differs, LowerPriority, Younger}
 use Rattle.of_trace.specs.declared.sight.Sight.{Sight}
 use Rattle.of_trace.specs.Sights.{key_seen, sight_after, stepped}
 use Rattle.of_trace.specs.Text.{step_line, trace_text}
 use Rattle.of_trace.specs.Words.{entering_sights, flow_there, heading, leaving_text, words_line, words_text}
 use Rattle.of_trace.specs.Json.{trace_json}
-use Rattle.of_trace.specs.Why.{reason_in}
+use Rattle.of_tracing.specs.Why.{reason_in}
 
 -- ---- values
 

@@ -7,7 +7,6 @@ ghost use Rattle.of_values.specs.Values.{value_words};
 ghost use Rattle.of_trace.specs.Json.{action_members, effect_members, effect_named, effect_object, flow_members, head_members, hexadecimal_member, step_member, step_members, step_object, trace_json};
 ghost use Rattle.of_trace.specs.Words.{flow_there};
 
-use crate::traces::Trace;
 use of_actions::Action;
 use of_classifier::Lookup;
 use of_headers::Field;
@@ -18,6 +17,7 @@ use of_json::{
 use of_machine::Step;
 use of_switch::{Effect, Switch};
 use of_table::Flow;
+use of_tracing::Trace;
 use of_values::{push_hexadecimal, push_port, push_value_words};
 use of_wire::limits::TABLES;
 use std::alloc::{AllocError, Global};

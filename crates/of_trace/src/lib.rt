@@ -1,7 +1,6 @@
 //! The tracer: why a frame went where it went.
 #![tactic(auto)]
 
-mod explaining;
 mod fields;
 mod first_lines;
 mod form;
@@ -11,28 +10,21 @@ mod notes;
 mod noting;
 mod packets;
 mod printing;
-mod reason;
 mod reasons;
 mod sending;
 mod sight;
-mod traces;
-mod tracing;
 mod tracing_events;
 mod tracing_file;
 mod words;
 mod writing;
 
-pub use explaining::why;
 pub use first_lines::FirstLines;
 pub use form::{Asked, Form, Output, Style};
 pub use json::print_json;
 pub use laws::{notes_only_add, steps_tell_packets, traces_come_whole};
 pub use noting::explain;
 pub use printing::{print, print_words, push_step};
-pub use reason::Reason;
 pub use sight::Sight;
-pub use traces::Trace;
-pub use tracing::trace;
 pub use tracing_events::trace_events;
 pub use tracing_file::{switch_of_text, trace_file};
 pub use words::push_heading;

@@ -1,12 +1,11 @@
 //! Traces as text.
 ghost use Rattle.std.specs.Prelude.{◌≡◌, ◌++◌, ◌∷◌, [], IfOk, OnOk, IsTrue, codes, decimal};
 ghost use Rattle.of_text.specs.Lines.{joined};
-ghost use Rattle.of_trace.specs.Encoded.{is_encoded, are_encoded};
+ghost use Rattle.of_tracing.specs.Encoded.{is_encoded, are_encoded};
 ghost use Rattle.of_trace.specs.Notes.{plain_trace};
 ghost use Rattle.of_trace.specs.Text.{step_line, steps_text, trace_text};
 ghost use Rattle.of_trace.specs.declared.form.Style.TheVariants.{Words};
 
-use crate::traces::Trace;
 use crate::words::{push_heading, push_leaving, push_words};
 use of_actions::Action;
 use of_classifier::Lookup;
@@ -14,6 +13,7 @@ use of_machine::Step;
 use of_replay::push_effects;
 use of_switch::Switch;
 use of_text::{Row, push_number, push_row};
+use of_tracing::Trace;
 use std::alloc::{AllocError, Global};
 
 // Appends the line of a lookup: the table, what was found, and what follows that.

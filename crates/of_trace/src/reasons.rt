@@ -5,15 +5,14 @@ ghost use Rattle.of_table.specs.Entries.{entry_of};
 ghost use Rattle.of_table.specs.Tables.{table_at};
 ghost use Rattle.of_trace.specs.Notes.{is_asked, reason_note, reason_words, reasons_from};
 
-use crate::explaining::{why_where, winner_in};
 use crate::fields::{push_found, push_wanted};
 use crate::form::{Asked, Style};
-use crate::reason::Reason;
 use of_classifier::Lookup;
 use of_headers::FieldKey;
 use of_switch::Switch;
 use of_table::Entry;
 use of_text::{begin_note, end_note, push_number};
+use of_tracing::{Reason, why_where, winner_in};
 use std::alloc::AllocError;
 
 // Appends that another entry wins, and why.

@@ -4,7 +4,7 @@ ghost use Rattle.of_actions.specs.Supported.{is_supported};
 ghost use Rattle.of_headers.specs.FieldMap.{value};
 ghost use Rattle.of_trace.specs.Notes.{ttl_seen};
 ghost use Rattle.of_trace.specs.Sights.{frame_after_action, key_seen, sight_after};
-ghost use Rattle.of_trace.specs.Encoded.{is_encoded};
+ghost use Rattle.of_tracing.specs.Encoded.{is_encoded};
 
 use of_actions::Action;
 use of_headers::FieldKey;

@@ -5,7 +5,7 @@ ghost use Rattle.std.specs.Option.{option_copied};
 ghost use Rattle.of_headers.specs.FieldMap.{value};
 ghost use Rattle.of_machine.specs.declared.data.Step.TheVariants.{Act};
 ghost use Rattle.of_text.specs.Lines.{ended};
-ghost use Rattle.of_trace.specs.Encoded.{are_encoded, is_encoded};
+ghost use Rattle.of_tracing.specs.Encoded.{are_encoded, is_encoded};
 ghost use Rattle.of_trace.specs.Words.{absent_port, action_line, arp_words, effect_words, ethernet_words, flow_there, found_words, header_words, heading, ip_words, leaving_line, leaving_text, length_words, metadata_words, numbered_words, packet_words, pair, plain_line, sight_words, single, transport_words, ttl_part, words_line, words_text};
 
 use crate::packets::arrived;

@@ -8,11 +8,10 @@ use crate::form::{Asked, Form, Output, Style};
 use crate::json::print_json;
 use crate::noting::explain;
 use crate::printing::{print, print_words};
-use crate::traces::Trace;
-use crate::tracing::trace;
 use of_classifier::Lookup;
 use of_replay::{Ended, Sink, write_all};
 use of_switch::{Switch, SwitchError};
+use of_tracing::{Trace, trace};
 use std::alloc::{AllocError, Global};
 
 // The text without notes.

@@ -1,7 +1,7 @@
 use Rattle.std.proofs.Common.{◌≡◌, ◌++◌, ◌∷◌, drop}
 use Rattle.std.specs.List.{flat_map}
 use Rattle.std.specs.Prelude.{IsTrue}
-use Rattle.of_trace.specs.Encoded.{are_encoded}
+use Rattle.of_tracing.specs.Encoded.{are_encoded}
 use Rattle.of_paths_report.specs.PathsJson.{step_string}
 use Rattle.of_paths_report.proofs.json.push_further_step_strings.Given as goal
 

@@ -1,6 +1,6 @@
 use Rattle.std.proofs.Common.{◌≡◌, ◌++◌, length}
 use Rattle.std.specs.Prelude.{IsTrue}
-use Rattle.of_trace.specs.Encoded.{are_encoded}
+use Rattle.of_tracing.specs.Encoded.{are_encoded}
 use Rattle.of_trace.specs.Notes.{explained_from}
 use Rattle.of_trace.proofs.noting.push_explained.Given as goal
 

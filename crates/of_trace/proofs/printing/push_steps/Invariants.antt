@@ -1,6 +1,6 @@
 use Rattle.std.proofs.Common.{◌≡◌, ◌++◌, drop}
 use Rattle.std.specs.Prelude.{IsTrue}
-use Rattle.of_trace.specs.Encoded.{are_encoded}
+use Rattle.of_tracing.specs.Encoded.{are_encoded}
 use Rattle.of_trace.specs.Text.{steps_text}
 use Rattle.of_trace.proofs.printing.push_steps.Given as goal
 

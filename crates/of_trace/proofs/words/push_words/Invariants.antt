@@ -1,6 +1,6 @@
 use Rattle.std.proofs.Common.{◌≡◌, ◌++◌, drop}
 use Rattle.std.specs.Prelude.{IsTrue}
-use Rattle.of_trace.specs.Encoded.{are_encoded}
+use Rattle.of_tracing.specs.Encoded.{are_encoded}
 use Rattle.of_trace.specs.Words.{words_text}
 use Rattle.of_trace.proofs.words.push_words.Given as goal
 

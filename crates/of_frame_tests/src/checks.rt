@@ -1,7 +1,0 @@
-//! What the tests of this crate compare, each by the name of its row.
-use std::fmt::Debug;
-use std::process::Abort;
-
-pub(crate) fn same<T: PartialEq + Debug>(rt: &impl Abort, what: &str, found: &T, wanted: &T) {
-    assert_eq!(rt; *found, *wanted, "{what}");
-}

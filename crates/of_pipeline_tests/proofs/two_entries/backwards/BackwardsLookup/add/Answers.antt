@@ -1,0 +1,18 @@
+use Rattle.std.specs.Prelude.{reverse}
+use Rattle.of_wire.proofs.NumberedLemmas.{distinct-push}
+use Rattle.of_classifier.specs.Rows.{made_row, row_number}
+use Rattle.of_classifier.proofs.Given.{unused_of_vacant, given-push}
+use Rattle.of_pipeline_tests.proofs.two_entries.backwards.Reversed.{reverse-cons}
+use Rattle.of_pipeline_tests.proofs.two_entries.backwards.BackwardsLookup.add.Goals as goal
+
+pub invariant_of-self-2 : goal.invariant_of-self-2
+invariant_of-self-2 c =
+    let rows = reverse c.self.inside.rows.items in
+    let number = c.in_ok-number.number in
+    let row = made_row number c.args.priority c.args.fields in
+    let unused = unused_of_vacant c.self.inside.numbers rows number c.self.invariant.1 c.in_ok-number.ensures.was_vacant in
+    rw (c.in_ok-insert.ensures.items, c.reserve.ensures.items, reverse-cons row c.self.inside.rows.items) (distinct-push row_number rows row c.self.invariant.0 unused, given-push c.self.inside.numbers c.insert.new.self _ rows row c.self.invariant.1 c.in_ok-number.ensures.updates)
+
+pub returns-clause-unused : goal.returns-clause-unused
+returns-clause-unused c =
+    rw (← c.self.view_is) (unused_of_vacant c.self.inside.numbers (reverse c.self.inside.rows.items) c.in_ok-number.number c.self.invariant.1 c.in_ok-number.ensures.was_vacant)

@@ -1,0 +1,3 @@
+pub mod EncodedLemmas
+pub mod WhyLemmas
+pub mod ReasonLemmas
