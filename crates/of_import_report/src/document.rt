@@ -5,10 +5,12 @@ ghost use Rattle.of_json.specs.Parts.{listed};
 ghost use Rattle.of_json.specs.Strings.{array_member, string};
 ghost use Rattle.of_import_report.specs.Json.{count_member, import_head_members, import_json, lines_left_out as left_out_of, move_object, refused_json};
 
-use crate::items::{push_flag_member, push_item_members, push_move_objects};
+use crate::items::{push_flag_member, push_item_members, push_move_object};
 use crate::refusals::push_refused_members;
 use of_import::{Import, LineFaults, LineRefusal};
-use of_json::{begin_array, push_key, push_line_strings, push_number_member, push_quoted};
+use of_json::{
+    begin_array, push_array_member, push_key, push_line_strings, push_number_member, push_quoted,
+};
 use std::alloc::{AllocError, Global};
 
 #[tactic(auto, unfolding(crate::specs::Json::import_head_members))]
@@ -27,14 +29,15 @@ pub fn left_out(faults: &[LineFaults], refused: &[LineRefusal], changed: usize) 
     faults.len() as u128 + refused.len() as u128 + changed as u128
 }
 
-#[tactic(auto, unfolding(of_json::specs::Strings::array_member))]
 fn push_tables_array(out: &mut Vec<u8>, moves: &[(u8, u8)]) -> Result<(), AllocError>
     ensures { OnOk result (out.new.items ≡ out.old.items ++ array_member (codes "tables") (listed move_object moves.now)) }
 {
-    begin_array(out, b"tables")?;
-    push_move_objects(out, moves)?;
-    out.push(b']')?;
-    Ok(())
+    push_array_member(
+        out,
+        b"tables",
+        moves,
+        |out, it| push_move_object(out, it.0, it.1),
+    )
 }
 
 #[tactic(auto, unfolding(of_json::specs::Strings::array_member))]

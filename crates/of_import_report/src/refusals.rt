@@ -1,6 +1,5 @@
 //! Lines that are refused, as JSON.
-ghost use Rattle.std.specs.Prelude.{◌≡◌, ◌++◌, ◌∷◌, codes, OnOk};
-ghost use Rattle.std.specs.List.{flat_map};
+ghost use Rattle.std.specs.Prelude.{◌≡◌, ◌++◌, codes, OnOk};
 ghost use Rattle.std.specs.Option.{option_map};
 ghost use Rattle.of_json.specs.Parts.{listed};
 ghost use Rattle.of_json.specs.Strings.{array_member};
@@ -12,7 +11,10 @@ ghost use Rattle.of_import_report.specs.Views.{view_names};
 use crate::keywords::{count_lines_with, keywords};
 use crate::whys::why_words;
 use of_import::{LineFaults, LineRefusal, WordFault};
-use of_json::{begin_array, push_key, push_number_member, push_string, push_text_member};
+use of_json::{
+    begin_array, push_array_member, push_key, push_listed, push_number_member, push_string,
+    push_text_member,
+};
 use of_values::push_decimal;
 use of_wire::Code;
 use std::alloc::{AllocError, Global};
@@ -39,60 +41,16 @@ fn push_word(out: &mut Vec<u8>, fault: &WordFault) -> Result<(), AllocError>
     Ok(())
 }
 
-fn push_further_words(out: &mut Vec<u8>, faults: &[WordFault]) -> Result<(), AllocError>
-    ensures { OnOk result (out.new.items ≡ out.old.items ++ flat_map (λ f. 44 ∷ word_object f) faults.now) }
-{
-    for fault in faults {
-        out.push(b',')?;
-        push_word(out, fault)?;
-    }
-    Ok(())
-}
-
-fn push_word_objects(out: &mut Vec<u8>, faults: &[WordFault]) -> Result<(), AllocError>
-    ensures { OnOk result (out.new.items ≡ out.old.items ++ listed word_object faults.now) }
-{
-    match faults {
-        [] => Ok(()),
-        [first, others @ ..] => {
-            push_word(out, first)?;
-            push_further_words(out, others)
-        }
-    }
-}
-
 // Appends a line with words that are refused.
-#[tactic(auto, unfolding(crate::specs::Json::fault_object, of_json::specs::Strings::array_member))]
+#[tactic(auto, unfolding(crate::specs::Json::fault_object))]
 fn push_fault_object(out: &mut Vec<u8>, line: &LineFaults) -> Result<(), AllocError>
     ensures { OnOk result (out.new.items ≡ out.old.items ++ fault_object line.now) }
 {
     out.push(b'{')?;
     push_line_member(out, line.line)?;
-    begin_array(out, b"words")?;
-    push_word_objects(out, &line.faults)?;
-    out.extend_from_slice(b"]}")
-}
-
-fn push_further_faults(out: &mut Vec<u8>, faults: &[LineFaults]) -> Result<(), AllocError>
-    ensures { OnOk result (out.new.items ≡ out.old.items ++ flat_map (λ l. 44 ∷ fault_object l) faults.now) }
-{
-    for line in faults {
-        out.push(b',')?;
-        push_fault_object(out, line)?;
-    }
+    push_array_member(out, b"words", &line.faults, push_word)?;
+    out.push(b'}')?;
     Ok(())
-}
-
-fn push_fault_objects(out: &mut Vec<u8>, faults: &[LineFaults]) -> Result<(), AllocError>
-    ensures { OnOk result (out.new.items ≡ out.old.items ++ listed fault_object faults.now) }
-{
-    match faults {
-        [] => Ok(()),
-        [first, others @ ..] => {
-            push_fault_object(out, first)?;
-            push_further_faults(out, others)
-        }
-    }
 }
 
 // Appends the name of an error, if the standard names it.
@@ -125,28 +83,6 @@ fn push_refusal_object(out: &mut Vec<u8>, it: &LineRefusal) -> Result<(), AllocE
     Ok(())
 }
 
-fn push_further_refusals(out: &mut Vec<u8>, refused: &[LineRefusal]) -> Result<(), AllocError>
-    ensures { OnOk result (out.new.items ≡ out.old.items ++ flat_map (λ r. 44 ∷ refusal_object r) refused.now) }
-{
-    for it in refused {
-        out.push(b',')?;
-        push_refusal_object(out, it)?;
-    }
-    Ok(())
-}
-
-fn push_refusal_objects(out: &mut Vec<u8>, refused: &[LineRefusal]) -> Result<(), AllocError>
-    ensures { OnOk result (out.new.items ≡ out.old.items ++ listed refusal_object refused.now) }
-{
-    match refused {
-        [] => Ok(()),
-        [first, others @ ..] => {
-            push_refusal_object(out, first)?;
-            push_further_refusals(out, others)
-        }
-    }
-}
-
 // Appends a keyword, and how many lines have it.
 #[tactic(auto, unfolding(crate::specs::Json::keyword_object))]
 fn push_keyword(out: &mut Vec<u8>, faults: &[LineFaults], name: &[u8]) -> Result<(), AllocError>
@@ -160,20 +96,6 @@ fn push_keyword(out: &mut Vec<u8>, faults: &[LineFaults], name: &[u8]) -> Result
     Ok(())
 }
 
-fn push_further_keywords(
-    out: &mut Vec<u8>,
-    faults: &[LineFaults],
-    names: &[Vec<u8>],
-) -> Result<(), AllocError>
-    ensures { OnOk result (out.new.items ≡ out.old.items ++ flat_map (λ n. 44 ∷ keyword_object faults.now n) (view_names names.now)) }
-{
-    for name in names {
-        out.push(b',')?;
-        push_keyword(out, faults, name)?;
-    }
-    Ok(())
-}
-
 fn push_keywords(
     out: &mut Vec<u8>,
     faults: &[LineFaults],
@@ -181,13 +103,7 @@ fn push_keywords(
 ) -> Result<(), AllocError>
     ensures { OnOk result (out.new.items ≡ out.old.items ++ listed (keyword_object faults.now) (view_names names.now)) }
 {
-    match names {
-        [] => Ok(()),
-        [first, others @ ..] => {
-            push_keyword(out, faults, first)?;
-            push_further_keywords(out, faults, others)
-        }
-    }
+    push_listed(out, names, |out, name| push_keyword(out, faults, name))
 }
 
 fn push_keywords_of(
@@ -201,24 +117,16 @@ fn push_keywords_of(
     push_keywords(out, faults, &names)
 }
 
-#[tactic(auto, unfolding(of_json::specs::Strings::array_member))]
 fn push_faults_array(out: &mut Vec<u8>, faults: &[LineFaults]) -> Result<(), AllocError>
     ensures { OnOk result (out.new.items ≡ out.old.items ++ array_member (codes "faults") (listed fault_object faults.now)) }
 {
-    begin_array(out, b"faults")?;
-    push_fault_objects(out, faults)?;
-    out.push(b']')?;
-    Ok(())
+    push_array_member(out, b"faults", faults, push_fault_object)
 }
 
-#[tactic(auto, unfolding(of_json::specs::Strings::array_member))]
 fn push_refused_array(out: &mut Vec<u8>, refused: &[LineRefusal]) -> Result<(), AllocError>
     ensures { OnOk result (out.new.items ≡ out.old.items ++ array_member (codes "refused") (listed refusal_object refused.now)) }
 {
-    begin_array(out, b"refused")?;
-    push_refusal_objects(out, refused)?;
-    out.push(b']')?;
-    Ok(())
+    push_array_member(out, b"refused", refused, push_refusal_object)
 }
 
 #[tactic(auto, unfolding(of_json::specs::Strings::array_member))]

@@ -1,10 +1,10 @@
 //! What a dump counted of a flow.
-ghost use Rattle.std.specs.Prelude.{◌≡◌, ◌++◌, ◌∷◌, OnOk};
-ghost use Rattle.std.specs.List.{flat_map};
+ghost use Rattle.std.specs.Prelude.{◌≡◌, ◌++◌, OnOk};
 ghost use Rattle.of_values.specs.Origins.{view_words};
 ghost use Rattle.of_json.specs.Parts.{listed};
 ghost use Rattle.of_json.specs.Strings.{counter_member, counters_member};
 
+use crate::listing::push_listed;
 use crate::parts::push_key;
 use crate::strings::push_string;
 use of_ovs_words::{name_of, value_of};
@@ -20,26 +20,10 @@ fn push_counter(out: &mut Vec<u8>, word: &[u8]) -> Result<(), AllocError>
     push_string(out, value_of(word))
 }
 
-fn push_further_counters(out: &mut Vec<u8>, words: &[Vec<u8>]) -> Result<(), AllocError>
-    ensures { OnOk result (out.new.items ≡ out.old.items ++ flat_map (λ w. 44 ∷ counter_member w) (view_words words.now)) }
-{
-    for word in words {
-        out.push(b',')?;
-        push_counter(out, word)?;
-    }
-    Ok(())
-}
-
 fn push_counter_members(out: &mut Vec<u8>, words: &[Vec<u8>]) -> Result<(), AllocError>
     ensures { OnOk result (out.new.items ≡ out.old.items ++ listed counter_member (view_words words.now)) }
 {
-    match words {
-        [] => Ok(()),
-        [first, others @ ..] => {
-            push_counter(out, first)?;
-            push_further_counters(out, others)
-        }
-    }
+    push_listed(out, words, |out, word| push_counter(out, word))
 }
 
 /// Appends a further member: words that a dump counts, such as `n_packets=12`, as an object.

@@ -4,15 +4,17 @@
 
 mod counters;
 mod lines;
+mod listing;
 mod matches;
 mod parts;
 mod strings;
 
 pub use counters::push_counters_member;
 pub use lines::push_line_strings;
+pub use listing::{push_array_member, push_listed};
 pub use matches::push_match_object;
 pub use parts::{
     push_bytes_member, push_hex_member, push_key, push_number_member, push_quoted,
     push_text_member, push_truth,
 };
-pub use strings::{begin_array, push_string, push_string_member, push_strings};
+pub use strings::{begin_array, push_string, push_string_member};

@@ -1,8 +1,8 @@
 //! Matches.
-ghost use Rattle.std.specs.Prelude.{◌≡◌, ◌++◌, ◌∷◌, OnOk};
-ghost use Rattle.std.specs.List.{flat_map};
-ghost use Rattle.of_json.specs.Parts.{listed, match_member, match_object};
+ghost use Rattle.std.specs.Prelude.{◌≡◌, ◌++◌, OnOk};
+ghost use Rattle.of_json.specs.Parts.{match_member, match_object};
 
+use crate::listing::push_listed;
 use crate::parts::push_key;
 use of_oxm::MatchField;
 use of_values::push_value_words;
@@ -19,35 +19,13 @@ fn push_match(out: &mut Vec<u8>, e: &MatchField) -> Result<(), AllocError>
     Ok(())
 }
 
-fn push_further_matches(out: &mut Vec<u8>, fields: &[MatchField]) -> Result<(), AllocError>
-    ensures { OnOk result (out.new.items ≡ out.old.items ++ flat_map (λ e. 44 ∷ match_member e) fields.now) }
-{
-    for e in fields {
-        out.push(b',')?;
-        push_match(out, e)?;
-    }
-    Ok(())
-}
-
-fn push_matches(out: &mut Vec<u8>, fields: &[MatchField]) -> Result<(), AllocError>
-    ensures { OnOk result (out.new.items ≡ out.old.items ++ listed match_member fields.now) }
-{
-    match fields {
-        [] => Ok(()),
-        [first, others @ ..] => {
-            push_match(out, first)?;
-            push_further_matches(out, others)
-        }
-    }
-}
-
 /// Appends a match, as an object.
 #[tactic(auto, unfolding(crate::specs::Parts::match_object))]
 pub fn push_match_object(out: &mut Vec<u8>, fields: &[MatchField]) -> Result<(), AllocError>
     ensures { OnOk result (out.new.items ≡ out.old.items ++ match_object fields.now) }
 {
     out.push(b'{')?;
-    push_matches(out, fields)?;
+    push_listed(out, fields, push_match)?;
     out.push(b'}')?;
     Ok(())
 }

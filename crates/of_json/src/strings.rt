@@ -1,8 +1,8 @@
 //! Strings of JSON with any bytes.
 ghost use Rattle.std.specs.Prelude.{◌≡◌, ◌++◌, ◌∷◌, [], OnOk};
 ghost use Rattle.std.specs.List.{flat_map};
-ghost use Rattle.of_json.specs.Parts.{key, listed};
-ghost use Rattle.of_json.specs.Strings.{escaped, string, string_member, string_of};
+ghost use Rattle.of_json.specs.Parts.{key};
+ghost use Rattle.of_json.specs.Strings.{escaped, string, string_member};
 
 use crate::parts::push_key;
 use of_values::printable;
@@ -38,29 +38,6 @@ pub fn push_string(out: &mut Vec<u8>, text: &[u8]) -> Result<(), AllocError>
     push_all_escaped(out, text)?;
     out.push(b'"')?;
     Ok(())
-}
-
-fn push_further_strings(out: &mut Vec<u8>, words: &[Vec<u8>]) -> Result<(), AllocError>
-    ensures { OnOk result (out.new.items ≡ out.old.items ++ flat_map (λ w. 44 ∷ string_of w) words.now) }
-{
-    for word in words {
-        out.push(b',')?;
-        push_string(out, word)?;
-    }
-    Ok(())
-}
-
-/// Appends strings, with commas between them.
-pub fn push_strings(out: &mut Vec<u8>, words: &[Vec<u8>]) -> Result<(), AllocError>
-    ensures { OnOk result (out.new.items ≡ out.old.items ++ listed string_of words.now) }
-{
-    match words {
-        [] => Ok(()),
-        [first, others @ ..] => {
-            push_string(out, first)?;
-            push_further_strings(out, others)
-        }
-    }
 }
 
 /// Appends the name of a further member that is an array, and its bracket.

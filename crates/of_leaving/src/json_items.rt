@@ -1,13 +1,11 @@
 //! What leaves a switch, as JSON.
-ghost use Rattle.std.specs.Prelude.{◌≡◌, ◌++◌, ◌∷◌, OnOk, codes, decimal};
-ghost use Rattle.std.specs.List.{flat_map};
-ghost use Rattle.of_json.specs.Parts.{listed};
+ghost use Rattle.std.specs.Prelude.{◌≡◌, ◌++◌, OnOk, codes, decimal};
 ghost use Rattle.of_leaving.specs.LeavingJson.{leaving_members, item_object, items_member, max_len_member, packet_in_members, place_member};
 
 use crate::items::reason_name;
 use of_json::{
-    begin_array, push_bytes_member, push_hex_member, push_key, push_number_member, push_quoted,
-    push_text_member,
+    push_array_member, push_bytes_member, push_hex_member, push_key, push_number_member,
+    push_quoted, push_text_member,
 };
 use of_machine::{Item, ToController};
 use of_values::push_decimal;
@@ -84,31 +82,8 @@ fn push_item_object(alloc: Global, out: &mut Vec<u8>, item: &Item) -> Result<(),
     Ok(())
 }
 
-fn push_further_items(alloc: Global, out: &mut Vec<u8>, items: &[Item]) -> Result<(), AllocError>
-    ensures { OnOk result (out.new.items ≡ out.old.items ++ flat_map (λ i. 44 ∷ item_object i) items.now) }
-{
-    for item in items {
-        out.push(b',')?;
-        push_item_object(alloc, out, item)?;
-    }
-    Ok(())
-}
-
-// Appends items, with commas between them.
-fn push_item_objects(alloc: Global, out: &mut Vec<u8>, items: &[Item]) -> Result<(), AllocError>
-    ensures { OnOk result (out.new.items ≡ out.old.items ++ listed item_object items.now) }
-{
-    match items {
-        [] => Ok(()),
-        [first, others @ ..] => {
-            push_item_object(alloc, out, first)?;
-            push_further_items(alloc, out, others)
-        }
-    }
-}
-
 /// Appends a further member: an array with an object for each item.
-#[tactic(auto, unfolding(crate::specs::LeavingJson::items_member))]
+#[tactic(auto, unfolding(crate::specs::LeavingJson::items_member, of_json::specs::Strings::array_member))]
 pub fn push_items_member(
     alloc: Global,
     out: &mut Vec<u8>,
@@ -117,8 +92,10 @@ pub fn push_items_member(
 ) -> Result<(), AllocError>
     ensures { OnOk result (out.new.items ≡ out.old.items ++ items_member name.now items.now) }
 {
-    begin_array(out, name)?;
-    push_item_objects(alloc, out, items)?;
-    out.push(b']')?;
-    Ok(())
+    push_array_member(
+        out,
+        name,
+        items,
+        |out, item| push_item_object(alloc, out, item),
+    )
 }

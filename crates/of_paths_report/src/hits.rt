@@ -1,9 +1,8 @@
 //! Which entries the paths of a class hit, in words.
-ghost use Rattle.std.specs.Prelude.{◌≡◌, ◌++◌, ◌∷◌, OnOk, drop, take};
-ghost use Rattle.std.specs.List.{flat_map};
-ghost use Rattle.of_json.specs.Parts.{listed};
+ghost use Rattle.std.specs.Prelude.{◌≡◌, ◌++◌, OnOk, drop, take};
 ghost use Rattle.of_paths_report.specs.PathsWords.{counted_sets, further_paths, further_words, hit_words, left_out_mark, path_hits, sets_said};
 
+use of_json::push_listed;
 use of_machine::Step;
 use of_paths::Path;
 use of_values::push_decimal;
@@ -36,29 +35,6 @@ fn push_path_hits(out: &mut Vec<u8>, path: &Path) -> Result<(), AllocError>
         push_hit(out, *step)?;
     }
     Ok(())
-}
-
-fn push_further_hits(out: &mut Vec<u8>, paths: &[Path]) -> Result<(), AllocError>
-    ensures { OnOk result (out.new.items ≡ out.old.items ++ flat_map (λ p. 44 ∷ path_hits p) paths.now) }
-{
-    for path in paths {
-        out.push(b',')?;
-        push_path_hits(out, path)?;
-    }
-    Ok(())
-}
-
-// Appends the entries of each path, with commas between them.
-fn push_hits(out: &mut Vec<u8>, paths: &[Path]) -> Result<(), AllocError>
-    ensures { OnOk result (out.new.items ≡ out.old.items ++ listed path_hits paths.now) }
-{
-    match paths {
-        [] => Ok(()),
-        [first, others @ ..] => {
-            push_path_hits(out, first)?;
-            push_further_hits(out, others)
-        }
-    }
 }
 
 fn named_paths(paths: &[Path]) -> &[Path]
@@ -107,7 +83,7 @@ fn push_further_paths(out: &mut Vec<u8>, paths: &[Path]) -> Result<(), AllocErro
     ensures { OnOk result (out.new.items ≡ out.old.items ++ further_paths paths.now) }
 {
     push_counted_sets(out, paths.len())?;
-    push_hits(out, named_paths(paths))?;
+    push_listed(out, named_paths(paths), push_path_hits)?;
     push_left_out(out, paths.len())?;
     out.push(b'\n')?;
     Ok(())

@@ -10,7 +10,9 @@ use crate::classes::traced;
 use crate::destination::{Destination, is_shown};
 use crate::json_hits::push_hits_member;
 use of_classifier::Lookup;
-use of_json::{begin_array, push_bytes_member, push_key, push_number_member, push_quoted};
+use of_json::{
+    begin_array, push_array_member, push_bytes_member, push_key, push_number_member, push_quoted,
+};
 use of_leaving::push_items_member;
 use of_machine::Step;
 use of_paths::{PathClass, Paths, UndecidedFrames, WhyUndecided};
@@ -170,40 +172,11 @@ fn push_frames_string(out: &mut Vec<u8>, set: &UndecidedFrames) -> Result<(), Al
     push_quoted(out, why_as_json(set.why))
 }
 
-fn push_further_frames_strings(
-    out: &mut Vec<u8>,
-    undecided: &[UndecidedFrames],
-) -> Result<(), AllocError>
-    ensures { OnOk result (out.new.items ≡ out.old.items ++ flat_map (λ u. 44 ∷ undecided_frames_string u) undecided.now) }
-{
-    for set in undecided {
-        out.push(b',')?;
-        push_frames_string(out, set)?;
-    }
-    Ok(())
-}
-
-// Appends why sets of frames are undecided, with commas between the words.
-fn push_frames_strings(out: &mut Vec<u8>, undecided: &[UndecidedFrames]) -> Result<(), AllocError>
-    ensures { OnOk result (out.new.items ≡ out.old.items ++ listed undecided_frames_string undecided.now) }
-{
-    match undecided {
-        [] => Ok(()),
-        [first, others @ ..] => {
-            push_frames_string(out, first)?;
-            push_further_frames_strings(out, others)
-        }
-    }
-}
-
-#[tactic(auto, unfolding(crate::specs::PathsJson::undecided_frames_member))]
+#[tactic(auto, unfolding(crate::specs::PathsJson::undecided_frames_member, of_json::specs::Strings::array_member))]
 fn push_frames_member(out: &mut Vec<u8>, undecided: &[UndecidedFrames]) -> Result<(), AllocError>
     ensures { OnOk result (out.new.items ≡ out.old.items ++ undecided_frames_member undecided.now) }
 {
-    begin_array(out, b"undecided")?;
-    push_frames_strings(out, undecided)?;
-    out.push(b']')?;
-    Ok(())
+    push_array_member(out, b"undecided", undecided, push_frames_string)
 }
 
 #[tactic(auto, unfolding(crate::specs::PathsJson::paths_head))]

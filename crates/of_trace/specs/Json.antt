@@ -11,6 +11,7 @@ use Rattle.of_datapath.specs.declared.effect.Effect.{Effect}
 use Rattle.of_datapath.specs.declared.effect.Effect.TheVariants.{Answer, Sent, Closed}
 use Rattle.of_datapath.specs.Datapath.{Forwarding}
 use Rattle.of_json.specs.Parts.{key, listed, match_object, number_member, quoted, text_member}
+use Rattle.of_json.specs.Strings.{array_member}
 use Rattle.of_values.specs.Numbers as numbers
 use Rattle.of_values.specs.Values.{value_words}
 use Rattle.of_trace.specs.Words.{flow_there}
@@ -72,6 +73,5 @@ head_members port frame = key (codes "command") ++ quoted (codes "trace") ++ num
 -- THE DOCUMENT
 unfoldable pub trace_json : Forwarding → ℕ → List ℕ → List Step → List Effect → List ℕ
 trace_json f port frame steps effects =
-    123 ∷ head_members port frame
-    ++ 44 ∷ key (codes "steps") ++ 91 ∷ listed (step_object f) steps ++ 93
-    ∷ 44 ∷ key (codes "effects") ++ 91 ∷ listed effect_object effects ++ 93 ∷ 125 ∷ 10 ∷ []
+    123 ∷ head_members port frame ++ array_member (codes "steps") (listed (step_object f) steps)
+    ++ array_member (codes "effects") (listed effect_object effects) ++ 125 ∷ 10 ∷ []

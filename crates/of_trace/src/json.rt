@@ -1,7 +1,7 @@
 //! Traces as JSON.
 ghost use Rattle.std.specs.Prelude.{◌≡◌, ◌++◌, ◌∷◌, IfOk, OnOk, None, Some, codes};
-ghost use Rattle.std.specs.List.{flat_map};
 ghost use Rattle.of_json.specs.Parts.{listed, number_member, text_member};
+ghost use Rattle.of_json.specs.Strings.{array_member};
 ghost use Rattle.of_values.specs.Numbers.{port_in_words as port_words};
 ghost use Rattle.of_values.specs.Values.{value_words};
 ghost use Rattle.of_trace.specs.Json.{action_members, effect_members, effect_named, effect_object, flow_members, head_members, hexadecimal_member, step_member, step_members, step_object, trace_json};
@@ -11,8 +11,8 @@ use of_actions::Action;
 use of_classifier::Lookup;
 use of_headers::Field;
 use of_json::{
-    push_bytes_member, push_key, push_match_object, push_number_member, push_quoted,
-    push_text_member,
+    push_array_member, push_bytes_member, push_key, push_match_object, push_number_member,
+    push_quoted, push_text_member,
 };
 use of_machine::Step;
 use of_switch::{Effect, Switch};
@@ -185,35 +185,20 @@ fn push_step_object<L: Lookup>(
     Ok(())
 }
 
-fn push_further_steps<L: Lookup>(
-    out: &mut Vec<u8>,
-    switch: &Switch<L>,
-    steps: &[Step],
-) -> Result<(), AllocError>
-    ensures { OnOk result (out.new.items ≡ out.old.items ++ flat_map (λ s. 44 ∷ step_object switch.now.core.forwarding s) steps.now) }
-{
-    for step in steps {
-        out.push(b',')?;
-        push_step_object(out, switch, *step)?;
-    }
-    Ok(())
-}
-
-// Appends steps, with commas between them.
+// Appends a further member: an array with an object for each step.
 fn push_steps<L: Lookup>(
     out: &mut Vec<u8>,
     switch: &Switch<L>,
     steps: &[Step],
 ) -> Result<(), AllocError>
-    ensures { OnOk result (out.new.items ≡ out.old.items ++ listed (step_object switch.now.core.forwarding) steps.now) }
+    ensures { OnOk result (out.new.items ≡ out.old.items ++ array_member (codes "steps") (listed (step_object switch.now.core.forwarding) steps.now)) }
 {
-    match steps {
-        [] => Ok(()),
-        [first, others @ ..] => {
-            push_step_object(out, switch, *first)?;
-            push_further_steps(out, switch, others)
-        }
-    }
+    push_array_member(
+        out,
+        b"steps",
+        steps,
+        |out, step| push_step_object(out, switch, *step),
+    )
 }
 
 // Appends the first member of an effect.
@@ -253,31 +238,16 @@ fn push_effect_object(alloc: Global, out: &mut Vec<u8>, effect: &Effect) -> Resu
     Ok(())
 }
 
-fn push_further_effects(
-    alloc: Global,
-    out: &mut Vec<u8>,
-    effects: &[Effect],
-) -> Result<(), AllocError>
-    ensures { OnOk result (out.new.items ≡ out.old.items ++ flat_map (λ e. 44 ∷ effect_object e) effects.now) }
-{
-    for effect in effects {
-        out.push(b',')?;
-        push_effect_object(alloc, out, effect)?;
-    }
-    Ok(())
-}
-
-// Appends effects, with commas between them.
+// Appends a further member: an array with an object for each effect.
 fn push_effects(alloc: Global, out: &mut Vec<u8>, effects: &[Effect]) -> Result<(), AllocError>
-    ensures { OnOk result (out.new.items ≡ out.old.items ++ listed effect_object effects.now) }
+    ensures { OnOk result (out.new.items ≡ out.old.items ++ array_member (codes "effects") (listed effect_object effects.now)) }
 {
-    match effects {
-        [] => Ok(()),
-        [first, others @ ..] => {
-            push_effect_object(alloc, out, first)?;
-            push_further_effects(alloc, out, others)
-        }
-    }
+    push_array_member(
+        out,
+        b"effects",
+        effects,
+        |out, effect| push_effect_object(alloc, out, effect),
+    )
 }
 
 // Appends the port and the frame.
@@ -306,14 +276,8 @@ pub fn print_json<L: Lookup>(
     let mut out = Vec::new(alloc);
     out.push(b'{')?;
     push_head(alloc, &mut out, port, frame)?;
-    out.push(b',')?;
-    push_key(&mut out, b"steps")?;
-    out.push(b'[')?;
     push_steps(&mut out, switch, &trace.steps)?;
-    out.extend_from_slice(b"],")?;
-    push_key(&mut out, b"effects")?;
-    out.push(b'[')?;
     push_effects(alloc, &mut out, &trace.effects)?;
-    out.extend_from_slice(b"]}\n")?;
+    out.extend_from_slice(b"}\n")?;
     Ok(out)
 }
