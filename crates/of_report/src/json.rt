@@ -1,19 +1,17 @@
 //! The report as JSON.
 ghost use Rattle.std.specs.Prelude.{◌≡◌, ◌++◌, ◌∷◌, option_map, IfOk, OnOk};
-ghost use Rattle.std.specs.List.{flat_map};
-ghost use Rattle.of_json.specs.Parts.{listed};
 ghost use Rattle.of_report.specs.Json.{finding_object, flows_member, report_head_members, never_members, packet_members, remarks_member, report_json, shadows_member, summary_member, summary_members, truth_member, verdict_members, words_member};
 ghost use Rattle.of_report.specs.Report.{packet_as_words};
 ghost use Rattle.of_values.specs.Origins.{view_origins};
 
 use crate::counting::{count_open, count_shadowed, count_wins, is_found};
-use crate::json_entries::{push_entry_array, push_entry_members};
-use crate::json_remarks::push_remark_objects;
+use crate::json_entries::{push_entry_members, push_entry_object};
+use crate::json_remarks::push_remark_object;
 use crate::packets::packet_words;
 use of_check::{Finding, Verdict};
 use of_json::{
-    push_bytes_member, push_hex_member, push_key, push_number_member, push_quoted,
-    push_text_member, push_truth,
+    push_array_member, push_bytes_member, push_hex_member, push_key, push_number_member,
+    push_quoted, push_text_member, push_truth,
 };
 use of_remarks::Remark;
 use of_text::Config;
@@ -71,7 +69,7 @@ fn push_truth_member(out: &mut Vec<u8>, name: &[u8], truth: bool) -> Result<(), 
 }
 
 // Appends the entries that shadow another one.
-#[tactic(auto, unfolding(crate::specs::Json::shadows_member))]
+#[tactic(auto, unfolding(crate::specs::Json::shadows_member, crate::specs::Json::entry_array, of_json::specs::Strings::array_member))]
 fn push_shadows(
     out: &mut Vec<u8>,
     config: &Config,
@@ -81,9 +79,9 @@ fn push_shadows(
 ) -> Result<(), AllocError>
     ensures { OnOk result (out.new.items ≡ out.old.items ++ shadows_member (view_origins origins.now) config.now.tables table by.now) }
 {
-    out.push(b',')?;
-    push_key(out, b"shadowed_by")?;
-    push_entry_array(out, config, origins, table, by)
+    push_array_member(out, b"shadowed_by", by, |out, place| {
+        push_entry_object(out, config, origins, table, *place)
+    })
 }
 
 #[tactic(auto, unfolding(crate::specs::Json::never_members))]
@@ -141,41 +139,6 @@ fn push_finding(
     Ok(())
 }
 
-fn push_further_findings(
-    alloc: Global,
-    out: &mut Vec<u8>,
-    config: &Config,
-    origins: &[Vec<Origin>],
-    findings: &[Finding],
-) -> Result<(), AllocError>
-    ensures { OnOk result (out.new.items ≡ out.old.items ++
-        flat_map (λ f. 44 ∷ finding_object (view_origins origins.now) config.now.tables f) findings.now) }
-{
-    for finding in findings {
-        out.push(b',')?;
-        push_finding(alloc, out, config, origins, finding)?;
-    }
-    Ok(())
-}
-
-fn push_findings(
-    alloc: Global,
-    out: &mut Vec<u8>,
-    config: &Config,
-    origins: &[Vec<Origin>],
-    findings: &[Finding],
-) -> Result<(), AllocError>
-    ensures { OnOk result (out.new.items ≡ out.old.items ++ listed (finding_object (view_origins origins.now) config.now.tables) findings.now) }
-{
-    match findings {
-        [] => Ok(()),
-        [first, others @ ..] => {
-            push_finding(alloc, out, config, origins, first)?;
-            push_further_findings(alloc, out, config, origins, others)
-        }
-    }
-}
-
 // Appends how many entries there are of each kind.
 #[tactic(auto, unfolding(crate::specs::Json::summary_members))]
 fn push_summary(out: &mut Vec<u8>, findings: &[Finding]) -> Result<(), AllocError>
@@ -211,7 +174,7 @@ fn push_head(out: &mut Vec<u8>, findings: &[Finding], remarks: &[Remark]) -> Res
     push_summary_member(out, findings)
 }
 
-#[tactic(auto, unfolding(crate::specs::Json::flows_member))]
+#[tactic(auto, unfolding(crate::specs::Json::flows_member, of_json::specs::Strings::array_member))]
 fn push_flows_member(
     alloc: Global,
     out: &mut Vec<u8>,
@@ -221,15 +184,12 @@ fn push_flows_member(
 ) -> Result<(), AllocError>
     ensures { OnOk result (out.new.items ≡ out.old.items ++ flows_member (view_origins origins.now) config.now.tables findings.now) }
 {
-    out.push(b',')?;
-    push_key(out, b"flows")?;
-    out.push(b'[')?;
-    push_findings(alloc, out, config, origins, findings)?;
-    out.push(b']')?;
-    Ok(())
+    push_array_member(out, b"flows", findings, |out, finding| {
+        push_finding(alloc, out, config, origins, finding)
+    })
 }
 
-#[tactic(auto, unfolding(crate::specs::Json::remarks_member))]
+#[tactic(auto, unfolding(crate::specs::Json::remarks_member, of_json::specs::Strings::array_member))]
 fn push_remarks_member(
     out: &mut Vec<u8>,
     config: &Config,
@@ -238,12 +198,9 @@ fn push_remarks_member(
 ) -> Result<(), AllocError>
     ensures { OnOk result (out.new.items ≡ out.old.items ++ remarks_member (view_origins origins.now) config.now.tables remarks.now) }
 {
-    out.push(b',')?;
-    push_key(out, b"remarks")?;
-    out.push(b'[')?;
-    push_remark_objects(out, config, origins, remarks)?;
-    out.push(b']')?;
-    Ok(())
+    push_array_member(out, b"remarks", remarks, |out, remark| {
+        push_remark_object(out, config, origins, remark)
+    })
 }
 
 /// The report on findings and remarks as JSON, for a configuration whose entries come from these lines.

@@ -1,9 +1,7 @@
 //! Flow entries as JSON.
 ghost use Rattle.std.specs.Prelude.{◌≡◌, ◌++◌, ◌∷◌, Some, option_map, slice_get, OnOk};
-ghost use Rattle.std.specs.List.{flat_map};
 ghost use Rattle.of_text.specs.Views.{view, view_flows};
-ghost use Rattle.of_json.specs.Parts.{listed};
-ghost use Rattle.of_report.specs.Json.{counters_of, entry_array, entry_members, entry_object, line_member, match_member_of, reported_flow_members, some_counters};
+ghost use Rattle.of_report.specs.Json.{counters_of, entry_members, entry_object, line_member, match_member_of, reported_flow_members, some_counters};
 ghost use Rattle.of_values.specs.Origins.{view_origin, view_origins, view_words};
 
 use crate::entries::{entries_of, origin_at};
@@ -98,8 +96,9 @@ pub fn push_entry_members(
     )
 }
 
+/// Appends an entry of a table, as an object.
 #[tactic(auto, unfolding(crate::specs::Json::entry_object))]
-fn push_entry_object(
+pub fn push_entry_object(
     out: &mut Vec<u8>,
     config: &Config,
     origins: &[Vec<Origin>],
@@ -111,58 +110,5 @@ fn push_entry_object(
     out.push(b'{')?;
     push_entry_members(out, config, origins, table, place)?;
     out.push(b'}')?;
-    Ok(())
-}
-
-fn push_further_objects(
-    out: &mut Vec<u8>,
-    config: &Config,
-    origins: &[Vec<Origin>],
-    table: u8,
-    places: &[usize],
-) -> Result<(), AllocError>
-    ensures { OnOk result (out.new.items ≡ out.old.items ++
-        flat_map (λ place. 44 ∷ entry_object (view_origins origins.now) config.now.tables table place) places.now) }
-{
-    for place in places {
-        out.push(b',')?;
-        push_entry_object(out, config, origins, table, *place)?;
-    }
-    Ok(())
-}
-
-// Appends entries of a table, with commas between them.
-fn push_entry_objects(
-    out: &mut Vec<u8>,
-    config: &Config,
-    origins: &[Vec<Origin>],
-    table: u8,
-    places: &[usize],
-) -> Result<(), AllocError>
-    ensures { OnOk result (out.new.items ≡ out.old.items ++ listed (entry_object (view_origins origins.now) config.now.tables table) places.now) }
-{
-    match places {
-        [] => Ok(()),
-        [first, others @ ..] => {
-            push_entry_object(out, config, origins, table, *first)?;
-            push_further_objects(out, config, origins, table, others)
-        }
-    }
-}
-
-/// Appends an array of entries of a table.
-#[tactic(auto, unfolding(crate::specs::Json::entry_array))]
-pub fn push_entry_array(
-    out: &mut Vec<u8>,
-    config: &Config,
-    origins: &[Vec<Origin>],
-    table: u8,
-    places: &[usize],
-) -> Result<(), AllocError>
-    ensures { OnOk result (out.new.items ≡ out.old.items ++ entry_array (view_origins origins.now) config.now.tables table places.now) }
-{
-    out.push(b'[')?;
-    push_entry_objects(out, config, origins, table, places)?;
-    out.push(b']')?;
     Ok(())
 }

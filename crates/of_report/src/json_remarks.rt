@@ -1,7 +1,6 @@
 //! Remarks as JSON.
-ghost use Rattle.std.specs.Prelude.{◌≡◌, ◌++◌, ◌∷◌, OnOk, decimal};
-ghost use Rattle.std.specs.List.{flat_map};
-ghost use Rattle.of_json.specs.Parts.{key, listed, number_member};
+ghost use Rattle.std.specs.Prelude.{◌≡◌, ◌++◌, OnOk, decimal};
+ghost use Rattle.of_json.specs.Parts.{key, number_member};
 ghost use Rattle.of_report.specs.Json.{remark_member, remark_members, remark_object};
 ghost use Rattle.of_values.specs.Origins.{view_origins};
 
@@ -81,8 +80,9 @@ fn push_remark(
     }
 }
 
+/// Appends a remark, as an object.
 #[tactic(auto, unfolding(crate::specs::Json::remark_object))]
-fn push_remark_object(
+pub fn push_remark_object(
     out: &mut Vec<u8>,
     config: &Config,
     origins: &[Vec<Origin>],
@@ -94,38 +94,4 @@ fn push_remark_object(
     push_remark(out, config, origins, remark)?;
     out.push(b'}')?;
     Ok(())
-}
-
-fn push_further_remarks(
-    out: &mut Vec<u8>,
-    config: &Config,
-    origins: &[Vec<Origin>],
-    remarks: &[Remark],
-) -> Result<(), AllocError>
-    ensures { OnOk result (out.new.items ≡ out.old.items ++
-        flat_map (λ r. 44 ∷ remark_object (view_origins origins.now) config.now.tables r) remarks.now) }
-{
-    for remark in remarks {
-        out.push(b',')?;
-        push_remark_object(out, config, origins, remark)?;
-    }
-    Ok(())
-}
-
-/// Appends remarks, with commas between them.
-pub fn push_remark_objects(
-    out: &mut Vec<u8>,
-    config: &Config,
-    origins: &[Vec<Origin>],
-    remarks: &[Remark],
-) -> Result<(), AllocError>
-    ensures { OnOk result (out.new.items ≡ out.old.items ++ listed (remark_object (view_origins origins.now) config.now.tables) remarks.now) }
-{
-    match remarks {
-        [] => Ok(()),
-        [first, others @ ..] => {
-            push_remark_object(out, config, origins, first)?;
-            push_further_remarks(out, config, origins, others)
-        }
-    }
 }
