@@ -2,6 +2,7 @@
 use Rattle.std.specs.Prelude.{ℕ, ◌==◌, Bool, true, false, List, [], ◌∷◌, ◌++◌, length, codes, decimal, if◌then◌else◌}
 use Rattle.hex.specs.Hex.{encode_lower}
 use Rattle.of_json.specs.Parts.{key, listed, number_member, quoted, text_member, truth}
+use Rattle.of_json.specs.Strings.{array_member}
 use Rattle.of_diff.specs.declared.alike.Where.{Where}
 use Rattle.of_diff.specs.declared.alike.Where.TheVariants.{Controller, Port as ByPort}
 use Rattle.of_diff.specs.declared.difference.Difference.{Difference}
@@ -46,15 +47,11 @@ same_in_json ds = if are_same ds then codes "true" else if length ds.found.items
 unfoldable pub diff_head : List ℕ → Bool → List ℕ
 diff_head same ports = key (codes "command") ++ quoted (codes "diff") ++ 44 ∷ key (codes "same") ++ same ++ 44 ∷ key (codes "ports_differ") ++ truth ports
 
--- an array with this name
-unfoldable pub found_array : List ℕ → List Difference → List ℕ
-found_array name found = 44 ∷ key name ++ 91 ∷ listed difference_object found ++ 93 ∷ []
-
-abbrev pub found_member : List Difference → List ℕ
-found_member found = found_array (codes "differences") found
+unfoldable pub found_member : List Difference → List ℕ
+found_member found = array_member (codes "differences") (listed difference_object found)
 
 unfoldable pub undecided_member : List Undecided → List ℕ
-undecided_member undecided = 44 ∷ key (codes "undecided") ++ 91 ∷ listed undecided_string undecided ++ 93 ∷ []
+undecided_member undecided = array_member (codes "undecided") (listed undecided_string undecided)
 
 unfoldable pub diff_document : List ℕ → Bool → List Difference → List Undecided → List ℕ
 diff_document same ports found undecided = 123 ∷ diff_head same ports ++ found_member found ++ undecided_member undecided ++ 125 ∷ 10 ∷ []

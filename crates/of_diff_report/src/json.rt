@@ -1,13 +1,11 @@
 //! What is found about two switches, as JSON.
-ghost use Rattle.std.specs.Prelude.{◌≡◌, ◌++◌, ◌∷◌, IfOk, OnOk};
-ghost use Rattle.std.specs.List.{flat_map};
-ghost use Rattle.of_json.specs.Parts.{listed};
-ghost use Rattle.of_diff_report.specs.DiffJson.{at_member, diff_document, diff_head, diff_json, difference_members, difference_object, found_array, found_member, other_ports_json, same_in_json, undecided_member, undecided_string, why_name};
+ghost use Rattle.std.specs.Prelude.{◌≡◌, ◌++◌, IfOk, OnOk};
+ghost use Rattle.of_diff_report.specs.DiffJson.{at_member, diff_document, diff_head, diff_json, difference_members, difference_object, found_member, other_ports_json, same_in_json, undecided_member, undecided_string, why_name};
 
 use crate::words::is_same;
 use of_diff::{Difference, Differences, Undecided, Where, Why};
 use of_json::{
-    begin_array, push_bytes_member, push_key, push_number_member, push_quoted, push_truth,
+    push_array_member, push_bytes_member, push_key, push_number_member, push_quoted, push_truth,
 };
 use of_leaving::{push_controller_place, push_items_member, push_port_place};
 use std::alloc::{AllocError, Global};
@@ -52,53 +50,7 @@ fn push_difference_object(
     Ok(())
 }
 
-fn push_further_differences(
-    alloc: Global,
-    out: &mut Vec<u8>,
-    found: &[Difference],
-) -> Result<(), AllocError>
-    ensures { OnOk result (out.new.items ≡ out.old.items ++ flat_map (λ d. 44 ∷ difference_object d) found.now) }
-{
-    for difference in found {
-        out.push(b',')?;
-        push_difference_object(alloc, out, difference)?;
-    }
-    Ok(())
-}
-
-// Appends differences, with commas between them.
-fn push_difference_objects(
-    alloc: Global,
-    out: &mut Vec<u8>,
-    found: &[Difference],
-) -> Result<(), AllocError>
-    ensures { OnOk result (out.new.items ≡ out.old.items ++ listed difference_object found.now) }
-{
-    match found {
-        [] => Ok(()),
-        [first, others @ ..] => {
-            push_difference_object(alloc, out, first)?;
-            push_further_differences(alloc, out, others)
-        }
-    }
-}
-
-// Appends a further member: an array with an object for each difference.
-#[tactic(auto, unfolding(crate::specs::DiffJson::found_array))]
-fn push_found_array(
-    alloc: Global,
-    out: &mut Vec<u8>,
-    name: &[u8],
-    found: &[Difference],
-) -> Result<(), AllocError>
-    ensures { OnOk result (out.new.items ≡ out.old.items ++ found_array name.now found.now) }
-{
-    begin_array(out, name)?;
-    push_difference_objects(alloc, out, found)?;
-    out.push(b']')?;
-    Ok(())
-}
-
+#[tactic(auto, unfolding(crate::specs::DiffJson::found_member))]
 fn push_found_member(
     alloc: Global,
     out: &mut Vec<u8>,
@@ -106,7 +58,9 @@ fn push_found_member(
 ) -> Result<(), AllocError>
     ensures { OnOk result (out.new.items ≡ out.old.items ++ found_member found.now) }
 {
-    push_found_array(alloc, out, b"differences", found)
+    push_array_member(out, b"differences", found, |out, difference| {
+        push_difference_object(alloc, out, difference)
+    })
 }
 
 fn name_of_why(why: Why) -> &'static [u8]
@@ -127,37 +81,11 @@ fn push_why(out: &mut Vec<u8>, undecided: &Undecided) -> Result<(), AllocError>
     push_quoted(out, name_of_why(undecided.why))
 }
 
-fn push_further_whys(out: &mut Vec<u8>, undecided: &[Undecided]) -> Result<(), AllocError>
-    ensures { OnOk result (out.new.items ≡ out.old.items ++ flat_map (λ u. 44 ∷ undecided_string u) undecided.now) }
-{
-    for set in undecided {
-        out.push(b',')?;
-        push_why(out, set)?;
-    }
-    Ok(())
-}
-
-// Appends why sets of frames are undecided, with commas between the words.
-fn push_whys(out: &mut Vec<u8>, undecided: &[Undecided]) -> Result<(), AllocError>
-    ensures { OnOk result (out.new.items ≡ out.old.items ++ listed undecided_string undecided.now) }
-{
-    match undecided {
-        [] => Ok(()),
-        [first, others @ ..] => {
-            push_why(out, first)?;
-            push_further_whys(out, others)
-        }
-    }
-}
-
 #[tactic(auto, unfolding(crate::specs::DiffJson::undecided_member))]
 fn push_undecided_member(out: &mut Vec<u8>, undecided: &[Undecided]) -> Result<(), AllocError>
     ensures { OnOk result (out.new.items ≡ out.old.items ++ undecided_member undecided.now) }
 {
-    begin_array(out, b"undecided")?;
-    push_whys(out, undecided)?;
-    out.push(b']')?;
-    Ok(())
+    push_array_member(out, b"undecided", undecided, push_why)
 }
 
 #[tactic(auto, unfolding(crate::specs::DiffJson::diff_head))]

@@ -8,6 +8,7 @@ use Rattle.of_datapath.specs.Datapath.{Forwarding}
 use Rattle.of_datapath.specs.DryRun.{steps_in}
 use Rattle.of_trace.specs.Text.{step_line}
 use Rattle.of_json.specs.Parts.{key, listed, number_member, quoted, text_member}
+use Rattle.of_json.specs.Strings.{array_member}
 use Rattle.of_leaving.specs.LeavingJson.{items_member}
 use Rattle.of_paths.specs.declared.path.Path.{Path}
 use Rattle.of_paths.specs.declared.path.PathClass.{PathClass}
@@ -36,7 +37,7 @@ hits_array p = 91 ∷ listed hit_object (hits_of_path p) ++ 93 ∷ []
 
 -- an array for each path of a class
 unfoldable pub hits_member : List Path → List ℕ
-hits_member paths = 44 ∷ key (codes "hits") ++ 91 ∷ listed hits_array paths ++ 93 ∷ []
+hits_member paths = array_member (codes "hits") (listed hits_array paths)
 
 -- ---- a class: its frame, the steps of that, what leaves, and the entries that each of its paths hits
 
@@ -78,7 +79,7 @@ unfoldable pub undecided_frames_string : UndecidedFrames → List ℕ
 undecided_frames_string u = quoted (why_in_json u.why)
 
 unfoldable pub undecided_frames_member : List UndecidedFrames → List ℕ
-undecided_frames_member undecided = 44 ∷ key (codes "undecided") ++ 91 ∷ listed undecided_frames_string undecided ++ 93 ∷ []
+undecided_frames_member undecided = array_member (codes "undecided") (listed undecided_frames_string undecided)
 
 -- ---- THE DOCUMENT: the classes that are asked for, how many there are in all, and why frames are undecided
 

@@ -172,7 +172,7 @@ fn push_frames_string(out: &mut Vec<u8>, set: &UndecidedFrames) -> Result<(), Al
     push_quoted(out, why_as_json(set.why))
 }
 
-#[tactic(auto, unfolding(crate::specs::PathsJson::undecided_frames_member, of_json::specs::Strings::array_member))]
+#[tactic(auto, unfolding(crate::specs::PathsJson::undecided_frames_member))]
 fn push_frames_member(out: &mut Vec<u8>, undecided: &[UndecidedFrames]) -> Result<(), AllocError>
     ensures { OnOk result (out.new.items ≡ out.old.items ++ undecided_frames_member undecided.now) }
 {

@@ -62,7 +62,7 @@ fn push_hits_array(alloc: Global, out: &mut Vec<u8>, path: &Path) -> Result<(), 
 }
 
 /// Appends a further member: an array of arrays, with the entries that each path hits.
-#[tactic(auto, unfolding(crate::specs::PathsJson::hits_member, of_json::specs::Strings::array_member))]
+#[tactic(auto, unfolding(crate::specs::PathsJson::hits_member))]
 pub fn push_hits_member(alloc: Global, out: &mut Vec<u8>, paths: &[Path]) -> Result<(), AllocError>
     ensures { OnOk result (out.new.items ≡ out.old.items ++ hits_member paths.now) }
 {

@@ -13,7 +13,7 @@ use Rattle.of_check.specs.Text.{is_never}
 use Rattle.of_values.specs.Numbers.{hexadecimal}
 use Rattle.of_values.specs.Origins.{EntryOrigin}
 use Rattle.of_json.specs.Parts.{key, listed, match_object, number_member, quoted, text_member, truth}
-use Rattle.of_json.specs.Strings.{counters_member}
+use Rattle.of_json.specs.Strings.{array_member, counters_member}
 use Rattle.of_report.specs.Entries.{origin_at}
 use Rattle.of_report.specs.Report.{count, is_found, is_open, is_win, packet_as_words}
 
@@ -46,9 +46,6 @@ entry_members origins tables table place =
 unfoldable pub entry_object : List (List EntryOrigin) → List (List Flow) → ℕ → ℕ → List ℕ
 entry_object origins tables table place = 123 ∷ entry_members origins tables table place ++ 125 ∷ []
 
-unfoldable pub entry_array : List (List EntryOrigin) → List (List Flow) → ℕ → List ℕ → List ℕ
-entry_array origins tables table places = 91 ∷ listed (entry_object origins tables table) places ++ 93 ∷ []
-
 -- ---- a finding
 
 -- the packet as words, if there are such
@@ -65,7 +62,7 @@ unfoldable pub truth_member : List ℕ → Bool → List ℕ
 truth_member name b = 44 ∷ key name ++ truth b
 
 unfoldable pub shadows_member : List (List EntryOrigin) → List (List Flow) → ℕ → List ℕ → List ℕ
-shadows_member origins tables table by = 44 ∷ key (codes "shadowed_by") ++ entry_array origins tables table by
+shadows_member origins tables table by = array_member (codes "shadowed_by") (listed (entry_object origins tables table) by)
 
 unfoldable pub never_members : List (List EntryOrigin) → List (List Flow) → ℕ → List ℕ → Bool → List ℕ
 never_members origins tables table by tie =
@@ -114,10 +111,10 @@ unfoldable pub report_head_members : List Finding → List Remark → List ℕ
 report_head_members findings remarks = key (codes "command") ++ quoted (codes "check") ++ truth_member (codes "found") (is_found findings remarks) ++ summary_member findings
 
 unfoldable pub flows_member : List (List EntryOrigin) → List (List Flow) → List Finding → List ℕ
-flows_member origins tables findings = 44 ∷ key (codes "flows") ++ 91 ∷ listed (finding_object origins tables) findings ++ 93 ∷ []
+flows_member origins tables findings = array_member (codes "flows") (listed (finding_object origins tables) findings)
 
 unfoldable pub remarks_member : List (List EntryOrigin) → List (List Flow) → List Remark → List ℕ
-remarks_member origins tables remarks = 44 ∷ key (codes "remarks") ++ 91 ∷ listed (remark_object origins tables) remarks ++ 93 ∷ []
+remarks_member origins tables remarks = array_member (codes "remarks") (listed (remark_object origins tables) remarks)
 
 unfoldable pub report_json : List (List EntryOrigin) → List (List Flow) → List Finding → List Remark → List ℕ
 report_json origins tables findings remarks =

@@ -69,7 +69,7 @@ fn push_truth_member(out: &mut Vec<u8>, name: &[u8], truth: bool) -> Result<(), 
 }
 
 // Appends the entries that shadow another one.
-#[tactic(auto, unfolding(crate::specs::Json::shadows_member, crate::specs::Json::entry_array, of_json::specs::Strings::array_member))]
+#[tactic(auto, unfolding(crate::specs::Json::shadows_member))]
 fn push_shadows(
     out: &mut Vec<u8>,
     config: &Config,
@@ -174,7 +174,7 @@ fn push_head(out: &mut Vec<u8>, findings: &[Finding], remarks: &[Remark]) -> Res
     push_summary_member(out, findings)
 }
 
-#[tactic(auto, unfolding(crate::specs::Json::flows_member, of_json::specs::Strings::array_member))]
+#[tactic(auto, unfolding(crate::specs::Json::flows_member))]
 fn push_flows_member(
     alloc: Global,
     out: &mut Vec<u8>,
@@ -189,7 +189,7 @@ fn push_flows_member(
     })
 }
 
-#[tactic(auto, unfolding(crate::specs::Json::remarks_member, of_json::specs::Strings::array_member))]
+#[tactic(auto, unfolding(crate::specs::Json::remarks_member))]
 fn push_remarks_member(
     out: &mut Vec<u8>,
     config: &Config,
