@@ -5,6 +5,7 @@ use Rattle.of_layers.specs.declared.field.Field.{Field}
 use Rattle.of_layers.specs.Reading.{layers_of}
 use Rattle.of_layers.specs.WellFormed.{AreBytes}
 use Rattle.of_headers.specs.FieldMap.{field_map}
+use Rattle.of_oxm.specs.declared.match_field.MatchField.{MatchField}
 use Rattle.of_oxm.specs.Relations.{covers_match, matches_map, overlaps_match}
 use Rattle.of_regions.specs.declared.region.Region.{Region}
 use Rattle.of_regions.specs.declared.rival.Rival.{Rival}
@@ -83,6 +84,11 @@ is_tie flows k places = list_any (λ j. are_level (slice_get flows j) (slice_get
 pub record Covers (flows : List FlowEntry) (j k : ℕ) : Type 0 where
   pub before : GoesBefore flows j k
   pub wider : covers_match before.first.flow.fields before.second.flow.fields ≡ true
+
+-- the match of the entry, if there is one, covers the other match
+abbrev pub is_covering : Option FlowEntry → List MatchField → Bool
+is_covering None m = false
+is_covering (Some e) m = covers_match e.flow.fields m
 
 -- ---- what is not decided
 

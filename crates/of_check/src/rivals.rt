@@ -1,9 +1,10 @@
 //! The entries that leave one fewer packets.
 ghost use Rattle.std.specs.Prelude.{◌≡◌, ◌<◌, ◌⊎◌, ◌↔◌, ℕ, Some, IfNone, IfOk, IfSome, IsTrue, true, slice_get};
-ghost use Rattle.of_oxm.specs.Relations.{covers_match, overlaps_match};
+ghost use Rattle.of_oxm.specs.NormalForm.{IsMatch};
+ghost use Rattle.of_oxm.specs.Relations.{overlaps_match};
 ghost use Rattle.of_table.specs.Entries.{entry_of};
 ghost use Rattle.of_table.specs.Tables.{table_at};
-ghost use Rattle.of_check.specs.Verdicts.{AreRivals, Covers};
+ghost use Rattle.of_check.specs.Verdicts.{AreRivals, Covers, is_covering};
 
 use of_classifier::Lookup;
 use of_oxm::{covers, overlaps};
@@ -18,36 +19,6 @@ fn goes_before(entry: &Entry, at: usize, own: &Entry, place: usize) -> bool
 {
     own.flow.priority < entry.flow.priority
         || entry.flow.priority == own.flow.priority && at < place
-}
-
-// Whether an entry goes before another, and its match covers that one's (OpenFlow 1.3.5, 5.3 and 6.4).
-fn is_cover(entry: &Entry, at: usize, own: &Entry, place: usize) -> bool
-    ensures { IsTrue result ↔ (((own.now.flow.priority < entry.now.flow.priority) ⊎ ((entry.now.flow.priority ≡ own.now.flow.priority) × (at < place))) ×
-        (covers_match entry.now.flow.fields own.now.flow.fields ≡ true)) }
-{
-    goes_before(entry, at, own, place) && covers(&entry.flow.fields, &own.flow.fields)
-}
-
-/// The oldest entry that covers the one at a place.
-pub fn first_cover<L: Lookup>(
-    switch: &Switch<L>,
-    table: u8,
-    place: usize,
-    own: &Entry,
-) -> Option<usize>
-    requires table { table < 16 }
-    requires there { slice_get (table_at table switch.now.core.forwarding.tables).flows place ≡ Some (entry_of own.now) }
-    ensures found { IfSome result (λ j. Covers (table_at table switch.now.core.forwarding.tables).flows j place) }
-    ensures none { IfNone result ((j : ℕ) → ¬ (Covers (table_at table switch.now.core.forwarding.tables).flows j place)) }
-{
-    let mut at = 0;
-    for entry in switch.datapath().entries(table) {
-        if is_cover(entry, at, own, place) {
-            return Some(at);
-        }
-        at += 1;
-    }
-    None
 }
 
 // Whether an entry goes before another, and a packet may have both matches (OpenFlow 1.3.5, 5.3 and 6.4).
@@ -83,4 +54,38 @@ pub fn rivals_of<'a, L: Lookup>(
         at += 1;
     }
     Ok(rivals)
+}
+
+// Whether the entry at a place has a match that covers the one of this entry (OpenFlow 1.3.5, 6.4).
+fn covers_from<L: Lookup>(switch: &Switch<L>, table: u8, at: usize, own: &Entry) -> bool
+    requires { table < 16 }
+    ensures { result ≡ is_covering (slice_get (table_at table switch.now.core.forwarding.tables).flows at) own.now.flow.fields }
+{
+    match switch.datapath().entry(table, at) {
+        None => false,
+        Some(entry) => covers(&entry.flow.fields, &own.flow.fields),
+    }
+}
+
+/// The oldest entry that covers the one at a place. What covers an entry overlaps it, so it is among those that leave the entry fewer packets.
+pub fn first_cover<L: Lookup>(
+    switch: &Switch<L>,
+    table: u8,
+    place: usize,
+    own: &Entry,
+    rivals: &[Rival],
+) -> Option<usize>
+    requires table { table < 16 }
+    requires there { slice_get (table_at table switch.now.core.forwarding.tables).flows place ≡ Some (entry_of own.now) }
+    requires is_match { IsMatch own.now.flow.fields }
+    requires are { AreRivals (table_at table switch.now.core.forwarding.tables).flows place (entry_of own.now) rivals.now }
+    ensures found { IfSome result (λ j. Covers (table_at table switch.now.core.forwarding.tables).flows j place) }
+    ensures none { IfNone result ((j : ℕ) → ¬ (Covers (table_at table switch.now.core.forwarding.tables).flows j place)) }
+{
+    for rival in rivals {
+        if covers_from(switch, table, rival.name, own) {
+            return Some(rival.name);
+        }
+    }
+    None
 }

@@ -2,14 +2,14 @@
 ghost use Rattle.std.specs.Prelude.{◌≡◌, ◌<◌, ℕ, Some, IfOk, slice_get};
 ghost use Rattle.of_table.specs.Entries.{entry_of};
 ghost use Rattle.of_table.specs.Tables.{table_at};
-ghost use Rattle.of_check.specs.Verdicts.{Covers, VerdictHolds};
+ghost use Rattle.of_check.specs.Verdicts.{AreRivals, Covers, VerdictHolds};
 
 use crate::rivals::{first_cover, rivals_of};
 use crate::ties::is_tied;
 use crate::verdict::Verdict;
 use of_classifier::Lookup;
 use of_oxm::{covered_is_matched, overlap_is_common_match};
-use of_regions::{Found, Packet, search};
+use of_regions::{Found, Packet, Rival, search};
 use of_switch::Switch;
 use of_table::Entry;
 use std::alloc::{AllocError, Global};
@@ -42,16 +42,17 @@ fn searched<L: Lookup>(
     table: u8,
     place: usize,
     own: &Entry,
+    rivals: &[Rival],
     steps: usize,
 ) -> Result<Verdict, AllocError>
     requires table { table < 16 }
     requires there { slice_get (table_at table switch.now.core.forwarding.tables).flows place ≡ Some (entry_of own.now) }
+    requires are { AreRivals (table_at table switch.now.core.forwarding.tables).flows place (entry_of own.now) rivals.now }
     requires uncovered { (j : ℕ) → ¬ (Covers (table_at table switch.now.core.forwarding.tables).flows j place) }
     ensures { IfOk result (VerdictHolds (table_at table switch.now.core.forwarding.tables).flows place steps) }
 {
     overlap_is_common_match();
-    let rivals = rivals_of(alloc, switch, table, place, own)?;
-    match search(alloc, &own.flow.fields, &rivals, steps)? {
+    match search(alloc, &own.flow.fields, rivals, steps)? {
         Found::Free(
             Packet {
                 frame,
@@ -88,8 +89,10 @@ pub fn check_entry<L: Lookup>(
     let Some(own) = switch.datapath().entry(table, place) else {
         return Ok(Verdict::Open);
     };
-    match first_cover(switch, table, place, own) {
+    own.flow.fields.known();
+    let rivals = rivals_of(alloc, switch, table, place, own)?;
+    match first_cover(switch, table, place, own, &rivals) {
         Some(at) => covered_by(alloc, switch, table, place, own, at),
-        None => searched(alloc, switch, table, place, own, steps),
+        None => searched(alloc, switch, table, place, own, &rivals, steps),
     }
 }

@@ -1,36 +1,30 @@
-use Rattle.std.proofs.Common.{◌≡◌, ◌+◌, true, length, refl, ap, arith, below_more}
+use Rattle.std.proofs.Common.{◌≡◌, ◌∙◌, [], false, sym, subst, take_all}
+use Rattle.std.specs.Prelude.{slice_get, slice_index_or}
+use Rattle.std.specs.List.{All, Contains}
+use Rattle.std.proofs.lemmas.List.Elements.{All-more}
 use Rattle.of_table.specs.Entries.{entry_of}
 use Rattle.of_table.specs.Tables.{table_at}
-use Rattle.of_check.proofs.CoverLemmas.{are_covered, are_covering, ends_at, none_at_all}
-use Rattle.of_check.proofs.WalkLemmas.{entry_here, walk_ends, walk_goes_on}
+use Rattle.of_regions.specs.declared.rival.Rival.{Rival}
+use Rattle.of_check.specs.Verdicts.{is_covering}
+use Rattle.of_check.proofs.OverlapLemmas.{any_default, none_covers, rival_covers}
 use Rattle.of_check.proofs.rivals.first_cover.Goals as goal
 
-pub returns-then-is_cover-clause-found : goal.returns-then-is_cover-clause-found
-returns-then-is_cover-clause-found g c =
+pub returns-then-covers_from-clause-found : goal.returns-then-covers_from-clause-found
+returns-then-covers_from-clause-found g c =
     let flows = (table_at c.args.table c.args.switch.now.core.forwarding.tables).flows in
-    let both = c.is_cover.ensures.0 c.if-is_cover.true in
-    are_covering flows c.loop-entry.at c.args.place (entry_of c.in-Some.entry.now) (entry_of c.args.own.now)
-    (entry_here flows c.loop-entry.at c.loop-entry.entry-iterator c.next.new.self c.in-Some.entry.now c.loop-entry.invariant.stands c.in-Some.ensures.steps) c.requires.there both.0 both.1
+    let none : Rival = record { name = 0; fields = record { ref_ptr = (0, 0); now = [] } } in
+    let k = c.loop-rival.rival-index in
+    let q : Rival = slice_index_or c.args.rivals.now k none in
+    let there : Contains c.args.rivals.now q = (k, c.loop-rival-test.true, any_default c.args.rivals.now k q none c.loop-rival-test.true) in
+    rival_covers flows c.args.place (entry_of c.args.own.now) c.requires.there q.name (c.requires.are.each q there).0 (sym c.covers_from.ensures ∙ c.if-covers_from.true)
 
-pub loop-entry-preserved : goal.loop-entry-preserved
-loop-entry-preserved g c =
+pub loop-rival-preserved : goal.loop-rival-preserved
+loop-rival-preserved g c =
     let flows = (table_at c.args.table c.args.switch.now.core.forwarding.tables).flows in
-    let left = c.loop-entry.entry-iterator in
-    let others = c.next.new.self in
-    let x = c.in-Some.entry.now in
-    let here = entry_here flows c.loop-entry.at left others x c.loop-entry.invariant.stands c.in-Some.ensures.steps in
-    record {
-      few = omega (arith, c.loop-entry.invariant.few, ap length c.in-Some.ensures.steps);
-      stands = walk_goes_on flows c.loop-entry.at (c.loop-entry.at + 1) left others x c.loop-entry.invariant.stands c.in-Some.ensures.steps refl;
-      none = below_more _ _ c.loop-entry.invariant.none (λ covers.
-          let both = are_covered flows c.loop-entry.at c.args.place (entry_of x) (entry_of c.args.own.now) here c.requires.there covers in
-          let so : c.is_cover.result ≡ true = c.is_cover.ensures.1 both in
-          let not_so = c.if-is_cover.false in
-          absurd cc);
-    }
+    All-more (λ (r : Rival). is_covering (slice_get flows r.name) c.args.own.now.flow.fields ≡ false) c.args.rivals.now c.loop-rival.rival-index _ c.loop-rival-test.true c.loop-rival.invariant (sym c.covers_from.ensures ∙ c.if-covers_from.false)
 
 pub returns-clause-none : goal.returns-clause-none
 returns-clause-none g c =
     let flows = (table_at c.args.table c.args.switch.now.core.forwarding.tables).flows in
-    none_at_all flows c.loop-entry.at c.args.place
-    (ends_at flows c.loop-entry.at (walk_ends flows c.loop-entry.at c.loop-entry.entry-iterator c.loop-entry.invariant.stands c.in-None.ensures.steps.0)) c.loop-entry.invariant.none
+    none_covers flows c.args.place (entry_of c.args.own.now) c.requires.there c.args.rivals.now c.requires.is_match c.requires.are
+    (subst (All (λ (r : Rival). is_covering (slice_get flows r.name) c.args.own.now.flow.fields ≡ false)) (take_all c.loop-rival.rival-index c.args.rivals.now c.loop-rival-test.false) c.loop-rival.invariant)

@@ -1,14 +1,11 @@
-use Rattle.std.proofs.Common.{ℕ, ◌+◌, ◌<◌, ◌≤◌, length}
+use Rattle.std.proofs.Common.{◌≡◌, false, take}
+use Rattle.std.specs.Prelude.{slice_get}
+use Rattle.std.specs.List.{All}
 use Rattle.of_table.specs.Tables.{table_at}
-use Rattle.of_check.specs.Verdicts.{Covers}
-use Rattle.of_check.proofs.WalkLemmas.{StandsAt}
+use Rattle.of_regions.specs.declared.rival.Rival.{Rival}
+use Rattle.of_check.specs.Verdicts.{is_covering}
 use Rattle.of_check.proofs.rivals.first_cover.Given as goal
 
-abbrev pub invariant-loop-entry : goal.invariant-loop-entry
-invariant-loop-entry g l =
-    let flows = (table_at l.table l.switch.core.forwarding.tables).flows in
-    record {
-      few : l.at + length l.entry-iterator ≤ 4096;
-      stands : StandsAt flows l.at l.entry-iterator;
-      none : (j : ℕ) → j < l.at → ¬ (Covers flows j l.place);
-    }
+abbrev pub invariant-loop-rival : goal.invariant-loop-rival
+invariant-loop-rival g l =
+    All (λ (r : Rival). is_covering (slice_get (table_at l.table l.switch.core.forwarding.tables).flows r.name) l.own.flow.fields ≡ false) (take l.rival-index l.rivals)

@@ -1,4 +1,4 @@
-use Rattle.std.proofs.Common.{◌≡◌, ◌∙◌, ap, inl, inr, subst, sym}
+use Rattle.std.proofs.Common.{◌≡◌, ◌∙◌, ap, inl, inr, subst}
 use Rattle.of_table.specs.Entries.{entry_of}
 use Rattle.of_table.specs.Tables.{table_at}
 use Rattle.of_regions.specs.declared.searching.Found.{Found}
@@ -12,27 +12,21 @@ pub returns-in-Free : goal.returns-in-Free
 returns-in-Free g c =
     let flows = (table_at c.args.table c.args.switch.now.core.forwarding.tables).flows in
     let own = entry_of c.args.own.now in
-    let f : Finds own.flow.fields c.deref.result.now c.args.steps (found.Free c.in-Free.field-0) = subst (Finds own.flow.fields c.deref.result.now c.args.steps) c.in-Free.is c.in_ok-frame.ensures in
-    free_wins flows c.args.place own c.requires.there c.overlap_is_common_match.ensures.overlap c.in_ok-rivals.rivals.items c.in_ok-rivals.ensures f.0 f.1 c.in-Free.field-0 (rw (sym c.deref.ensures.value) f.2)
+    let f : Finds own.flow.fields c.args.rivals.now c.args.steps (found.Free c.in-Free.field-0) = subst (Finds own.flow.fields c.args.rivals.now c.args.steps) c.in-Free.is c.in_ok-frame.ensures in
+    free_wins flows c.args.place own c.requires.there c.overlap_is_common_match.ensures.overlap c.args.rivals.now c.requires.are f.0 f.1 c.in-Free.field-0 f.2
 
 pub returns-in-Taken : goal.returns-in-Taken
 returns-in-Taken g c =
     let flows = (table_at c.args.table c.args.switch.now.core.forwarding.tables).flows in
     let own = entry_of c.args.own.now in
-    let f : Finds own.flow.fields c.deref.result.now c.args.steps (found.Taken c.in-Taken.by) = subst (Finds own.flow.fields c.deref.result.now c.args.steps) c.in-Taken.is c.in_ok-frame.ensures in
-    (taking_never flows c.args.place own c.requires.there c.overlap_is_common_match.ensures.overlap c.in_ok-rivals.rivals.items c.in_ok-rivals.ensures f.0 f.1 c.in-Taken.by.items (rw (sym c.deref.ensures.value) f.2), c.is_tied-tie.ensures ∙ ap (is_tie flows c.args.place) c.deref-in-Taken.ensures.value)
+    let f : Finds own.flow.fields c.args.rivals.now c.args.steps (found.Taken c.in-Taken.by) = subst (Finds own.flow.fields c.args.rivals.now c.args.steps) c.in-Taken.is c.in_ok-frame.ensures in
+    (taking_never flows c.args.place own c.requires.there c.overlap_is_common_match.ensures.overlap c.args.rivals.now c.requires.are f.0 f.1 c.in-Taken.by.items f.2, c.is_tied-tie.ensures ∙ ap (is_tie flows c.args.place) c.deref.ensures.value)
 
 pub returns-in-Unreceived : goal.returns-in-Unreceived
 returns-in-Unreceived g c =
     let own = entry_of c.args.own.now in
-    let f : Finds own.flow.fields c.deref.result.now c.args.steps (found.Unreceived c.in-Unreceived.field-0) = subst (Finds own.flow.fields c.deref.result.now c.args.steps) c.in-Unreceived.is c.in_ok-frame.ensures in
-    (c.requires.uncovered, inr (record { own = own; there = c.requires.there; rivals = c.in_ok-rivals.rivals.items; are = c.in_ok-rivals.ensures; start = f.0; begins = f.1; undecided = inl (c.in-Unreceived.field-0, rw (sym c.deref.ensures.value) f.2) }))
-
-pub returns : goal.returns
-returns g c =
-    let own = entry_of c.args.own.now in
-    let f : Finds own.flow.fields c.deref.result.now c.args.steps found.Undecided = subst (Finds own.flow.fields c.deref.result.now c.args.steps) c.in-Undecided.is c.in_ok-frame.ensures in
-    (c.requires.uncovered, inr (record { own = own; there = c.requires.there; rivals = c.in_ok-rivals.rivals.items; are = c.in_ok-rivals.ensures; start = f.0; begins = f.1; undecided = inr (rw (sym c.deref.ensures.value) f.2) }))
+    let f : Finds own.flow.fields c.args.rivals.now c.args.steps (found.Unreceived c.in-Unreceived.field-0) = subst (Finds own.flow.fields c.args.rivals.now c.args.steps) c.in-Unreceived.is c.in_ok-frame.ensures in
+    (c.requires.uncovered, inr (record { own = own; there = c.requires.there; rivals = c.args.rivals.now; are = c.requires.are; start = f.0; begins = f.1; undecided = inl (c.in-Unreceived.field-0, f.2) }))
 
 pub search-requires : goal.search-requires
-search-requires g c = rw c.deref.ensures.value c.in_ok-rivals.ensures.conditions
+search-requires g c = c.requires.are.conditions
