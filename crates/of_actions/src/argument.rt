@@ -12,6 +12,7 @@ use crate::port_number::is_port;
 use crate::rows::Form;
 use crate::set_field::{put_set_field, read_set_field};
 use byteorder::{BigEndian, ByteOrder};
+use of_headers::is_tag;
 use of_layers::Field;
 use of_wire::codes::{OFPBAC_BAD_ARGUMENT, OFPBAC_BAD_LEN, OFPBAC_BAD_OUT_PORT};
 use of_wire::{Code, put_u16, put_u32};
@@ -35,7 +36,7 @@ impl Argument {
     {
         match self {
             Argument::Nothing | Argument::Byte(_) | Argument::Word(_) => true,
-            Argument::Tag(ethertype) => ethertype == 0x8100 || ethertype == 0x88a8,
+            Argument::Tag(ethertype) => is_tag(ethertype),
             Argument::Port { port, .. } => is_port(packet_out, port),
             Argument::Field { field, value } => {
                 let row = field.row();
@@ -81,7 +82,7 @@ fn read_tag(rest: &[u8], len: usize, packet_out: bool) -> Result<Argument, Code>
     }
     let (_, body) = rest.split_at(4);
     let ethertype = BigEndian::read_u16(body);
-    if ethertype != 0x8100 && ethertype != 0x88a8 {
+    if !is_tag(ethertype) {
         return Err(OFPBAC_BAD_ARGUMENT);
     }
     Ok(Argument::Tag(ethertype))

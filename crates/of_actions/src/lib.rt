@@ -28,5 +28,5 @@ pub use instruction::Instruction;
 pub use instruction_list::InstructionList;
 pub use instruction_reading::{one_instruction_reading, read_instructions};
 pub use instruction_writing::write_instructions;
-pub use port_number::is_number;
+pub use port_number::{is_number, is_port};
 pub use rows::{ACTIONS, ActionRow, Form, row_of};

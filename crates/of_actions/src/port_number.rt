@@ -12,7 +12,7 @@ pub fn is_number(port: u32) -> bool
 }
 
 /// Whether an OUTPUT may name this port, of a PACKET_OUT or of an instruction.
-pub(crate) fn is_port(packet_out: bool, port: u32) -> bool
+pub fn is_port(packet_out: bool, port: u32) -> bool
     ensures { result ≡ is_output_port packet_out port }
 {
     is_number(port)

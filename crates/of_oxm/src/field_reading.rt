@@ -17,8 +17,8 @@ use of_wire::codes::{
 fn is_among(field: Field, seen: &[MatchField]) -> bool
     ensures { result ≡ is_among_fields field seen.now }
 {
-    let number = field.row().number;
-    seen.iter().any(|e| e.field.row().number == number)
+    let number = field.number();
+    seen.iter().any(|e| e.field.number() == number)
 }
 
 fn read_known_field(field: Field, rest: &[u8], seen: &[MatchField]) -> Result<MatchField, Code>

@@ -18,7 +18,7 @@ pub use of_wire::{Code, ReadError};
 pub use prerequisites::{is_met, prerequisites_met};
 pub use reading::{one_code, one_encoding, read_match};
 pub use relations::{
-    covered_has_prerequisites, covered_is_matched, covers, matched_is_covered, matches,
+    bits_of, covered_has_prerequisites, covered_is_matched, covers, matched_is_covered, matches,
     normal_form_is_meant, overlap_is_common_match, overlaps,
 };
 pub use writing::write_match;

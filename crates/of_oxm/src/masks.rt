@@ -11,7 +11,7 @@ ghost use Rattle.of_oxm.specs.Masks.{looked_at, value_of, mask_at, Agree};
 
 use crate::flow_match::Match;
 use crate::match_field::MatchField;
-use crate::relations::mask;
+use crate::relations::bits_of;
 use of_headers::FieldKey;
 
 /// For each field a mask, or none where the field is not looked at.
@@ -54,7 +54,7 @@ fn masks_in(fields: &[MatchField]) -> FieldKey
 {
     let mut masks = FieldKey::empty();
     for e in fields {
-        masks.put(e.field, mask(e));
+        masks.put(e.field, bits_of(e));
     }
     masks
 }

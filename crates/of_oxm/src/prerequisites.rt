@@ -9,19 +9,19 @@ use of_layers::{Field, Prerequisite};
 fn holds(fields: &[MatchField], field: Field, value: u128) -> bool
     ensures { result ≡ has fields.now field value }
 {
-    let number = field.row().number;
+    let number = field.number();
     fields
         .iter()
-        .any(|e| e.field.row().number == number && e.value == value)
+        .any(|e| e.field.number() == number && e.value == value)
 }
 
 fn is_tagged(fields: &[MatchField]) -> bool
     ensures { result ≡ need_is_met fields.now Prerequisite.Tag }
 {
-    let number = Field::VlanVid.row().number;
+    let number = Field::VlanVid.number();
     fields
         .iter()
-        .any(|e| e.field.row().number == number && !(e.value == 0))
+        .any(|e| e.field.number() == number && !(e.value == 0))
 }
 
 /// Whether a prerequisite is in a match (OpenFlow 1.3.5, 7.2.3.6).

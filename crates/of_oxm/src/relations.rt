@@ -15,7 +15,8 @@ use crate::flow_match::Match;
 use crate::match_field::MatchField;
 use of_headers::FieldKey;
 
-pub(crate) fn mask(e: &MatchField) -> u128
+/// The bits that a field of a match looks at: those of its mask, or all of the field.
+pub fn bits_of(e: &MatchField) -> u128
     ensures { result ≡ bits_looked_at e.now }
 {
     match e.mask {
@@ -29,23 +30,21 @@ fn agrees(e: &MatchField, value: Option<u128>) -> bool
 {
     match value {
         None => false,
-        Some(value) => value & mask(e) == e.value,
+        Some(value) => value & bits_of(e) == e.value,
     }
 }
 
 fn is_within(x: &MatchField, y: &MatchField) -> bool
     ensures { result ≡ within x.now y.now }
 {
-    let bits = mask(x);
-    y.field.row().number == x.field.row().number
-        && bits & mask(y) == bits
-        && y.value & bits == x.value
+    let bits = bits_of(x);
+    y.field.number() == x.field.number() && bits & bits_of(y) == bits && y.value & bits == x.value
 }
 
 fn can_both(x: &MatchField, y: &MatchField) -> bool
     ensures { result ≡ both_can x.now y.now }
 {
-    !(y.field.row().number == x.field.row().number) || y.value & mask(x) == x.value & mask(y)
+    !(y.field.number() == x.field.number()) || y.value & bits_of(x) == x.value & bits_of(y)
 }
 
 fn has_within(x: &MatchField, fields: &[MatchField]) -> bool

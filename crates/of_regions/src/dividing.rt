@@ -13,10 +13,10 @@ ghost use Rattle.of_regions.specs.Known.{is_known_by, rule_in};
 ghost use Rattle.of_regions.specs.Meeting.{IsCrossed};
 ghost use Rattle.of_regions.specs.Regions.{AreParts, InRegion, IsEither};
 
-use crate::meeting::{is_apart, looked_at};
+use crate::meeting::is_apart;
 use crate::region::Region;
 use of_headers::{Field, FieldKey};
-use of_oxm::{FieldMask, MatchField};
+use of_oxm::{FieldMask, MatchField, bits_of};
 use of_shapes::Tagging;
 
 // These bits without those of a mask.
@@ -79,7 +79,7 @@ impl Region {
         ensures all { (map : TheField → Option ℕ) → InRegion self map → InRegion result.0 map ⊎ InRegion result.1 map }
         ensures apart { (map : TheField → Option ℕ) → InRegion result.0 map → InRegion result.1 map → ⊥ }
     {
-        let bit = one_of(e.field, without(looked_at(e), mask));
+        let bit = one_of(e.field, without(bits_of(e), mask));
         (
             self.learned(e.field, mask | bit, known | bit),
             self.learned(e.field, mask | bit, known),

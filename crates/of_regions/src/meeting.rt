@@ -3,11 +3,10 @@ ghost use Rattle.std.specs.Prelude.{◌≡◌, find, not};
 ghost use Rattle.std.specs.List.{list_any};
 ghost use Rattle.of_headers.specs.FieldMap.{value};
 ghost use Rattle.of_oxm.specs.Masks.{mask_at};
-ghost use Rattle.of_oxm.specs.Relations.{bits_looked_at};
 ghost use Rattle.of_regions.specs.Meeting.{Meets, is_apart as apart, is_settled as settled};
 
 use crate::region::Region;
-use of_oxm::MatchField;
+use of_oxm::{MatchField, bits_of};
 
 /// What a match does with a region.
 #[derive(Clone, Copy, Debug)]
@@ -20,20 +19,13 @@ pub enum Meeting {
     Crosses(MatchField),
 }
 
-/// The bits that a field of a match looks at.
-pub fn looked_at(e: &MatchField) -> u128
-    ensures { result ≡ bits_looked_at e.now }
-{
-    e.mask.unwrap_or(e.field.row().ones)
-}
-
 // Whether a field of a match agrees with all of the region.
 fn is_settled(region: &Region, e: &MatchField) -> bool
     ensures { result ≡ settled e.now (mask_at region.now.masks e.now.field) (value region.now.known e.now.field) }
 {
     match (region.masks.masks.get(e.field), region.known.get(e.field)) {
-        (Some(mask), Some(known)) => looked_at(e) & mask == looked_at(e)
-            && known & looked_at(e) == e.value,
+        (Some(mask), Some(known)) => bits_of(e) & mask == bits_of(e)
+            && known & bits_of(e) == e.value,
         _ => false,
     }
 }
@@ -45,7 +37,7 @@ pub fn is_apart(region: &Region, e: &MatchField) -> bool
     match (region.masks.masks.get(e.field), region.known.get(e.field)) {
         (None, _) => false,
         (Some(_), None) => true,
-        (Some(mask), Some(known)) => !(known & looked_at(e) == e.value & mask),
+        (Some(mask), Some(known)) => !(known & bits_of(e) == e.value & mask),
     }
 }
 

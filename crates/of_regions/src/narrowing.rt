@@ -10,11 +10,10 @@ ghost use Rattle.of_regions.specs.Conditions.{AreConditions, IsCondition};
 ghost use Rattle.of_regions.specs.Narrowing.{AreNarrowed, IsNarrowedBy, is_tag_field};
 ghost use Rattle.of_regions.specs.Regions.{InRegion, InOneRegion};
 
-use crate::meeting::looked_at;
 use crate::region::Region;
 use crate::starting::push_some;
 use of_headers::Field;
-use of_oxm::MatchField;
+use of_oxm::{MatchField, bits_of};
 use std::alloc::{AllocError, Global};
 
 impl Region {
@@ -27,7 +26,7 @@ impl Region {
         ensures all { (map : TheField → Option ℕ) → InRegion self map → agrees e.now (map e.now.field) ≡ true → InOneRegion result map }
         ensures same { IfSome result (λ r. (r.shape ≡ self.shape) × (r.tagging ≡ self.tagging)) }
     {
-        let bits = looked_at(e);
+        let bits = bits_of(e);
         if e.value & mask == known & bits {
             return Some(self.learned(e.field, bits | mask, e.value | known));
         }

@@ -22,7 +22,7 @@ fn has(fields: &[MatchField], field: Field) -> bool
 {
     fields
         .iter()
-        .any(|e| e.field.row().number == field.row().number)
+        .any(|e| e.field.number() == field.number())
 }
 
 // Whether the match of some entry has the field.

@@ -13,7 +13,7 @@ use Rattle.of_regions.proofs.region.Region.by_bit.Goals as goal
 pub one_of-bit-requires : goal.one_of-bit-requires
 one_of-bit-requires c =
     let e = c.args.e.now in
-    let w : AreWithout (bits_looked_at e) c.args.mask c.without.result = rw c.looked_at.ensures at c.without.ensures in
+    let w : AreWithout (bits_looked_at e) c.args.mask c.without.result = rw c.bits_of.ensures at c.without.ensures in
     let unsettled : is_settled e (Some c.args.mask) (Some c.args.known) ≡ false = rw (c.requires.mask, c.requires.known) at c.requires.crossed.unsettled in
     let near : is_apart e (Some c.args.mask) (Some c.args.known) ≡ false = rw (c.requires.mask, c.requires.known) at c.requires.crossed.near in
     some_left e c.args.mask c.args.known c.without.result c.requires.condition w unsettled near
@@ -21,21 +21,21 @@ one_of-bit-requires c =
 pub learned-requires : goal.learned-requires
 learned-requires c =
     let e = c.args.e.now in
-    let w : AreWithout (bits_looked_at e) c.args.mask c.without.result = rw c.looked_at.ensures at c.without.ensures in
+    let w : AreWithout (bits_looked_at e) c.args.mask c.without.result = rw c.bits_of.ensures at c.without.ensures in
     let x = crossing e c.args.mask c.args.known c.without.result c.one_of-bit.result c.requires.condition w c.one_of-bit.ensures in
     known_high (ones_of e.field) (rule_in c.args.self.shape c.args.self.tagging e.field) c.args.mask c.args.known c.one_of-bit.result (rw (c.requires.mask, c.requires.known) at (c.args.self.each e.field)) x.within x.new
 
 pub learned-requires-2 : goal.learned-requires-2
 learned-requires-2 c =
     let e = c.args.e.now in
-    let w : AreWithout (bits_looked_at e) c.args.mask c.without.result = rw c.looked_at.ensures at c.without.ensures in
+    let w : AreWithout (bits_looked_at e) c.args.mask c.without.result = rw c.bits_of.ensures at c.without.ensures in
     let x = crossing e c.args.mask c.args.known c.without.result c.one_of-bit.result c.requires.condition w c.one_of-bit.ensures in
     known_low (ones_of e.field) (rule_in c.args.self.shape c.args.self.tagging e.field) c.args.mask c.args.known c.one_of-bit.result (rw (c.requires.mask, c.requires.known) at (c.args.self.each e.field)) x.within x.new
 
 pub returns-clause-within : goal.returns-clause-within
 returns-clause-within c =
     let e = c.args.e.now in
-    let w : AreWithout (bits_looked_at e) c.args.mask c.without.result = rw c.looked_at.ensures at c.without.ensures in
+    let w : AreWithout (bits_looked_at e) c.args.mask c.without.result = rw c.bits_of.ensures at c.without.ensures in
     let x = crossing e c.args.mask c.args.known c.without.result c.one_of-bit.result c.requires.condition w c.one_of-bit.ensures in
     let own : is_known_by (ones_of e.field) (rule_in c.args.self.shape c.args.self.tagging e.field) (Some c.args.mask) (Some c.args.known) ≡ true = rw (c.requires.mask, c.requires.known) at (c.args.self.each e.field) in
     parts_within (mask_at c.args.self.masks) (value c.args.self.known) e.field c.args.mask c.args.known c.one_of-bit.ensures.place c.one_of-bit.result c.requires.mask c.requires.known (under_of _ _ c.args.mask c.args.known own) x.new c.one_of-bit.ensures.is
@@ -44,7 +44,7 @@ returns-clause-within c =
 pub returns-clause-all : goal.returns-clause-all
 returns-clause-all c =
     let e = c.args.e.now in
-    let w : AreWithout (bits_looked_at e) c.args.mask c.without.result = rw c.looked_at.ensures at c.without.ensures in
+    let w : AreWithout (bits_looked_at e) c.args.mask c.without.result = rw c.bits_of.ensures at c.without.ensures in
     let x = crossing e c.args.mask c.args.known c.without.result c.one_of-bit.result c.requires.condition w c.one_of-bit.ensures in
     let own : is_known_by (ones_of e.field) (rule_in c.args.self.shape c.args.self.tagging e.field) (Some c.args.mask) (Some c.args.known) ≡ true = rw (c.requires.mask, c.requires.known) at (c.args.self.each e.field) in
     parts_all (mask_at c.args.self.masks) (value c.args.self.known) e.field c.args.mask c.args.known c.one_of-bit.ensures.place c.one_of-bit.result c.requires.mask c.requires.known (under_of _ _ c.args.mask c.args.known own) x.new c.one_of-bit.ensures.is
@@ -53,7 +53,7 @@ returns-clause-all c =
 pub returns-clause-apart : goal.returns-clause-apart
 returns-clause-apart c =
     let e = c.args.e.now in
-    let w : AreWithout (bits_looked_at e) c.args.mask c.without.result = rw c.looked_at.ensures at c.without.ensures in
+    let w : AreWithout (bits_looked_at e) c.args.mask c.without.result = rw c.bits_of.ensures at c.without.ensures in
     let x = crossing e c.args.mask c.args.known c.without.result c.one_of-bit.result c.requires.condition w c.one_of-bit.ensures in
     let own : is_known_by (ones_of e.field) (rule_in c.args.self.shape c.args.self.tagging e.field) (Some c.args.mask) (Some c.args.known) ≡ true = rw (c.requires.mask, c.requires.known) at (c.args.self.each e.field) in
     parts_apart (mask_at c.args.self.masks) (value c.args.self.known) e.field c.args.mask c.args.known c.one_of-bit.ensures.place c.one_of-bit.result c.requires.mask c.requires.known (under_of _ _ c.args.mask c.args.known own) x.new c.one_of-bit.ensures.is
