@@ -23,13 +23,20 @@ fn copy_fields(alloc: Global, fields: &[MatchField]) -> Result<Vec<MatchField>, 
     Ok(copy)
 }
 
-fn copy_instruction(alloc: Global, instruction: &InstructionText) -> Result<InstructionText, AllocError>
+fn copy_instruction(
+    alloc: Global,
+    instruction: &InstructionText,
+) -> Result<InstructionText, AllocError>
     ensures { IfOk result (λ copy. view_instruction copy ≡ view_instruction instruction.now) }
 {
     match instruction {
-        InstructionText::Apply(actions) => Ok(InstructionText::Apply(copy_actions(alloc, actions)?)),
+        InstructionText::Apply(actions) => Ok(InstructionText::Apply(copy_actions(
+            alloc, actions,
+        )?)),
         InstructionText::Clear => Ok(InstructionText::Clear),
-        InstructionText::Write(actions) => Ok(InstructionText::Write(copy_actions(alloc, actions)?)),
+        InstructionText::Write(actions) => Ok(InstructionText::Write(copy_actions(
+            alloc, actions,
+        )?)),
         InstructionText::Metadata { value, mask } => Ok(InstructionText::Metadata {
             value: *value,
             mask: *mask,
@@ -38,7 +45,10 @@ fn copy_instruction(alloc: Global, instruction: &InstructionText) -> Result<Inst
     }
 }
 
-fn copy_instructions(alloc: Global, instructions: &[InstructionText]) -> Result<Vec<InstructionText>, AllocError>
+fn copy_instructions(
+    alloc: Global,
+    instructions: &[InstructionText],
+) -> Result<Vec<InstructionText>, AllocError>
     ensures { IfOk result (λ copies. map view_instruction copies.items ≡ map view_instruction instructions.now) }
 {
     let mut copies = Vec::new(alloc);

@@ -44,10 +44,7 @@ fn push_metadata(
     Ok(())
 }
 
-fn push_goto(
-    instructions: &mut Vec<InstructionText>,
-    goto: Option<u8>,
-) -> Result<(), AllocError>
+fn push_goto(instructions: &mut Vec<InstructionText>, goto: Option<u8>) -> Result<(), AllocError>
     ensures { OnOk result (map view_instruction instructions.new.items ≡ map view_instruction instructions.old.items ++ goto_instruction goto) }
 {
     if let Some(table) = goto {

@@ -50,15 +50,20 @@ fn outputs_to(instruction: &InstructionText, port: u32) -> bool
     ensures { result ≡ some_action (is_sending_to port) (view_instruction instruction.now) }
 {
     match instruction {
-        InstructionText::Apply(actions) | InstructionText::Write(actions) => some_output(actions, port),
-        InstructionText::Clear | InstructionText::Metadata { .. } | InstructionText::Goto(_) => false,
+        InstructionText::Apply(actions) | InstructionText::Write(actions) => some_output(
+            actions, port,
+        ),
+        InstructionText::Clear | InstructionText::Metadata { .. } | InstructionText::Goto(_) =>
+            false,
     }
 }
 
 fn some_outputs_to(instructions: &[InstructionText], port: u32) -> bool
     ensures { result ≡ list_any (λ s. some_action (is_sending_to port) (view_instruction s)) instructions.now }
 {
-    instructions.iter().any(|instruction| outputs_to(instruction, port))
+    instructions
+        .iter()
+        .any(|instruction| outputs_to(instruction, port))
 }
 
 /// Whether some action of an entry sends to the port.
@@ -101,15 +106,19 @@ fn writes_sending(instruction: &InstructionText) -> bool
 {
     match instruction {
         InstructionText::Write(actions) => some_may_send(actions),
-        InstructionText::Apply(_) | InstructionText::Clear | InstructionText::Metadata { .. } | InstructionText::Goto(_) =>
-            false,
+        InstructionText::Apply(_)
+        | InstructionText::Clear
+        | InstructionText::Metadata { .. }
+        | InstructionText::Goto(_) => false,
     }
 }
 
 fn some_writes(instructions: &[InstructionText]) -> bool
     ensures { result ≡ list_any (λ s. is_writing (view_instruction s)) instructions.now }
 {
-    instructions.iter().any(|instruction| writes_sending(instruction))
+    instructions
+        .iter()
+        .any(|instruction| writes_sending(instruction))
 }
 
 #[tactic(auto, using(of_text::proofs::RefusalLemmas::mapped_any))]

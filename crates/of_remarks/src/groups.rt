@@ -30,15 +30,20 @@ fn instruction_names(instruction: &InstructionText, id: u32) -> bool
     ensures { result ≡ some_action (is_sending_to id) (view_instruction instruction.now) }
 {
     match instruction {
-        InstructionText::Apply(actions) | InstructionText::Write(actions) => some_to_group(actions, id),
-        InstructionText::Clear | InstructionText::Metadata { .. } | InstructionText::Goto(_) => false,
+        InstructionText::Apply(actions) | InstructionText::Write(actions) => some_to_group(
+            actions, id,
+        ),
+        InstructionText::Clear | InstructionText::Metadata { .. } | InstructionText::Goto(_) =>
+            false,
     }
 }
 
 fn instructions_name(instructions: &[InstructionText], id: u32) -> bool
     ensures { result ≡ list_any (λ s. some_action (is_sending_to id) (view_instruction s)) instructions.now }
 {
-    instructions.iter().any(|instruction| instruction_names(instruction, id))
+    instructions
+        .iter()
+        .any(|instruction| instruction_names(instruction, id))
 }
 
 #[tactic(auto, using(of_text::proofs::RefusalLemmas::mapped_any))]

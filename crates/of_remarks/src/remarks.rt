@@ -46,9 +46,10 @@ fn push_goto(
                 },
             )
         }
-        InstructionText::Apply(_) | InstructionText::Clear | InstructionText::Write(_) | InstructionText::Metadata { .. } => Ok(
-            (),
-        ),
+        InstructionText::Apply(_)
+        | InstructionText::Clear
+        | InstructionText::Write(_)
+        | InstructionText::Metadata { .. } => Ok(()),
     }
 }
 
@@ -120,9 +121,10 @@ fn push_unseen(
                 },
             )
         }
-        InstructionText::Clear | InstructionText::Write(_) | InstructionText::Metadata { .. } | InstructionText::Goto(_) => Ok(
-            (),
-        ),
+        InstructionText::Clear
+        | InstructionText::Write(_)
+        | InstructionText::Metadata { .. }
+        | InstructionText::Goto(_) => Ok(()),
     }
 }
 

@@ -24,7 +24,9 @@ pub fn flows_of(config: &Config, table: u8) -> &[FlowText]
 fn some_goes(instructions: &[InstructionText], to: u8) -> bool
     ensures { result ≡ list_any (λ s. is_going_to to (view_instruction s)) instructions.now }
 {
-    instructions.iter().any(|instruction| instruction.goes_to(to))
+    instructions
+        .iter()
+        .any(|instruction| instruction.goes_to(to))
 }
 
 #[tactic(auto, using(of_text::proofs::RefusalLemmas::mapped_any))]

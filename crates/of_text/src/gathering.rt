@@ -130,7 +130,10 @@ impl Gathering {
                 let actions = self.take_actions(alloc);
                 self.push_instruction(InstructionText::Write(actions))
             }
-            Row::Metadata { value, mask } => self.push_instruction(InstructionText::Metadata { value, mask }),
+            Row::Metadata { value, mask } => self.push_instruction(InstructionText::Metadata {
+                value,
+                mask,
+            }),
             Row::Goto(table) => self.push_instruction(InstructionText::Goto(table)),
             Row::Do(action) => self.push_action(action),
         }
