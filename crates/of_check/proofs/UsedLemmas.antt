@@ -1,6 +1,6 @@
 -- After actions that are unseen the packet's action set holds none that may send: the sets of a run are tied to what the tables before write.
 use Rattle.std.proofs.Common.{◌≡◌, ℕ, suc, zero, ◌+◌, ◌<◌, ◌≤◌, ◌==◌, Bool, true, false, List, [], ◌∷◌, ◌++◌, Option, Some, None, refl, sym, ap, subst, arith, inl, inr, if◌then◌else◌}
-use Rattle.std.specs.Prelude.{map, take, not, filter, nat_lt, ◌&&◌, ◌||◌, ◌⊎◌, slice_index_or, ⊤}
+use Rattle.std.specs.Prelude.{take, not, filter, nat_lt, ◌&&◌, ◌||◌, ◌⊎◌, slice_index_or, ⊤}
 use Rattle.std.specs.List.{AllByRecursion, list_all, list_any}
 use Rattle.std.proofs.lemmas.Bool.{ltb-true}
 use Rattle.of_wire.specs.declared.limits.TheConstants.{OFPP_TABLE}

@@ -1,5 +1,5 @@
 //! What verdicts and remarks mean, and what comes of a file.
-ghost use Rattle.std.specs.Prelude.{◌≡◌, ◌≢◌, ◌≤◌, ◌<◌, ◌∷◌, ℕ, Bool, false, List, [], Option, Some, Ok, IsSome, ◌^◌, ◌++◌, true, length, map};
+ghost use Rattle.std.specs.Prelude.{◌≡◌, ◌≢◌, ◌≤◌, ◌<◌, ◌∷◌, ℕ, Bool, false, List, [], Option, Some, Ok, IsSome, ◌^◌, ◌++◌, true, length};
 ghost use Rattle.std.specs.List.{Contains, list_any};
 ghost use Rattle.of_layers.specs.declared.field.Field.{Field};
 ghost use Rattle.of_layers.specs.Reading.{layers_of};
