@@ -1,5 +1,5 @@
 -- THE MESSAGES THAT BUILD A CONFIGURATION on a new switch: a controller adds each group by a GROUP_MOD and each flow by a FLOW_MOD.
-use Rattle.std.specs.Prelude.{ℕ, ◌+◌, ◌==◌, Bool, List, [], ◌∷◌, ◌++◌, filter, length, if◌then◌else◌}
+use Rattle.std.specs.Prelude.{ℕ, ◌+◌, ◌==◌, Bool, List, [], ◌∷◌, ◌++◌, filter, length, map, if◌then◌else◌}
 use Rattle.of_wire.specs.declared.limits.TheConstants.{OFP_NO_BUFFER, OFPP_ANY, OFPG_ANY}
 use Rattle.of_messages.specs.declared.message.FlowMod.{FlowMod}
 use Rattle.of_messages.specs.declared.message.FlowModCommand.TheVariants.{Add}
@@ -7,9 +7,8 @@ use Rattle.of_messages.specs.declared.group_mod.NewGroup.{NewGroup}
 use Rattle.of_messages.specs.Written.{flow_mod_bytes}
 use Rattle.of_messages.specs.CanonicalGroups.{group_add_bytes}
 use Rattle.of_groups.specs.Chains.{chain}
-use Rattle.of_text.specs.Groups.{TextGroup, buckets_of, groups_at}
+use Rattle.of_text.specs.Groups.{TextGroup, bucket_text, buckets_of, groups_at}
 use Rattle.of_text.specs.Flows.{Flow}
-use Rattle.of_text.specs.Kept.{instructions_of}
 use Rattle.of_text.specs.Configs.{Configuration, all_flows}
 
 -- the FLOW_MOD that adds a flow (OpenFlow 1.3.5, 7.3.4.1): no buffer, any port and any group (all ones), masks of 0
@@ -27,12 +26,16 @@ add_of f = record {
   out_group = OFPG_ANY;
   flags = f.head.flags;
   fields = f.fields;
-  instructions = instructions_of f;
+  instructions = f.instructions;
 }
 
 -- the group that a GROUP_MOD adds (7.3.4.2)
 abbrev pub new_of : TextGroup → NewGroup
 new_of g = record { id = g.head.id; kind = g.head.kind; buckets = buckets_of g }
+
+-- and back: the group that a GROUP_MOD says
+abbrev pub new_group_text : NewGroup → TextGroup
+new_group_text g = record { head = record { id = g.id; kind = g.kind }; buckets = map bucket_text g.buckets }
 
 -- the group alone, if it is wanted
 abbrev pub those : Bool → TextGroup → List TextGroup

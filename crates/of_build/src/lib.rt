@@ -5,4 +5,4 @@ mod building;
 mod listing;
 
 pub use building::{build, push_hex};
-pub use listing::messages;
+pub use listing::{group_text, messages};

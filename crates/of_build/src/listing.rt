@@ -6,12 +6,13 @@ ghost use Rattle.of_groups.specs.Chains.{chain};
 ghost use Rattle.of_groups.specs.Sound.{is_fit_group};
 ghost use Rattle.of_messages.specs.Written.{flow_mod_bytes};
 ghost use Rattle.of_text.specs.Configs.{all_flows};
-ghost use Rattle.of_text.specs.Groups.{buckets_of, groups_at};
+ghost use Rattle.of_text.specs.Groups.{buckets_of, group_rows, groups_at};
 ghost use Rattle.of_text.specs.Kept.{IsEntry};
+ghost use Rattle.of_text.specs.Rows.{Fits};
 ghost use Rattle.of_text.specs.Views.{view, view_flows, view_group, view_groups};
-ghost use Rattle.of_build.specs.Listing.{add_of, flow_adds, group_adds, in_turn, messages_of, of_length, those};
+ghost use Rattle.of_build.specs.Listing.{add_of, flow_adds, group_adds, in_turn, messages_of, new_group_text, of_length, those};
 
-use of_groups::chain_lengths;
+use of_groups::{Group, chain_lengths};
 use of_messages::{FlowMod, FlowModCommand, NewGroup, write_flow_mod, write_group_mod};
 use of_text::{Config, FlowText, GroupText};
 use of_wire::Bytes;
@@ -160,4 +161,21 @@ pub fn messages(alloc: Global, config: &Config) -> Result<Vec<Bytes>, AllocError
     let first = push_all_groups(alloc, &mut out, config)?;
     push_tables(alloc, &mut out, first, config)?;
     Ok(out)
+}
+
+/// The group that a GROUP_MOD says, as text has it.
+pub fn group_text(alloc: Global, group: NewGroup) -> Result<GroupText, AllocError>
+    ensures text { IfOk result (λ text. view_group text ≡ new_group_text group) }
+    ensures fits { IfOk result (λ text. AllByRecursion Fits (group_rows (view_group text))) }
+{
+    let NewGroup { id, kind, buckets } = group;
+    let group = Group {
+        id,
+        kind,
+        buckets,
+        packets: 0,
+        bytes: 0,
+        created: 0,
+    };
+    GroupText::of(alloc, &group)
 }

@@ -16,9 +16,8 @@ use Rattle.of_action_set.specs.Sets.{in_order}
 use Rattle.of_table.specs.declared.flow.Flow.{Flow}
 use Rattle.of_table.specs.Table.{FlowEntry, Table, empty_table, flow_at}
 use Rattle.of_table.specs.Tables.{table_at}
-use Rattle.of_text.specs.Flows.{Flow as TextFlow}
-use Rattle.of_text.specs.Kept.{step_of}
-use Rattle.of_remarks.specs.Tables.{IsReached, is_way, leads_to_table, goes_to}
+use Rattle.of_text.specs.Flows.{Flow as TextFlow, goes_to}
+use Rattle.of_remarks.specs.Tables.{IsReached, is_way, leads_to_table}
 use Rattle.of_machine.specs.declared.data.Packet.{Packet}
 use Rattle.of_machine.specs.declared.data.Step.{Step}
 use Rattle.of_machine.specs.TheWorld.{TheWorld}
@@ -179,7 +178,7 @@ any_entry test j [] n f at h = absurd cc
 any_entry test j (e ∷ es) zero f at h = let is : Some e.flow ≡ Some f = at in rw (h e cc) refl
 any_entry test j (e ∷ es) (suc n) f at h = or_right (test (entry_text j e)) (list_any test (map (entry_text j) es)) (any_entry test j es n f at h)
 
-goes_on : (is : List Instruction) (P : ℕ → Type 0) → ((u : ℕ) → list_any (goes_to u) (map step_of is) ≡ true → P u) → AllByRecursion (InstructionIn P) is
+goes_on : (is : List Instruction) (P : ℕ → Type 0) → ((u : ℕ) → list_any (goes_to u) is ≡ true → P u) → AllByRecursion (InstructionIn P) is
 goes_on [] P h = tt
 goes_on (Apply l ∷ is) P h = (tt, goes_on is P h)
 goes_on (Clear ∷ is) P h = (tt, goes_on is P h)
@@ -187,7 +186,7 @@ goes_on (Write l ∷ is) P h = (tt, goes_on is P h)
 goes_on (Metadata value mask ∷ is) P h = (tt, goes_on is P h)
 goes_on (Goto t ∷ is) P h =
     let same : eqb t t ≡ true = eq-eqb t t refl in
-    (h t (rw same refl), goes_on is P (λ u k. h u (or_right (eqb t u) (list_any (goes_to u) (map step_of is)) k)))
+    (h t (rw same refl), goes_on is P (λ u k. h u (or_right (eqb t u) (list_any (goes_to u) is) k)))
 
 closed : (f : Forwarding) → IsClosed (IsReached (configuration_of f).tables) (world_of f)
 closed f = record {
@@ -195,9 +194,9 @@ closed f = record {
   onward = λ t n flow reached at. goes_on flow.instructions (IsReached (configuration_of f).tables) (λ u to.
       let tables = (configuration_of f).tables in
       let text = text_at 0 f.tables.tables t in
-      let some : list_any (λ x. list_any (goes_to u) x.steps) (table_text text.0 (table_at t f.tables)) ≡ true =
-      any_entry (λ x. list_any (goes_to u) x.steps) text.0 (table_at t f.tables).flows n flow at (λ e is. subst (λ (x : Flow). list_any (goes_to u) (map step_of x.instructions) ≡ true) (sym is) to) in
-      let on : leads_to_table tables t u ≡ true = subst (λ (x : List TextFlow). list_any (λ y. list_any (goes_to u) y.steps) x ≡ true) (sym text.1) some in
+      let some : list_any (λ x. list_any (goes_to u) x.instructions) (table_text text.0 (table_at t f.tables)) ≡ true =
+      any_entry (λ x. list_any (goes_to u) x.instructions) text.0 (table_at t f.tables).flows n flow at (λ e is. subst (λ (x : Flow). list_any (goes_to u) x.instructions ≡ true) (sym is) to) in
+      let on : leads_to_table tables t u ≡ true = subst (λ (x : List TextFlow). list_any (λ y. list_any (goes_to u) y.instructions) x ≡ true) (sym text.1) some in
       (reached.0 ++ u ∷ [], way_more tables 0 reached.0 t u reached.1 on));
 }
 

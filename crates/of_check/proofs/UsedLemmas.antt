@@ -1,6 +1,6 @@
 -- After actions that are unseen the packet's action set holds none that may send: the sets of a run are tied to what the tables before write.
 use Rattle.std.proofs.Common.{◌≡◌, ℕ, suc, zero, ◌+◌, ◌<◌, ◌≤◌, ◌==◌, Bool, true, false, List, [], ◌∷◌, ◌++◌, Option, Some, None, refl, sym, ap, subst, arith, inl, inr, if◌then◌else◌}
-use Rattle.std.specs.Prelude.{map, take, not, filter, nat_lt, ◌&&◌, ◌||◌, ◌⊎◌, slice_index_or, ⊤}
+use Rattle.std.specs.Prelude.{take, not, filter, nat_lt, ◌&&◌, ◌||◌, ◌⊎◌, slice_index_or, ⊤}
 use Rattle.std.specs.List.{AllByRecursion, list_all, list_any}
 use Rattle.std.proofs.lemmas.Bool.{ltb-true}
 use Rattle.of_wire.specs.declared.limits.TheConstants.{OFPP_TABLE}
@@ -18,7 +18,6 @@ use Rattle.of_action_set.specs.Sets.{in_order, is_group, is_output, rank, with_a
 use Rattle.of_table.specs.declared.flow.Flow.{Flow}
 use Rattle.of_table.specs.Tables.{table_at}
 use Rattle.of_text.specs.Flows.{Flow as TextFlow}
-use Rattle.of_text.specs.Kept.{step_of}
 use Rattle.of_remarks.specs.Tables.{flows_at}
 use Rattle.of_remarks.specs.Actions.{is_clear, is_goto, is_used_later, may_send_packet, some_writes_sending, writes_sending}
 use Rattle.of_machine.specs.declared.data.Packet.{Packet}
@@ -244,13 +243,13 @@ entry_early ts set t (Metadata value mask ∷ is) h r = tt
 entry_early ts set t (Goto u ∷ is) h r = tt
 
 -- what the entries of a world write is what the tables of its configuration write
-writes_in : (P : Type 0) (is : List Instruction) → (list_any writes_sending (map step_of is) ≡ true → P) → (ts : List (List TextFlow)) (t : ℕ) → (P → Below ts t) → AllByRecursion (WritesBelow ts t) is
+writes_in : (P : Type 0) (is : List Instruction) → (list_any writes_sending is ≡ true → P) → (ts : List (List TextFlow)) (t : ℕ) → (P → Below ts t) → AllByRecursion (WritesBelow ts t) is
 writes_in P [] h ts t on = tt
 writes_in P (Apply l ∷ is) h ts t on = (tt, writes_in P is h ts t on)
 writes_in P (Clear ∷ is) h ts t on = (tt, writes_in P is h ts t on)
 writes_in P (Write l ∷ is) h ts t on = (
   λ s. on (h (rw s refl)),
-  writes_in P is (λ k. h (or_right (list_any may_send_packet l) (list_any writes_sending (map step_of is)) k)) ts t on,
+  writes_in P is (λ k. h (or_right (list_any may_send_packet l) (list_any writes_sending is) k)) ts t on,
 )
 writes_in P (Metadata value mask ∷ is) h ts t on = (tt, writes_in P is h ts t on)
 writes_in P (Goto u ∷ is) h ts t on = (tt, writes_in P is h ts t on)
@@ -260,9 +259,9 @@ entry_writes f t n flow at =
     let ts = (configuration_of f).tables in
     let text = text_at 0 f.tables.tables t in
     writes_in (some_writes_sending (flows_at ts t) ≡ true) flow.instructions (λ to.
-    let some : list_any (λ x. list_any writes_sending x.steps) (table_text text.0 (table_at t f.tables)) ≡ true =
-    any_entry (λ x. list_any writes_sending x.steps) text.0 (table_at t f.tables).flows n flow at (λ e is. subst (λ (x : Flow). list_any writes_sending (map step_of x.instructions) ≡ true) (sym is) to) in
-    subst (λ (x : List TextFlow). list_any (λ y. list_any writes_sending y.steps) x ≡ true) (sym text.1) some) ts (t + 1) (λ h. rw add-one (below_own ts t h))
+    let some : list_any (λ x. list_any writes_sending x.instructions) (table_text text.0 (table_at t f.tables)) ≡ true =
+    any_entry (λ x. list_any writes_sending x.instructions) text.0 (table_at t f.tables).flows n flow at (λ e is. subst (λ (x : Flow). list_any writes_sending x.instructions ≡ true) (sym is) to) in
+    subst (λ (x : List TextFlow). list_any (λ y. list_any writes_sending y.instructions) x ≡ true) (sym text.1) some) ts (t + 1) (λ h. rw add-one (below_own ts t h))
   where
     add-one : t + 1 ≡ suc t
     add-one = omega arith
@@ -400,8 +399,8 @@ no_apply ts set t (Write l ∷ is) h k = late_no_apply is k.0 k.1
 no_apply ts set t (Metadata value mask ∷ is) h k = late_no_apply is k.0 k.1
 no_apply ts set t (Goto u ∷ is) h k = tt
 
-ends : (w : TheWorld) (m : Machine) (p : Packet) (is : List Instruction) (others : List Task) → NoApply is → list_any is_goto (map step_of is) ≡ false → list_any writes_sending (map step_of is) ≡ false
-    → (list_any may_send_packet p.action_set ≡ false) ⊎ (list_any is_clear (map step_of is) ≡ true) → m.tasks ≡ task p (works is) ∷ others → Quietly w m others
+ends : (w : TheWorld) (m : Machine) (p : Packet) (is : List Instruction) (others : List Task) → NoApply is → list_any is_goto is ≡ false → list_any writes_sending is ≡ false
+    → (list_any may_send_packet p.action_set ≡ false) ⊎ (list_any is_clear is ≡ true) → m.tasks ≡ task p (works is) ∷ others → Quietly w m others
 ends w m p [] others n g s (inl silent) e = set_ended w m p others (silent_order p.action_set silent) e
 ends w m p [] others n g s (inr clears) e = absurd cc
 ends w m p (Apply l ∷ is) others n g s c e = absurd n
@@ -410,10 +409,10 @@ ends w m p (Clear ∷ is) others n g s c e =
     onward w m _ _ first (ends w (after w first.steps m) (record p { action_set = [] }) is others n g s (inl refl) first.tasks_are)
 ends w m p (Write l ∷ is) others n g s c e =
     let first = one_step w m p (Do (Write l) ∷ works is) others (row w p (Do (Write l) ∷ works is)) e refl refl refl in
-    let parts = or_parts (list_any may_send_packet l) (list_any writes_sending (map step_of is)) s in
+    let parts = or_parts (list_any may_send_packet l) (list_any writes_sending is) s in
     onward w m _ _ first (ends w (after w first.steps m) (record p { action_set = with_actions p.action_set l }) is others n g parts.1 (written c parts.0) first.tasks_are)
   where
-    written : (list_any may_send_packet p.action_set ≡ false) ⊎ (list_any is_clear (map step_of is) ≡ true) → list_any may_send_packet l ≡ false → (list_any may_send_packet (with_actions p.action_set l) ≡ false) ⊎ (list_any is_clear (map step_of is) ≡ true)
+    written : (list_any may_send_packet p.action_set ≡ false) ⊎ (list_any is_clear is ≡ true) → list_any may_send_packet l ≡ false → (list_any may_send_packet (with_actions p.action_set l) ≡ false) ⊎ (list_any is_clear is ≡ true)
     written (inl silent) k = inl (silent_written p.action_set l silent k)
     written (inr clears) k = inr clears
 ends w m p (Metadata value mask ∷ is) others n g s c e =
@@ -428,7 +427,7 @@ set_is false below true h b = let yes : below ≡ true = b refl in absurd cc
 
 pub unseen_later : (f : Forwarding) → IsSound (world_of f) → (frame : List ℕ) (port k : ℕ) (q : Packet) (a : Action) (l : List Action) (is : List Instruction) (others : List Task)
     → (after (world_of f) k (starting (entering frame port) (Lookup 0 ∷ []))).tasks ≡ task q (Act a ∷ acts l ++ works is) ∷ others → may_send_packet a ≡ false → list_any may_send_packet l ≡ false
-    → is_used_later (configuration_of f).tables q.table (map step_of is) ≡ false → Quietly (world_of f) (after (world_of f) k (starting (entering frame port) (Lookup 0 ∷ []))) others
+    → is_used_later (configuration_of f).tables q.table is ≡ false → Quietly (world_of f) (after (world_of f) k (starting (entering frame port) (Lookup 0 ∷ []))) others
 unseen_later f sound frame port k q a l is others e first later unused =
     let ts = (configuration_of f).tables in
     let w = world_of f in
@@ -437,10 +436,10 @@ unseen_later f sound frame port k q a l is others e first later unused =
     let mine : AllTied ts (task q (Act a ∷ acts l ++ works is) ∷ others) = subst (λ (x : List Task). AllTied ts x) e all in
     let pending = acts_pending ts q.action_set q.table l (works is) mine.0.early in
     let none = no_apply ts q.action_set q.table is pending (acts_kept l (works is) mine.0.kept) in
-    let one = or_parts (list_any is_goto (map step_of is) || list_any writes_sending (map step_of is)) (not (list_any is_clear (map step_of is)) && list_any some_writes_sending (take q.table ts)) unused in
-    let two = or_parts (list_any is_goto (map step_of is)) (list_any writes_sending (map step_of is)) one.0 in
-    let set = set_is (list_any is_clear (map step_of is)) (list_any some_writes_sending (take q.table ts)) (list_any may_send_packet q.action_set) one.1 (works_pending ts q.action_set q.table is pending) in
+    let one = or_parts (list_any is_goto is || list_any writes_sending is) (not (list_any is_clear is) && list_any some_writes_sending (take q.table ts)) unused in
+    let two = or_parts (list_any is_goto is) (list_any writes_sending is) one.0 in
+    let set = set_is (list_any is_clear is) (list_any some_writes_sending (take q.table ts)) (list_any may_send_packet q.action_set) one.1 (works_pending ts q.action_set q.table is pending) in
     let silent : list_any may_send_packet (a ∷ l) ≡ false = rw first later in
     let done = acts_done w (a ∷ l) q (works is) others m silent e in
-    let same : (list_any may_send_packet done.packet.action_set ≡ false) ⊎ (list_any is_clear (map step_of is) ≡ true) = subst (λ (x : List Action). (list_any may_send_packet x ≡ false) ⊎ (list_any is_clear (map step_of is) ≡ true)) (sym done.same_set) set in
+    let same : (list_any may_send_packet done.packet.action_set ≡ false) ⊎ (list_any is_clear is ≡ true) = subst (λ (x : List Action). (list_any may_send_packet x ≡ false) ⊎ (list_any is_clear is ≡ true)) (sym done.same_set) set in
     onward w m _ _ done.comes (ends w (after w done.comes.steps m) done.packet is others none two.0 two.1 same done.comes.tasks_are)

@@ -1,5 +1,5 @@
 //! What verdicts and remarks mean, and what comes of a file.
-ghost use Rattle.std.specs.Prelude.{◌≡◌, ◌≢◌, ◌≤◌, ◌<◌, ◌∷◌, ℕ, Bool, false, List, [], Option, Some, Ok, IsSome, ◌^◌, ◌++◌, true, length, map};
+ghost use Rattle.std.specs.Prelude.{◌≡◌, ◌≢◌, ◌≤◌, ◌<◌, ◌∷◌, ℕ, Bool, false, List, [], Option, Some, Ok, IsSome, ◌^◌, ◌++◌, true, length};
 ghost use Rattle.std.specs.List.{Contains, list_any};
 ghost use Rattle.of_layers.specs.declared.field.Field.{Field};
 ghost use Rattle.of_layers.specs.Reading.{layers_of};
@@ -13,7 +13,6 @@ ghost use Rattle.of_actions.specs.declared.action.Action.TheVariants.{Output};
 ghost use Rattle.of_actions.specs.PortNumbers.{is_number};
 ghost use Rattle.of_action_set.specs.Sets.{in_order};
 ghost use Rattle.of_actions.specs.declared.instruction.Instruction.{Instruction};
-ghost use Rattle.of_text.specs.Kept.{step_of};
 ghost use Rattle.of_text.specs.Configs.{IsConfig};
 ghost use Rattle.of_remarks.specs.Tables.{IsReached, is_reached};
 ghost use Rattle.of_remarks.specs.Actions.{is_used_later, may_send_packet, required_port};
@@ -84,7 +83,7 @@ pub fn last_actions_are_unseen()
         (later : List Instruction) (others : List Task) →
         (after (world_of f) k (starting (entering frame port) (LookUp 0 ∷ []))).tasks ≡ task q (Act first ∷ acts actions ++ works later) ∷ others →
         may_send_packet first ≡ false → list_any may_send_packet actions ≡ false →
-        is_used_later (configuration_of f).tables q.table (map step_of later) ≡ false →
+        is_used_later (configuration_of f).tables q.table later ≡ false →
         ComesUnseen (world_of f) (after (world_of f) k (starting (entering frame port) (LookUp 0 ∷ []))) others }
 {}
 

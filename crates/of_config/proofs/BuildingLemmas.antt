@@ -15,7 +15,7 @@ use Rattle.of_lines.specs.declared.row.Row.{Row}
 use Rattle.of_lines.specs.declared.row.Row.TheVariants as rows
 use Rattle.of_text.specs.Flows.{Flow, text_rows}
 use Rattle.of_text.specs.Groups.{TextBucket, TextGroup, bucket_rows, group_rows, rows_of_groups}
-use Rattle.of_text.specs.Kept.{in_text}
+use Rattle.of_text.specs.Kept.{IsKeptFlow}
 use Rattle.of_text.specs.Order.{start_place, following, following_all}
 use Rattle.of_text.specs.Rows.{Fits}
 use Rattle.of_text.specs.Texts.{AreRows}
@@ -30,7 +30,7 @@ use Rattle.of_config.specs.declared.fault.ConfigFault.{ConfigFault}
 use Rattle.of_config.specs.declared.fault.ConfigFault.TheVariants.{NotACommand, Refused}
 use Rattle.of_config.specs.declared.building.Listed.{Listed as InMemory}
 use Rattle.of_config.specs.Built.{Said, IsGroup, Listed, config_listed, earlier, listed_messages, listed_by, nothing_listed, message_said, with_fault, with_listed_flow, with_listed_group}
-use Rattle.of_config.specs.BuiltViews.{StandsInText, IsSoundListed, joined_with_later, or_later}
+use Rattle.of_config.specs.BuiltViews.{IsSoundListed, joined_with_later, or_later}
 
 and_parts : (a b : Bool) → (a && b) ≡ true → (a ≡ true) × (b ≡ true)
 and_parts true b h = (refl, h)
@@ -117,18 +117,15 @@ groups_rise (g ∷ gs) h =
     let parts = and_parts (list_all (λ y. nat_lt g.head.id y.head.id) gs) (is_ascending (λ g. g.head.id) gs) h in
     rw (all_above g.head.id gs parts.0, groups_rise gs parts.1) refl
 
-stands_whole : (f : Flow) → StandsInText f → IsWhole f
-stands_whole f s =
-    let kept = s.kept ∷ [] in
-    let whole = each_whole 0 (in_text s.kept ∷ []) (flows_fit kept (s.is_kept, tt)) (flows_stand 0 kept (s.is_kept, tt)) in
-    rw s.same whole.0
+kept_whole : (f : Flow) → IsKeptFlow f → IsWhole f
+kept_whole f k = (each_whole 0 (f ∷ []) (flows_fit (f ∷ []) (k, tt)) (flows_stand 0 (f ∷ []) (k, tt))).0
 
-flows_whole : (fs : List FlowText) → AllByRecursion (λ f. StandsInText (view f)) fs → AllByRecursion IsWhole (view_flows fs)
+flows_whole : (fs : List FlowText) → AllByRecursion (λ f. IsKeptFlow (view f)) fs → AllByRecursion IsWhole (view_flows fs)
 flows_whole [] h = tt
-flows_whole (f ∷ fs) h = (stands_whole (view f) h.0, flows_whole fs h.1)
+flows_whole (f ∷ fs) h = (kept_whole (view f) h.0, flows_whole fs h.1)
 
 -- the lines of what was listed
-pub listed_rows : (gs : List GroupText) (fs : List FlowText) → AllByRecursion GroupFits gs → is_ascending (λ g. g.head.id) gs ≡ true → AllByRecursion (λ f. StandsInText (view f)) fs → AreRows (text_rows (view_groups gs) (view_flows fs))
+pub listed_rows : (gs : List GroupText) (fs : List FlowText) → AllByRecursion GroupFits gs → is_ascending (λ g. g.head.id) gs ≡ true → AllByRecursion (λ f. IsKeptFlow (view f)) fs → AreRows (text_rows (view_groups gs) (view_flows fs))
 listed_rows gs fs fits rising stand =
     let place = groups_stand (view_groups gs) (groups_rise gs rising) in
     rows_from (view_groups gs) (view_flows fs) (record { fits = groups_fit gs fits; place = place.0; order = place.1; whole = flows_whole fs stand })
@@ -202,12 +199,12 @@ group_sound l l' g s le fits gs x e = record {
   flows = rw x s.flows;
 }
 
-pub flow_sound : (l l' : InMemory) (f : FlowText) → IsSoundListed l → StandsInText (view f) → l'.flows.items ≡ l.flows.items ++ f ∷ [] → l'.groups ≡ l.groups → l'.least ≡ 0x100000000 → IsSoundListed l'
+pub flow_sound : (l l' : InMemory) (f : FlowText) → IsSoundListed l → IsKeptFlow (view f) → l'.flows.items ≡ l.flows.items ++ f ∷ [] → l'.groups ≡ l.groups → l'.least ≡ 0x100000000 → IsSoundListed l'
 flow_sound l l' f s stands fs x e = record {
   fits = rw x s.fits;
   below = rw (x, e) (weaker GroupFits (λ y. y.head.id < 0x100000000) (λ y h. h.0) l.groups.items s.fits);
   rising = rw x s.rising;
-  flows = rw fs (one_more (λ y. StandsInText (view y)) l.flows.items f s.flows stands);
+  flows = rw fs (one_more (λ y. IsKeptFlow (view y)) l.flows.items f s.flows stands);
 }
 
 pub noted_sound : (l l' : InMemory) → IsSoundListed l → l'.groups ≡ l.groups → l'.flows ≡ l.flows → l'.least ≡ l.least → IsSoundListed l'

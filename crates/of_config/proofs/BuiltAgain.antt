@@ -11,8 +11,8 @@ use Rattle.of_groups.specs.Buckets.{are_fit, fresh}
 use Rattle.of_groups.specs.Faults.{is_bad_watch, is_not_one}
 use Rattle.of_text.specs.First.{first_refusal}
 use Rattle.of_text.specs.Groups.{TextBucket, TextGroup, bucket_of, bucket_text, buckets_of, groups_at}
-use Rattle.of_text.specs.Flows.{Flow, Step, Apply, Clear, Write, Metadata, Goto, text_rows}
-use Rattle.of_text.specs.Kept.{AllStandBehind, instruction_of, instructions_of, step_of}
+use Rattle.of_text.specs.Flows.{Flow, text_rows}
+use Rattle.of_text.specs.Kept.{AllStandBehind}
 use Rattle.of_text.specs.Texts.{AreRows}
 use Rattle.of_text.specs.Configs.{Configuration, IsConfig, all_flows, tables_of_flows}
 use Rattle.of_text.specs.Lines.{lines_of}
@@ -55,17 +55,6 @@ groups_say : (all : List Group) (gs : List TextGroup) → AllByRecursion (IsSent
 groups_say all [] h = tt
 groups_say all (g ∷ gs) h = (group_says all g h.0, groups_say all gs h.1)
 
-step_same : (s : Step) → step_of (instruction_of s) ≡ s
-step_same (Apply actions) = refl
-step_same Clear = refl
-step_same (Write actions) = refl
-step_same (Metadata value mask) = refl
-step_same (Goto table) = refl
-
-steps_same : (ss : List Step) → map step_of (map instruction_of ss) ≡ ss
-steps_same [] = refl
-steps_same (s ∷ ss) = rw (step_same s, steps_same ss) refl
-
 abbrev SaysFlow : Flow → Type 0
 SaysFlow f = (xid : ℕ) → xid < 256 ^ 4 → message_said (flow_mod_bytes xid (add_of f)) ≡ IsFlow f
 
@@ -73,11 +62,10 @@ flow_says : (table : ℕ) (f : Flow) → IsSent table f → bit_and f.head.flags
 flow_says table f s flags xid small =
     let few : f.head.flags ≤ 25 = subst (λ (k : ℕ). k ≤ 25) flags (and_le_r f.head.flags 25) in
     let low : f.head.table < 16 = omega (arith, s.own, s.low) in
-    let fit : are_for f.head.table (instructions_of f) ≡ true = rw (s.own) s.entry.leads_on in
+    let fit : are_for f.head.table f.instructions ≡ true = rw (s.own) s.entry.leads_on in
     let fits : FitsCells (flow_mod_cells (add_of f)) = (s.head.2, (omega arith, (omega (arith, low), (omega arith, (s.head.3, (s.head.4, (s.head.1, (omega arith, (omega arith, (omega arith, (omega (arith, few), tt))))))))))) in
     let encoded = flow_mod_encoded xid (add_of f) small fits (record { table = low; flags = omega (arith, few); fit = s.entry.checked }) s.entry.fields s.entry.kept fit (λ deleted. absurd cc) in
     ap said_by (only xid (AFlowMod (add_of f)) (flow_mod_bytes xid (add_of f)) encoded)
-    ∙ ap (λ (ss : List Step). IsFlow (record { head = f.head; fields = f.fields; steps = ss })) (steps_same f.steps)
 
 table_says : (gs : List TextGroup) (table : ℕ) (before fs : List Flow) → AllByRecursion (IsSent table) fs → AllStandBehind gs before fs → AllByRecursion SaysFlow fs
 table_says gs table before [] h stand = tt

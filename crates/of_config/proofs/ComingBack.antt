@@ -20,7 +20,7 @@ use Rattle.of_table.specs.Tables.{no_tables, tables_of as empty_tables}
 use Rattle.of_text.specs.Rows.{Fits}
 use Rattle.of_text.specs.Groups.{TextBucket, TextGroup, bucket_of, bucket_rows, buckets_of, group_at, group_rows, groups_at, rows_of_groups}
 use Rattle.of_text.specs.Flows.{Flow as TextFlow, flow_rows, rows_of_all_flows as rows_of_flows}
-use Rattle.of_text.specs.Kept.{AllStandBehind, AreKeptGroups, IsEntry, instructions_of}
+use Rattle.of_text.specs.Kept.{AllStandBehind, AreKeptGroups, IsEntry}
 use Rattle.of_text.specs.Configs.{Configuration, IsConfig, all_flows}
 use Rattle.of_text.proofs.ConfigLemmas.{AllFor, all_for, config_fits}
 use Rattle.of_text.proofs.EntryLemmas.{config_entries, config_stands}
@@ -155,9 +155,9 @@ group_is xid all g s =
 
 flow_is : (xid table : ℕ) (f : TextFlow) → IsSent table f → is_command (flow_mod_bytes xid (add_of f)) ≡ true
 flow_is xid table f s =
-    let tail = canonical f.fields ++ canonical_instructions (instructions_of f) in
+    let tail = canonical f.fields ++ canonical_instructions f.instructions in
     is_of 14 xid (flow_mod_fixed_part (add_of f) ++ tail)
-    (omega (arith, length_flow_mod (add_of f), length-append (flow_mod_fixed_part (add_of f)) tail, length-append (canonical f.fields) (canonical_instructions (instructions_of f)), canonical_short f.fields s.entry.fields.rising, instructions_short (instructions_of f) s.entry.kept)) refl
+    (omega (arith, length_flow_mod (add_of f), length-append (flow_mod_fixed_part (add_of f)) tail, length-append (canonical f.fields) (canonical_instructions f.instructions), canonical_short f.fields s.entry.fields.rising, instructions_short f.instructions s.entry.kept)) refl
 
 groups_are : (xid : ℕ) (all : List Group) (gs : List TextGroup) → AllByRecursion (IsSentGroup all) gs → AreCommands (group_adds xid gs)
 groups_are xid all [] h = tt

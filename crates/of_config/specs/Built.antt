@@ -1,5 +1,5 @@
 -- THE CONFIGURATION THAT A LIST OF MESSAGES SAYS, beside each other: GROUP_MODs that add groups, in ascending order of number, and then FLOW_MODs that add flows (OpenFlow 1.3.5, 7.3.4.1 and 7.3.4.2); or the first of them that is at fault.
-use Rattle.std.specs.Prelude.{ℕ, ◌+◌, ◌==◌, ◌&&◌, nat_le, nat_lt, Bool, true, false, List, [], ◌∷◌, map, slice_index_or, Option, Some, None, Result, Ok, Err, if◌then◌else◌}
+use Rattle.std.specs.Prelude.{ℕ, ◌+◌, ◌==◌, ◌&&◌, nat_le, nat_lt, Bool, true, false, List, [], ◌∷◌, slice_index_or, Option, Some, None, Result, Ok, Err, if◌then◌else◌}
 use Rattle.of_wire.specs.declared.limits.TheConstants.{OFP_NO_BUFFER}
 use Rattle.of_wire.specs.declared.code.Code.{Code}
 use Rattle.of_messages.specs.declared.message.Message.{Message}
@@ -8,13 +8,12 @@ use Rattle.of_messages.specs.declared.message.FlowMod.{FlowMod}
 use Rattle.of_messages.specs.declared.message.FlowModCommand.{FlowModCommand}
 use Rattle.of_messages.specs.declared.message.FlowModCommand.TheVariants as command
 use Rattle.of_messages.specs.declared.group_mod.GroupMod.TheVariants.{Add}
-use Rattle.of_messages.specs.declared.group_mod.NewGroup.{NewGroup}
 use Rattle.of_messages.specs.Messages.{message_of}
-use Rattle.of_text.specs.Groups.{TextGroup, bucket_text}
+use Rattle.of_text.specs.Groups.{TextGroup}
 use Rattle.of_text.specs.Flows.{Flow}
-use Rattle.of_text.specs.Kept.{KeptFlow, in_text}
 use Rattle.of_text.specs.First.{first_refusal}
 use Rattle.of_text.specs.Configs.{Configuration, tables_of_flows}
+use Rattle.of_build.specs.Listing.{new_group_text}
 use Rattle.of_config.specs.declared.fault.ConfigFault.{ConfigFault}
 use Rattle.of_config.specs.declared.fault.ConfigFault.TheVariants.{NoMemory, NotACommand, Refused}
 
@@ -28,18 +27,12 @@ pub data Said : Type 0 where
   -- it is refused by itself
   Bad : (code : Code) → Said
 
-abbrev pub new_group_text : NewGroup → TextGroup
-new_group_text g = record { head = record { id = g.id; kind = g.kind }; buckets = map bucket_text g.buckets }
-
-abbrev pub flow_mod_kept : FlowMod → KeptFlow
-flow_mod_kept m = record {
+abbrev pub flow_said : FlowMod → Flow
+flow_said m = record {
   head = record { table = m.table; priority = m.priority; cookie = m.cookie; idle = m.idle_timeout; hard = m.hard_timeout; flags = m.flags };
   fields = m.fields;
   instructions = m.instructions;
 }
-
-abbrev pub flow_said : FlowMod → Flow
-flow_said m = in_text (flow_mod_kept m)
 
 abbrev pub is_add_command : FlowModCommand → Bool
 is_add_command command.Add = true

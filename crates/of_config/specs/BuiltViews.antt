@@ -2,9 +2,8 @@
 use Rattle.std.specs.Prelude.{◌≡◌, ◌<◌, ◌++◌, true, Option, Some, None}
 use Rattle.std.specs.List.{AllByRecursion}
 use Rattle.of_actions.specs.Rising.{is_ascending}
-use Rattle.of_text.specs.Flows.{Flow}
 use Rattle.of_text.specs.Groups.{group_rows}
-use Rattle.of_text.specs.Kept.{KeptFlow, IsKeptFlow, in_text}
+use Rattle.of_text.specs.Kept.{IsKeptFlow}
 use Rattle.of_text.specs.Rows.{Fits}
 use Rattle.of_text.specs.Views.{view, view_group, view_groups, view_flows}
 use Rattle.of_config.specs.declared.fault.ConfigFault.{ConfigFault}
@@ -19,15 +18,9 @@ view_said (variants.Flow f) = IsFlow (view f)
 view_said variants.Other = Other
 view_said (variants.Bad code) = Bad code
 
--- a flow that a table may keep, in text
-pub record StandsInText (f : Flow) : Type 0 where
-  pub kept : KeptFlow
-  pub is_kept : IsKeptFlow kept
-  pub same : f ≡ in_text kept
-
 abbrev pub IsSoundSaid : Declared → Type 0
 IsSoundSaid (variants.Group g) = AllByRecursion Fits (group_rows (view_group g))
-IsSoundSaid (variants.Flow f) = StandsInText (view f)
+IsSoundSaid (variants.Flow f) = IsKeptFlow (view f)
 IsSoundSaid variants.Other = Unit {0}
 IsSoundSaid (variants.Bad code) = Unit {0}
 
@@ -50,4 +43,4 @@ pub record IsSoundListed (l : InMemory) : Type 0 where
   pub fits : AllByRecursion (λ g. AllByRecursion Fits (group_rows (view_group g))) l.groups.items
   pub below : AllByRecursion (λ g. g.head.id < l.least) l.groups.items
   pub rising : is_ascending (λ g. g.head.id) l.groups.items ≡ true
-  pub flows : AllByRecursion (λ f. StandsInText (view f)) l.flows.items
+  pub flows : AllByRecursion (λ f. IsKeptFlow (view f)) l.flows.items

@@ -2,14 +2,15 @@
 ghost use Rattle.std.specs.Prelude.{◌≡◌, ◌⊎◌, ℕ, [], Ok, Err, Some, slice_index_or, IfOk, IfErr, OnOk};
 ghost use Rattle.std.specs.List.{AllByRecursion};
 ghost use Rattle.of_text.specs.Groups.{group_rows};
+ghost use Rattle.of_text.specs.Kept.{IsKeptFlow};
 ghost use Rattle.of_text.specs.Rows.{Fits};
 ghost use Rattle.of_text.specs.Views.{view, view_group};
-ghost use Rattle.of_config.specs.Built.{IsFlow, IsGroup, Listed as AllListed, added_by_message, config_listed, config_said, earlier, flow_said, new_group_text, listed_messages, listed_by, nothing_listed, fault_place as place_is, message_said};
-ghost use Rattle.of_config.specs.BuiltViews.{IsSoundListed, IsSoundSaid, StandsInText, joined_with_later, or_later, view_said};
+ghost use Rattle.of_config.specs.Built.{IsFlow, IsGroup, Listed as AllListed, added_by_message, config_listed, config_said, earlier, flow_said, listed_messages, listed_by, nothing_listed, fault_place as place_is, message_said};
+ghost use Rattle.of_config.specs.BuiltViews.{IsSoundListed, IsSoundSaid, joined_with_later, or_later, view_said};
 
 use crate::fault::ConfigFault;
-use of_groups::Group;
-use of_messages::{FlowMod, FlowModCommand, GroupMod, Message, NewGroup, read_message};
+use of_build::group_text;
+use of_messages::{FlowMod, FlowModCommand, GroupMod, Message, read_message};
 use of_text::{Config, FillError, FlowHead, FlowText, GroupText};
 use of_wire::limits::OFP_NO_BUFFER;
 use of_wire::{Bytes, Code, ReadError};
@@ -28,25 +29,9 @@ enum Said {
     Bad(Code),
 }
 
-fn group_from(alloc: Global, group: NewGroup) -> Result<GroupText, AllocError>
-    ensures text { IfOk result (λ g. view_group g ≡ new_group_text group) }
-    ensures fits { IfOk result (λ g. AllByRecursion Fits (group_rows (view_group g))) }
-{
-    let NewGroup { id, kind, buckets } = group;
-    let group = Group {
-        id,
-        kind,
-        buckets,
-        packets: 0,
-        bytes: 0,
-        created: 0,
-    };
-    GroupText::of(alloc, &group)
-}
-
 fn flow_from(alloc: Global, flow_mod: &FlowMod) -> Result<FlowText, AllocError>
     ensures text { IfOk result (λ f. view f ≡ flow_said flow_mod.now) }
-    ensures stands { IfOk result (λ f. StandsInText (view f)) }
+    ensures kept { IfOk result (λ f. IsKeptFlow (view f)) }
 {
     let head = FlowHead {
         table: flow_mod.table,
@@ -65,7 +50,7 @@ fn said_of(alloc: Global, message: Message) -> Result<Said, AllocError>
     ensures sound { IfOk result IsSoundSaid }
 {
     match message {
-        Message::GroupMod(GroupMod::Add(group)) => Ok(Said::Group(group_from(alloc, group)?)),
+        Message::GroupMod(GroupMod::Add(group)) => Ok(Said::Group(group_text(alloc, group)?)),
         Message::FlowMod(flow_mod) => {
             if flow_mod.command == FlowModCommand::Add && flow_mod.buffer == OFP_NO_BUFFER {
                 Ok(Said::Flow(flow_from(alloc, &flow_mod)?))
@@ -148,7 +133,7 @@ impl Listed {
 
     // A flow comes.
     fn push_flow(&mut self, place: usize, flow: FlowText) -> Result<(), AllocError>
-        requires stands { StandsInText (view flow) }
+        requires kept { IsKeptFlow (view flow) }
         requires sound { IsSoundListed self.old }
         ensures goes_on { OnOk result ((rest : ℕ → AllListed) →
             joined_with_later self.old (listed_by place self.old.least (IsFlow (view flow)) rest) ≡ joined_with_later self.new (rest self.new.least)) }

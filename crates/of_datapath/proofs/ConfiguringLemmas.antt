@@ -9,8 +9,6 @@ use Rattle.std.proofs.lemmas.Nat.{and_le_r}
 use Rattle.std.proofs.lemmas.List.{append-nil, length-map, length-append, map-append}
 use Rattle.std.proofs.Math.ListN.{get_or-map}
 use Rattle.std.specs.Global.{Vec}
-use Rattle.of_actions.specs.declared.instruction.Instruction.{Instruction}
-use Rattle.of_actions.specs.declared.instruction.Instruction.TheVariants as instructions
 use Rattle.of_actions.specs.InstructionLists.{are_kept, are_for}
 use Rattle.of_actions.specs.Rising.{is_ascending}
 use Rattle.of_oxm.specs.SameMatch.{is_same_match}
@@ -36,7 +34,7 @@ use Rattle.of_text.specs.Flows.{Flow as TextFlow}
 use Rattle.of_text.specs.Groups.{TextBucket, TextGroup, bucket_of, bucket_text, group_at, groups_at, group_text, rows_of_groups}
 use Rattle.of_text.specs.Refusals.{names_absent, has_same_match as is_same_text}
 use Rattle.of_text.specs.Rows.{Fits}
-use Rattle.of_text.specs.Kept.{AllStandBehind, AreKeptGroups, IsEntry, IsKeptFlow, in_text, step_of, instruction_of}
+use Rattle.of_text.specs.Kept.{AllStandBehind, AreKeptGroups, IsEntry, IsKeptFlow}
 use Rattle.of_text.specs.KeptConfigs.{IsHeaded, AreKeptFlows, AreKeptTables, IsKeptConfig}
 use Rattle.of_text.specs.Configs.{Configuration, IsConfig, view_table, view_tables}
 use Rattle.of_text.specs.declared.flow.FlowText.{FlowText}
@@ -44,14 +42,13 @@ use Rattle.of_text.specs.Views.{view, view_flows}
 use Rattle.of_text.proofs.ConfigLemmas.{AllFor, all_for}
 use Rattle.of_text.proofs.EntryLemmas.{config_stands}
 use Rattle.of_text.proofs.FillLemmas.{sixteen, table_at as text_table_at}
-use Rattle.of_text.proofs.StandLemmas.{flow_again}
 use Rattle.of_datapath.specs.Commands.{flags_of}
 use Rattle.of_datapath.specs.Configuring.{AreKeptEntries, AreKeptFrom}
 use Rattle.of_datapath.specs.Loading.{configuration_of, loaded_entry, loaded_table, loaded_tables, flow_kept, entry_text, table_text, texts_from}
 use Rattle.of_buffers.specs.Buffers.{HeldFrames}
 use Rattle.of_datapath.specs.Numbers.{without_numbers}
 use Rattle.of_datapath.specs.Standing.{names_existing_groups, all_name_existing_groups, is_numbered, GroupsExist}
-use Rattle.of_datapath.proofs.StandingLemmas.{absent_mapped}
+use Rattle.of_datapath.proofs.StandingLemmas.{absent_mapped, same_named}
 
 -- ---- flags
 
@@ -106,7 +103,7 @@ flags_known f = by_flags f.send_removed f.no_packet_counts f.no_byte_counts
 -- ---- what was loaded is returned
 
 flow_told : (now table : ℕ) (f : TextFlow) → f.head.table ≡ table → bit_and f.head.flags 25 ≡ f.head.flags → entry_text table (loaded_entry now f) ≡ f
-flow_told now table f t k = rw (sym t, flags_again f.head.flags k) (flow_again f)
+flow_told now table f t k = rw (sym t, flags_again f.head.flags k) refl
 
 flows_told : (now table : ℕ) (gs : List TextGroup) (before fs : List TextFlow) → AllFor table fs → AllStandBehind gs before fs → map (entry_text table) (map (loaded_entry now) fs) ≡ fs
 flows_told now table gs before [] a h = refl
@@ -242,32 +239,13 @@ groups_kept gs s n f = record { fits = f; numbers = numbers_told gs n; sound = r
 
 -- ---- the entries of a table
 
-instructions_again : (is : List Instruction) → map instruction_of (map step_of is) ≡ is
-instructions_again [] = refl
-instructions_again (instructions.Apply xs ∷ is) = ap (λ (x : List Instruction). instructions.Apply xs ∷ x) (instructions_again is)
-instructions_again (instructions.Clear ∷ is) = ap (λ (x : List Instruction). instructions.Clear ∷ x) (instructions_again is)
-instructions_again (instructions.Write xs ∷ is) = ap (λ (x : List Instruction). instructions.Write xs ∷ x) (instructions_again is)
-instructions_again (instructions.Metadata v m ∷ is) = ap (λ (x : List Instruction). instructions.Metadata v m ∷ x) (instructions_again is)
-instructions_again (instructions.Goto t ∷ is) = ap (λ (x : List Instruction). instructions.Goto t ∷ x) (instructions_again is)
-
-step_named : (gs : List TextGroup) (i : Instruction) → names_absent gs (step_of i) ≡ has_action (sends (is_absent (groups_at 0 gs))) i
-step_named gs (instructions.Apply xs) = refl
-step_named gs instructions.Clear = refl
-step_named gs (instructions.Write xs) = refl
-step_named gs (instructions.Metadata v m) = refl
-step_named gs (instructions.Goto t) = refl
-
-steps_named : (gs : List TextGroup) (is : List Instruction) → list_any (names_absent gs) (map step_of is) ≡ list_any (has_action (sends (is_absent (groups_at 0 gs)))) is
-steps_named gs [] = refl
-steps_named gs (i ∷ is) = rw (step_named gs i, steps_named gs is) refl
-
 not_true : (b : Bool) → not b ≡ true → b ≡ false
 not_true true h = absurd cc
 not_true false h = refl
 
-groups_there : (gs : List Group) (e : FlowEntry) → names_existing_groups gs e ≡ true → list_any (names_absent (map group_text gs)) (map step_of e.flow.instructions) ≡ false
+groups_there : (gs : List Group) (e : FlowEntry) → names_existing_groups gs e ≡ true → list_any (names_absent (map group_text gs)) e.flow.instructions ≡ false
 groups_there gs e h =
-    steps_named (map group_text gs) e.flow.instructions
+    sym (same_named (map group_text gs) e.flow.instructions)
     ∙ (ap (λ (x : List Group). list_any (has_action (sends (is_absent x))) e.flow.instructions) (bares gs)
     ∙ (ap (λ (p : ℕ → Bool). list_any (has_action (sends p)) e.flow.instructions) (absent_bare gs) ∙ not_true _ h))
 
@@ -345,8 +323,7 @@ entries_are table (e ∷ flows) h f c =
     let fits = and_parts (is_entry_fit table e) (list_all (is_entry_fit table) flows) f in
     let checks = and_parts (is_checked e) (list_all is_checked flows) c in
     let leads = and_parts (are_kept e.flow.instructions) (are_for table e.flow.instructions) fits.0 in
-    let again = instructions_again e.flow.instructions in
-    (record { fields = h.0.fields; kept = rw again leads.0; leads_on = rw again leads.1; checked = rw again checks.0 }, entries_are table flows h.1 fits.1 checks.1)
+    (record { fields = h.0.fields; kept = leads.0; leads_on = leads.1; checked = checks.0 }, entries_are table flows h.1 fits.1 checks.1)
 
 table_kept : (gs : List Group) (table : ℕ) (flows : List FlowEntry) → AreSoundEntries table flows → AllByRecursion (λ (e : FlowEntry). IsKeptFlow (flow_kept table e.flow)) flows → list_all (names_existing_groups gs) flows ≡ true → AreKeptFlows (map group_text gs) table (map (entry_text table) flows)
 table_kept gs table flows s k h = record {
@@ -392,7 +369,7 @@ kept_more j (suc k) (t ∷ ts) d l e h = let is : j + suc k ≡ suc j + k = omeg
 -- ---- entry by entry
 
 -- of the entries that are left, the first is put
-pub entry_more : (table : ℕ) (old new : List FlowText) (x : FlowText) (e : Entry) (left rest : List Entry) (all : List TextFlow) → left ≡ e ∷ rest → view x ≡ in_text (flow_kept table e.flow) → new ≡ old ++ x ∷ []
+pub entry_more : (table : ℕ) (old new : List FlowText) (x : FlowText) (e : Entry) (left rest : List Entry) (all : List TextFlow) → left ≡ e ∷ rest → view x ≡ flow_kept table e.flow → new ≡ old ++ x ∷ []
     → view_flows old ++ map (entry_text table) (flows_of left) ≡ all → view_flows new ++ map (entry_text table) (flows_of rest) ≡ all
 entry_more table old new x e left rest all l v n h =
     let behind = map (entry_text table) (flows_of rest) in

@@ -25,10 +25,10 @@ use Rattle.of_table.proofs.Soundness.{all-filter, all-set}
 use Rattle.of_machine.specs.declared.data.Count.{Count}
 use Rattle.of_machine.specs.declared.data.Count.TheVariants.{Lookup, Matched, TxDropped, Group as GroupUse, Bucket}
 use Rattle.of_ports.specs.declared.port.Port.{Port}
-use Rattle.of_text.specs.Flows.{Flow as TextFlow, Step, Apply, Clear, Write, Metadata, Goto}
+use Rattle.of_text.specs.Flows.{Flow as TextFlow}
 use Rattle.of_text.specs.Groups.{TextGroup, groups_at}
 use Rattle.of_text.specs.Refusals.{names_absent}
-use Rattle.of_text.specs.Kept.{AllStandBehind, instruction_of, instructions_of}
+use Rattle.of_text.specs.Kept.{AllStandBehind}
 use Rattle.of_text.specs.Configs.{Configuration, IsConfig}
 use Rattle.of_text.proofs.EntryLemmas.{config_stands}
 use Rattle.of_text.proofs.FillLemmas.{sixteen}
@@ -347,19 +347,20 @@ modify_stands w is reset f ts e h s = tables_stand ts f (subst (Stand f.groups) 
 
 -- ---- what is loaded
 
-steps_named : (gs : List TextGroup) (ss : List Step) → list_any (has_action (sends (is_absent (groups_at 0 gs)))) (map instruction_of ss) ≡ list_any (names_absent gs) ss
-steps_named gs [] = refl
-steps_named gs (Apply xs ∷ ss) = ap (λ (b : Bool). list_any (sends (is_absent (groups_at 0 gs))) xs || b) (steps_named gs ss)
-steps_named gs (Clear ∷ ss) = steps_named gs ss
-steps_named gs (Write xs ∷ ss) = ap (λ (b : Bool). list_any (sends (is_absent (groups_at 0 gs))) xs || b) (steps_named gs ss)
-steps_named gs (Metadata v m ∷ ss) = steps_named gs ss
-steps_named gs (Goto t ∷ ss) = steps_named gs ss
+-- a text and a table say the same of what instructions name
+pub same_named : (gs : List TextGroup) (is : List Instruction) → list_any (has_action (sends (is_absent (groups_at 0 gs)))) is ≡ list_any (names_absent gs) is
+same_named gs [] = refl
+same_named gs (instructions.Apply xs ∷ is) = ap (λ (b : Bool). list_any (sends (is_absent (groups_at 0 gs))) xs || b) (same_named gs is)
+same_named gs (instructions.Clear ∷ is) = same_named gs is
+same_named gs (instructions.Write xs ∷ is) = ap (λ (b : Bool). list_any (sends (is_absent (groups_at 0 gs))) xs || b) (same_named gs is)
+same_named gs (instructions.Metadata v m ∷ is) = same_named gs is
+same_named gs (instructions.Goto t ∷ is) = same_named gs is
 
 flows_loaded : (now : ℕ) (gs : List TextGroup) (before fs : List TextFlow) → AllStandBehind gs before fs → list_all (names_existing_groups (groups_at now gs)) (map (loaded_entry now) fs) ≡ true
 flows_loaded now gs before [] h = refl
 flows_loaded now gs before (f ∷ fs) h =
-    let named : names_absent_group (groups_at now gs) (instructions_of f) ≡ false =
-    ap (λ (p : ℕ → Bool). list_any (has_action (sends p)) (instructions_of f)) (absent_same now 0 gs) ∙ (steps_named gs f.steps ∙ h.0.groups_there) in
+    let named : names_absent_group (groups_at now gs) f.instructions ≡ false =
+    ap (λ (p : ℕ → Bool). list_any (has_action (sends p)) f.instructions) (absent_same now 0 gs) ∙ (same_named gs f.instructions ∙ h.0.groups_there) in
     and_from _ _ (not_false _ named) (flows_loaded now gs (before ++ f ∷ []) fs h.1)
 
 tables_loaded : (now : ℕ) (gs : List TextGroup) (ts : List (List TextFlow)) → ((k : ℕ) → k < length ts → AllStandBehind gs [] (slice_index_or ts k [])) → list_all (all_name_existing_groups (groups_at now gs)) (map (loaded_table now) ts) ≡ true

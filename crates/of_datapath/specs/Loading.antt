@@ -3,7 +3,6 @@ use Rattle.std.specs.Prelude.{ℕ, suc, List, [], ◌∷◌, map, None}
 use Rattle.of_text.specs.Flows.{Flow as TextFlow}
 use Rattle.of_text.specs.Groups.{group_text}
 use Rattle.of_text.specs.Configs.{Configuration}
-use Rattle.of_text.specs.Kept.{KeptFlow, in_text, instructions_of}
 use Rattle.of_table.specs.declared.flow.Flow.{Flow}
 use Rattle.of_table.specs.Table.{FlowEntry, Table, kept_flags, with_flow, flags_number}
 use Rattle.of_table.specs.Tables.{Tables}
@@ -12,7 +11,7 @@ use Rattle.of_datapath.specs.Datapath.{Forwarding}
 
 -- a flow of a text, whose flags are 1, 8 and 16 alone, as a FLOW_MOD would give it
 abbrev pub loaded_flow : TextFlow → Flow
-loaded_flow f = record { fields = f.fields; priority = f.head.priority; cookie = f.head.cookie; idle_timeout = f.head.idle; hard_timeout = f.head.hard; flags = kept_flags (flags_of f.head.flags); instructions = instructions_of f }
+loaded_flow f = record { fields = f.fields; priority = f.head.priority; cookie = f.head.cookie; idle_timeout = f.head.idle; hard_timeout = f.head.hard; flags = kept_flags (flags_of f.head.flags); instructions = f.instructions }
 
 -- LOADING: the flows become entries that are added now, and their counters and those of their tables are 0
 
@@ -27,7 +26,7 @@ loaded_tables now tables = record { tables = map (loaded_table now) tables; late
 
 -- BACK TO A CONFIGURATION: the groups by number, and the entries of each table by age
 
-abbrev pub flow_kept : ℕ → Flow → KeptFlow
+abbrev pub flow_kept : ℕ → Flow → TextFlow
 flow_kept table f = record {
   head = record { table = table; priority = f.priority; cookie = f.cookie; idle = f.idle_timeout; hard = f.hard_timeout; flags = flags_number f.flags };
   fields = f.fields;
@@ -35,7 +34,7 @@ flow_kept table f = record {
 }
 
 abbrev pub entry_text : ℕ → FlowEntry → TextFlow
-entry_text table e = in_text (flow_kept table e.flow)
+entry_text table e = flow_kept table e.flow
 
 abbrev pub table_text : ℕ → Table → List TextFlow
 table_text table t = map (entry_text table) t.flows

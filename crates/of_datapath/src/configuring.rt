@@ -5,7 +5,7 @@ ghost use Rattle.of_table.specs.Entries.{flows_of};
 ghost use Rattle.of_table.specs.Tables.{tables_of};
 ghost use Rattle.of_text.specs.Configs.{view_tables};
 ghost use Rattle.of_text.specs.Groups.{group_text, rows_of_groups};
-ghost use Rattle.of_text.specs.Kept.{IsKeptFlow, in_text};
+ghost use Rattle.of_text.specs.Kept.{IsKeptFlow};
 ghost use Rattle.of_text.specs.Rows.{Fits};
 ghost use Rattle.of_text.specs.Views.{view, view_flows, view_groups};
 ghost use Rattle.of_datapath.specs.Loading.{configuration_of, entry_text, flow_kept, texts_from};
@@ -22,7 +22,7 @@ use of_wire::limits::TABLES;
 use std::alloc::{AllocError, Global};
 
 fn flow_text(alloc: Global, table: u8, flow: &Flow) -> Result<FlowText, AllocError>
-    ensures text { IfOk result (λ text. view text ≡ in_text (flow_kept table flow.now)) }
+    ensures text { IfOk result (λ text. view text ≡ flow_kept table flow.now) }
     ensures kept { IfOk result (λ _. IsKeptFlow (flow_kept table flow.now)) }
 {
     let head = FlowHead {

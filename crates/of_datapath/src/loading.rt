@@ -6,7 +6,7 @@ ghost use Rattle.of_actions.specs.InstructionLists.{are_kept};
 ghost use Rattle.of_table.specs.Table.{empty_table, is_same, kept_flags};
 ghost use Rattle.of_table.specs.Tables.{added_to, no_tables, table_at, tables_of, with_table};
 ghost use Rattle.of_text.specs.Groups.{TextGroup};
-ghost use Rattle.of_text.specs.Kept.{AllStandBehind, IsEntry, instructions_of};
+ghost use Rattle.of_text.specs.Kept.{AllStandBehind, IsEntry};
 ghost use Rattle.of_text.specs.Views.{view, view_flows};
 ghost use Rattle.of_datapath.specs.Commands.{flags_of};
 ghost use Rattle.of_datapath.specs.Loading.{loaded_flow, loaded_table, loaded_tables};
@@ -32,7 +32,7 @@ fn flags_from(flags: u16) -> FlowFlags
 
 fn flow_from(flow: &FlowText) -> Result<Flow, AllocError>
     requires fields { IsMatch (view flow.now).fields }
-    requires kept { IsTrue (are_kept (instructions_of (view flow.now))) }
+    requires kept { IsTrue (are_kept (view flow.now).instructions) }
     ensures { IfOk result (λ f. f ≡ loaded_flow (view flow.now)) }
 {
     Ok(Flow {

@@ -11,17 +11,17 @@ use Rattle.of_actions.specs.InstructionLists.{are_kept}
 use Rattle.of_actions.specs.Supported.{is_supported, are_supported}
 use Rattle.of_lines.specs.declared.row.Row.TheVariants as rows
 use Rattle.of_text.specs.Rows.{Fits}
-use Rattle.of_text.specs.Flows.{step_rows}
-use Rattle.of_text.specs.Kept.{KeptFlow, IsKeptFlow, step_of}
+use Rattle.of_text.specs.Flows.{Flow, instruction_rows}
+use Rattle.of_text.specs.Kept.{IsKeptFlow}
 use Rattle.of_text.proofs.KeptLemmas.{actions_fit, flows_fit}
 use Rattle.of_text.proofs.TextLemmas.{all_front}
 
 -- of a match and of instructions that a table may keep
-pub flow_lines_fit : (fields : List MatchField) (is : List Instruction) → IsMatch fields → IsTrue (are_kept is) → AllByRecursion Fits (map rows.Match fields ++ flat_map step_rows (map step_of is))
+pub flow_lines_fit : (fields : List MatchField) (is : List Instruction) → IsMatch fields → IsTrue (are_kept is) → AllByRecursion Fits (map rows.Match fields ++ flat_map instruction_rows is)
 flow_lines_fit fields is m k =
-    let f : KeptFlow = record { head = record { table = 0; priority = 0; cookie = 0; idle = 0; hard = 0; flags = 0 }; fields = fields; instructions = is } in
+    let f : Flow = record { head = record { table = 0; priority = 0; cookie = 0; idle = 0; hard = 0; flags = 0 }; fields = fields; instructions = is } in
     let kept : IsKeptFlow f = record { head = (omega arith, omega arith, omega arith, omega arith, omega arith, omega arith); fields = m; instructions = k } in
-    all_front Fits (map rows.Match fields ++ flat_map step_rows (map step_of is)) [] (flows_fit (f ∷ []) (kept, tt)).1
+    all_front Fits (map rows.Match fields ++ flat_map instruction_rows is) [] (flows_fit (f ∷ []) (kept, tt)).1
 
 -- of a match
 pub match_lines_fit : (fields : List MatchField) → IsMatch fields → AllByRecursion Fits (map rows.Match fields)

@@ -7,7 +7,6 @@ use Rattle.of_messages.specs.declared.message.Message.TheVariants.{PacketOut, Fl
 use Rattle.of_messages.specs.declared.message.FlowMod.{FlowMod as AFlowMod}
 use Rattle.of_messages.specs.declared.group_mod.GroupMod.{GroupMod as AGroupMod}
 use Rattle.of_messages.specs.declared.group_mod.GroupMod.TheVariants.{Add, Modify, Delete}
-use Rattle.of_messages.specs.declared.group_mod.NewGroup.{NewGroup}
 use Rattle.of_messages.specs.declared.multipart.MultipartRequest.{MultipartRequest}
 use Rattle.of_messages.specs.declared.multipart.MultipartRequest.TheVariants.{Flow, Aggregate}
 use Rattle.of_messages.specs.Messages.{message_of}
@@ -15,25 +14,22 @@ use Rattle.of_session.specs.Stream.{First, Whole, Bad, Partial, beginning_of}
 use Rattle.of_lines.specs.declared.row.Row.{Row}
 use Rattle.of_lines.specs.declared.row.Row.TheVariants as rows
 use Rattle.of_text.specs.Rows.{row_encoding}
-use Rattle.of_text.specs.Flows.{step_rows}
-use Rattle.of_text.specs.Groups.{TextGroup, bucket_text, group_rows}
-use Rattle.of_text.specs.Kept.{step_of}
+use Rattle.of_text.specs.Flows.{instruction_rows}
+use Rattle.of_text.specs.Groups.{group_rows}
 use Rattle.of_text.specs.Lines.{ended, note}
+use Rattle.of_build.specs.Listing.{new_group_text}
 use Rattle.of_explain.specs.Messages.{message_words}
 
 -- ---- a message as flow text
 
 -- its match, and its instructions in the order of execution
 abbrev pub flow_mod_rows : AFlowMod → List Row
-flow_mod_rows m = map rows.Match m.fields ++ flat_map step_rows (map step_of m.instructions)
-
-abbrev pub group_said : NewGroup → TextGroup
-group_said g = record { head = record { id = g.id; kind = g.kind }; buckets = map bucket_text g.buckets }
+flow_mod_rows m = map rows.Match m.fields ++ flat_map instruction_rows m.instructions
 
 -- the group that it asks for
 abbrev pub group_mod_rows : AGroupMod → List Row
-group_mod_rows (Add g) = group_rows (group_said g)
-group_mod_rows (Modify g) = group_rows (group_said g)
+group_mod_rows (Add g) = group_rows (new_group_text g)
+group_mod_rows (Modify g) = group_rows (new_group_text g)
 group_mod_rows (Delete which) = []
 
 -- the match of the entries that are asked for

@@ -3,26 +3,26 @@ ghost use Rattle.std.specs.Prelude.{◌≡◌, ◌++◌, IfOk, OnOk, map};
 ghost use Rattle.std.specs.List.{AllByRecursion, flat_map};
 ghost use Rattle.of_messages.specs.Messages.{message_of};
 ghost use Rattle.of_oxm.specs.MatchReading.{match_of};
-ghost use Rattle.of_text.specs.Flows.{step_rows};
+ghost use Rattle.of_text.specs.Flows.{instruction_rows};
 ghost use Rattle.of_text.specs.Groups.{bucket_rows, group_rows};
-ghost use Rattle.of_text.specs.Kept.{step_of};
 ghost use Rattle.of_text.specs.Rows.{Fits};
-ghost use Rattle.of_text.specs.Views.{view_bucket, view_group};
+ghost use Rattle.of_text.specs.Views.{view_bucket};
+ghost use Rattle.of_build.specs.Listing.{new_group_text};
 ghost use Rattle.of_explain.specs.Replies.{match_rows};
-ghost use Rattle.of_explain.specs.Requests.{asked_rows, flow_mod_rows, group_mod_rows, group_said, message_rows, rows_said};
+ghost use Rattle.of_explain.specs.Requests.{asked_rows, flow_mod_rows, group_mod_rows, message_rows, rows_said};
 
 use of_actions::Instruction;
-use of_groups::Group;
+use of_build::group_text;
 use of_messages::{
     FlowMod, GroupMod, Message, MultipartRequest, NewGroup, PacketOut, read_message,
 };
 use of_oxm::{Match, read_match};
-use of_text::{BucketText, GroupText, Row, push_actions, push_fields};
+use of_text::{BucketText, Row, push_actions, push_fields};
 use of_wire::ReadError;
 use std::alloc::{AllocError, Global};
 
 fn push_instruction(rows: &mut Vec<Row>, instruction: &Instruction) -> Result<(), AllocError>
-    ensures { OnOk result (rows.new.items ≡ rows.old.items ++ step_rows (step_of instruction.now)) }
+    ensures { OnOk result (rows.new.items ≡ rows.old.items ++ instruction_rows instruction.now) }
 {
     match instruction {
         Instruction::Apply(actions) => {
@@ -44,7 +44,7 @@ fn push_instruction(rows: &mut Vec<Row>, instruction: &Instruction) -> Result<()
 }
 
 fn push_instructions(rows: &mut Vec<Row>, instructions: &[Instruction]) -> Result<(), AllocError>
-    ensures { OnOk result (rows.new.items ≡ rows.old.items ++ flat_map step_rows (map step_of instructions.now)) }
+    ensures { OnOk result (rows.new.items ≡ rows.old.items ++ flat_map instruction_rows instructions.now) }
 {
     for instruction in instructions {
         push_instruction(rows, instruction)?;
@@ -74,25 +74,9 @@ fn push_buckets(rows: &mut Vec<Row>, buckets: &[BucketText]) -> Result<(), Alloc
     Ok(())
 }
 
-// A group as text has it.
-fn group_text(alloc: Global, group: NewGroup) -> Result<GroupText, AllocError>
-    ensures text { IfOk result (λ text. view_group text ≡ group_said group) }
-    ensures fits { IfOk result (λ text. AllByRecursion Fits (group_rows (view_group text))) }
-{
-    let group = Group {
-        id: group.id,
-        kind: group.kind,
-        buckets: group.buckets,
-        packets: 0,
-        bytes: 0,
-        created: 0,
-    };
-    GroupText::of(alloc, &group)
-}
-
 // The lines of a group.
 fn group_lines(alloc: Global, group: NewGroup) -> Result<Vec<Row>, AllocError>
-    ensures text { IfOk result (λ rows. rows.items ≡ group_rows (group_said group)) }
+    ensures text { IfOk result (λ rows. rows.items ≡ group_rows (new_group_text group)) }
     ensures fits { IfOk result (λ rows. AllByRecursion Fits rows.items) }
 {
     let text = group_text(alloc, group)?;

@@ -8,11 +8,13 @@ use Rattle.of_wire.specs.Refusals.{first_of}
 use Rattle.of_oxm.specs.declared.match_field.MatchField.{MatchField}
 use Rattle.of_actions.specs.declared.action.Action.{Action}
 use Rattle.of_actions.specs.declared.action.Action.TheVariants as actions
+use Rattle.of_actions.specs.declared.instruction.Instruction.{Instruction}
+use Rattle.of_actions.specs.declared.instruction.Instruction.TheVariants.{Apply, Clear, Write, Metadata, Goto}
 use Rattle.of_groups.specs.declared.group.Group.{Group}
 use Rattle.of_text.specs.First.{first_refusal, flows_for, refusals_behind, refused_from, refused_group}
-use Rattle.of_text.specs.Flows.{Flow, Step, Apply, Clear, Write, Metadata, Goto}
+use Rattle.of_text.specs.Flows.{Flow}
 use Rattle.of_text.specs.Groups.{TextBucket, TextGroup}
-use Rattle.of_text.specs.Refusals.{text_action_refusals, all_there, buckets_refusals, text_field_refusals, flow_refusals, goto_refusals, group_refusals, list_refusals, match_refusals, naming_refusals, step_refusals, steps_refusals, table_refusals}
+use Rattle.of_text.specs.Refusals.{text_action_refusals, all_there, buckets_refusals, text_field_refusals, flow_refusals, goto_refusals, group_refusals, list_refusals, match_refusals, naming_refusals, instruction_refusals, instructions_refusals, table_refusals}
 use Rattle.of_text.proofs.TextLemmas.{all_both}
 use Rattle.of_hints.specs.Sentences.{sentence_of}
 
@@ -52,15 +54,15 @@ list_said : (xs : List Action) → AreSaid (list_refusals xs)
 unfolding list_refusals
 list_said xs = all_both HasSentence (flat_map text_action_refusals (take 64 xs)) _ (each_said text_action_refusals action_said (take 64 xs)) (refl, tt)
 
-step_said : (s : Step) → AreSaid (step_refusals s)
-unfolding step_refusals
-step_said (Apply xs) = list_said xs
-step_said Clear = tt
-step_said (Write xs) = list_said xs
-step_said (Metadata value mask) = tt
-step_said (Goto table) = tt
+instruction_said : (s : Instruction) → AreSaid (instruction_refusals s)
+unfolding instruction_refusals
+instruction_said (Apply xs) = list_said xs
+instruction_said Clear = tt
+instruction_said (Write xs) = list_said xs
+instruction_said (Metadata value mask) = tt
+instruction_said (Goto table) = tt
 
-goto_said : (table : ℕ) (s : Step) → AreSaid (goto_refusals table s)
+goto_said : (table : ℕ) (s : Instruction) → AreSaid (goto_refusals table s)
 goto_said table (Apply xs) = tt
 goto_said table Clear = tt
 goto_said table (Write xs) = tt
@@ -71,13 +73,13 @@ match_said : (m : List MatchField) → AreSaid (match_refusals m)
 unfolding match_refusals
 match_said m = all_both HasSentence (flat_map text_field_refusals m) _ (each_said text_field_refusals field_said m) (refl, tt)
 
-steps_said : (table : ℕ) (m : List MatchField) (steps : List Step) → AreSaid (steps_refusals table m steps)
-unfolding steps_refusals
-steps_said table m steps = all_both HasSentence (flat_map (goto_refusals table) steps) _ (each_said (goto_refusals table) (goto_said table) steps) (all_both HasSentence (flat_map step_refusals steps) _ (each_said step_refusals step_said steps) (refl, tt))
+instructions_said : (table : ℕ) (m : List MatchField) (instructions : List Instruction) → AreSaid (instructions_refusals table m instructions)
+unfolding instructions_refusals
+instructions_said table m instructions = all_both HasSentence (flat_map (goto_refusals table) instructions) _ (each_said (goto_refusals table) (goto_said table) instructions) (all_both HasSentence (flat_map instruction_refusals instructions) _ (each_said instruction_refusals instruction_said instructions) (refl, tt))
 
 flow_said : (f : Flow) → AreSaid (flow_refusals f)
 unfolding flow_refusals
-flow_said f = (refl, (refl, all_both HasSentence (match_refusals f.fields) (steps_refusals f.head.table f.fields f.steps) (match_said f.fields) (steps_said f.head.table f.fields f.steps)))
+flow_said f = (refl, (refl, all_both HasSentence (match_refusals f.fields) (instructions_refusals f.head.table f.fields f.instructions) (match_said f.fields) (instructions_said f.head.table f.fields f.instructions)))
 
 table_said : (groups : List TextGroup) (before : List Flow) (f : Flow) → AreSaid (table_refusals groups before f)
 unfolding table_refusals

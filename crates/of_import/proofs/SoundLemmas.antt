@@ -13,16 +13,18 @@ use Rattle.of_oxm.specs.declared.match_field.MatchField.{MatchField}
 use Rattle.of_actions.specs.declared.action.Action.{Action}
 use Rattle.of_actions.specs.declared.argument.Argument.{Argument}
 use Rattle.of_actions.specs.declared.argument.Argument.TheVariants.{Nothing, Byte, Tag, Word, Port, Field as FieldValue}
+use Rattle.of_actions.specs.declared.instruction.Instruction.{Instruction}
+use Rattle.of_actions.specs.declared.instruction.Instruction.TheVariants.{Apply, Clear, Write}
 use Rattle.of_actions.specs.Rows.{said}
 use Rattle.of_lines.specs.declared.row.Row.{Row}
 use Rattle.of_lines.specs.declared.row.Row.TheVariants as rows
-use Rattle.of_text.specs.Flows.{Step, Apply, Clear, Write, step_rows}
+use Rattle.of_text.specs.Flows.{instruction_rows}
 use Rattle.of_text.specs.Rows.{Fits, ActionFits, ArgumentFits, HeadFits, IsMask}
 use Rattle.of_text.specs.Order.{flow_next, flow_standing}
 use Rattle.of_ovs_words.specs.Settings.{last_of}
 use Rattle.of_ovs_words.specs.Matches.{fields_of_settings}
 use Rattle.of_import.specs.PartialFlows.{PartialFlow, Refusal}
-use Rattle.of_import.specs.Finished.{when, metadata_step, goto_step, steps_of, field_fits, action_fits, argument_fits, numbers_fit, finished_flow, refusal_of}
+use Rattle.of_import.specs.Finished.{when, metadata_instruction, goto_instruction, instructions_of, field_fits, action_fits, argument_fits, numbers_fit, finished_flow, refusal_of}
 use Rattle.of_ovs_words.specs.declared.why.Why.TheVariants as whys
 use Rattle.of_import.specs.PartialGroups.{bucket_fits}
 use Rattle.of_text.specs.Groups.{TextBucket, bucket_rows}
@@ -143,18 +145,18 @@ actions_stand least [] rest h = refl
 actions_stand least (x ∷ xs) rest h = rw h (actions_stand least xs rest h)
 
 -- after one kind of instruction, where it is there
-record Past (least : ℕ) (steps : List Step) (rest : List Row) (most : ℕ) : Type 0 where
+record Past (least : ℕ) (instructions : List Instruction) (rest : List Row) (most : ℕ) : Type 0 where
   pub next : ℕ
   pub small : next ≤ most
-  pub is : flow_standing least (flat_map step_rows steps ++ rest) ≡ flow_standing next rest
+  pub is : flow_standing least (flat_map instruction_rows instructions ++ rest) ≡ flow_standing next rest
 
-one_step : (s : Step) (rest : List Row) → (step_rows s ++ []) ++ rest ≡ step_rows s ++ rest
-one_step s rest = simp append_assoc
+one_instruction : (s : Instruction) (rest : List Row) → (instruction_rows s ++ []) ++ rest ≡ instruction_rows s ++ rest
+one_instruction s rest = simp append_assoc
 
 apply_past : (b : Bool) (least : ℕ) (xs : List Action) (rest : List Row) → least ≤ 40 → Past least (when b (Apply xs)) rest 41
 unfolding flow_next
 apply_past false least xs rest h = record { next = least; small = omega (arith, h); is = refl }
-apply_past true least xs rest h = record { next = 41; small = omega arith; is = ap (flow_standing least) (one_step (Apply xs) rest) ∙ rw (le-leb least 40 h) (actions_stand 41 xs rest refl) }
+apply_past true least xs rest h = record { next = 41; small = omega arith; is = ap (flow_standing least) (one_instruction (Apply xs) rest) ∙ rw (le-leb least 40 h) (actions_stand 41 xs rest refl) }
 
 clear_past : (b : Bool) (least : ℕ) (rest : List Row) → least ≤ 41 → Past least (when b Clear) rest 42
 unfolding flow_next
@@ -164,43 +166,43 @@ clear_past true least rest h = record { next = 42; small = omega arith; is = rw 
 write_past : (b : Bool) (least : ℕ) (xs : List Action) (rest : List Row) → least ≤ 42 → Past least (when b (Write xs)) rest 43
 unfolding flow_next
 write_past false least xs rest h = record { next = least; small = omega (arith, h); is = refl }
-write_past true least xs rest h = record { next = 43; small = omega arith; is = ap (flow_standing least) (one_step (Write xs) rest) ∙ rw (le-leb least 42 h) (actions_stand 43 xs rest refl) }
+write_past true least xs rest h = record { next = 43; small = omega arith; is = ap (flow_standing least) (one_instruction (Write xs) rest) ∙ rw (le-leb least 42 h) (actions_stand 43 xs rest refl) }
 
-metadata_past : (m : Option (ℕ × ℕ)) (least : ℕ) (rest : List Row) → least ≤ 43 → Past least (metadata_step m) rest 44
+metadata_past : (m : Option (ℕ × ℕ)) (least : ℕ) (rest : List Row) → least ≤ 43 → Past least (metadata_instruction m) rest 44
 unfolding flow_next
 metadata_past None least rest h = record { next = least; small = omega (arith, h); is = refl }
 metadata_past (Some m) least rest h = record { next = 44; small = omega arith; is = rw (le-leb least 43 h) refl }
 
-goto_past : (g : Option ℕ) (least : ℕ) (rest : List Row) → least ≤ 44 → Past least (goto_step g) rest 45
+goto_past : (g : Option ℕ) (least : ℕ) (rest : List Row) → least ≤ 44 → Past least (goto_instruction g) rest 45
 unfolding flow_next
 goto_past None least rest h = record { next = least; small = omega (arith, h); is = refl }
 goto_past (Some table) least rest h = record { next = 45; small = omega arith; is = rw (le-leb least 44 h) refl }
 
 -- two parts one after the other
-past_both : (least : ℕ) (front back : List Step) (rest : List Row) (middle most : ℕ) → Past least front (flat_map step_rows back ++ rest) middle → ((n : ℕ) → n ≤ middle → Past n back rest most) → Past least (front ++ back) rest most
+past_both : (least : ℕ) (front back : List Instruction) (rest : List Row) (middle most : ℕ) → Past least front (flat_map instruction_rows back ++ rest) middle → ((n : ℕ) → n ≤ middle → Past n back rest most) → Past least (front ++ back) rest most
 past_both least front back rest middle most a b =
     let after = b a.next a.small in
     record { next = after.next; small = after.small; is = ap (flow_standing least) (joined front back rest) ∙ (a.is ∙ after.is) }
   where
-    joined : (front back : List Step) (rest : List Row) → flat_map step_rows (front ++ back) ++ rest ≡ flat_map step_rows front ++ (flat_map step_rows back ++ rest)
+    joined : (front back : List Instruction) (rest : List Row) → flat_map instruction_rows (front ++ back) ++ rest ≡ flat_map instruction_rows front ++ (flat_map instruction_rows back ++ rest)
     joined [] back rest = refl
-    joined (s ∷ front) back rest = simp append_assoc (ap (λ xs. step_rows s ++ xs) (joined front back rest))
+    joined (s ∷ front) back rest = simp append_assoc (ap (λ xs. instruction_rows s ++ xs) (joined front back rest))
 
-steps_past : (s : PartialFlow) (least : ℕ) (rest : List Row) → least ≤ 40 → Past least (steps_of s) rest 45
-steps_past s least rest h =
+instructions_past : (s : PartialFlow) (least : ℕ) (rest : List Row) → least ≤ 40 → Past least (instructions_of s) rest 45
+instructions_past s least rest h =
     let a = when (not (eqb (length s.apply) 0)) (Apply s.apply) in
     let c = when s.clears Clear in
     let w = when s.writes (Write s.write) in
-    let m = metadata_step s.metadata in
-    let g = goto_step s.goto in
+    let m = metadata_instruction s.metadata in
+    let g = goto_instruction s.goto in
     past_both least (((a ++ c) ++ w) ++ m) g rest 44 45
-    (past_both least ((a ++ c) ++ w) m (flat_map step_rows g ++ rest) 43 44
-    (past_both least (a ++ c) w (flat_map step_rows m ++ (flat_map step_rows g ++ rest)) 42 43
-    (past_both least a c (flat_map step_rows w ++ (flat_map step_rows m ++ (flat_map step_rows g ++ rest))) 41 42
-    (apply_past (not (eqb (length s.apply) 0)) least s.apply (flat_map step_rows c ++ (flat_map step_rows w ++ (flat_map step_rows m ++ (flat_map step_rows g ++ rest)))) h)
-    (λ n l. clear_past s.clears n (flat_map step_rows w ++ (flat_map step_rows m ++ (flat_map step_rows g ++ rest))) l))
-    (λ n l. write_past s.writes n s.write (flat_map step_rows m ++ (flat_map step_rows g ++ rest)) l))
-    (λ n l. metadata_past s.metadata n (flat_map step_rows g ++ rest) l))
+    (past_both least ((a ++ c) ++ w) m (flat_map instruction_rows g ++ rest) 43 44
+    (past_both least (a ++ c) w (flat_map instruction_rows m ++ (flat_map instruction_rows g ++ rest)) 42 43
+    (past_both least a c (flat_map instruction_rows w ++ (flat_map instruction_rows m ++ (flat_map instruction_rows g ++ rest))) 41 42
+    (apply_past (not (eqb (length s.apply) 0)) least s.apply (flat_map instruction_rows c ++ (flat_map instruction_rows w ++ (flat_map instruction_rows m ++ (flat_map instruction_rows g ++ rest)))) h)
+    (λ n l. clear_past s.clears n (flat_map instruction_rows w ++ (flat_map instruction_rows m ++ (flat_map instruction_rows g ++ rest))) l))
+    (λ n l. write_past s.writes n s.write (flat_map instruction_rows m ++ (flat_map instruction_rows g ++ rest)) l))
+    (λ n l. metadata_past s.metadata n (flat_map instruction_rows g ++ rest) l))
     (λ n l. goto_past s.goto n rest l)
 
 -- ---- flows
@@ -211,37 +213,37 @@ pub record IsTyped (s : PartialFlow) : Type 0 where
   pub metadata : IfSome s.metadata (λ m. (m.0 < 2 ^ 64) × (m.1 < 2 ^ 64))
   pub goto : IfSome s.goto (λ table. table < 2 ^ 8)
 
-fits_both : (a b : List Step) → AllByRecursion Fits (flat_map step_rows a) → AllByRecursion Fits (flat_map step_rows b) → AllByRecursion Fits (flat_map step_rows (a ++ b))
+fits_both : (a b : List Instruction) → AllByRecursion Fits (flat_map instruction_rows a) → AllByRecursion Fits (flat_map instruction_rows b) → AllByRecursion Fits (flat_map instruction_rows (a ++ b))
 fits_both [] b h k = k
-fits_both (s ∷ a) b h k = all_both Fits (step_rows s) (flat_map step_rows (a ++ b)) (all_front Fits (step_rows s) (flat_map step_rows a) h) (fits_both a b (all_back Fits (step_rows s) (flat_map step_rows a) h) k)
+fits_both (s ∷ a) b h k = all_both Fits (instruction_rows s) (flat_map instruction_rows (a ++ b)) (all_front Fits (instruction_rows s) (flat_map instruction_rows a) h) (fits_both a b (all_back Fits (instruction_rows s) (flat_map instruction_rows a) h) k)
 
 with_end : (xs : List Row) → AllByRecursion Fits xs → AllByRecursion Fits (xs ++ [])
 with_end xs h = all_both Fits xs [] h tt
 
-apply_fits : (b : Bool) (xs : List Action) → list_all action_fits xs ≡ true → AllByRecursion Fits (flat_map step_rows (when b (Apply xs)))
+apply_fits : (b : Bool) (xs : List Action) → list_all action_fits xs ≡ true → AllByRecursion Fits (flat_map instruction_rows (when b (Apply xs)))
 apply_fits false xs h = tt
-apply_fits true xs h = with_end (step_rows (Apply xs)) (tt, actions_sound xs h)
+apply_fits true xs h = with_end (instruction_rows (Apply xs)) (tt, actions_sound xs h)
 
-clear_fits : (b : Bool) → AllByRecursion Fits (flat_map step_rows (when b Clear))
+clear_fits : (b : Bool) → AllByRecursion Fits (flat_map instruction_rows (when b Clear))
 clear_fits false = tt
 clear_fits true = (tt, tt)
 
-write_fits : (b : Bool) (xs : List Action) → list_all action_fits xs ≡ true → AllByRecursion Fits (flat_map step_rows (when b (Write xs)))
+write_fits : (b : Bool) (xs : List Action) → list_all action_fits xs ≡ true → AllByRecursion Fits (flat_map instruction_rows (when b (Write xs)))
 write_fits false xs h = tt
-write_fits true xs h = with_end (step_rows (Write xs)) (tt, actions_sound xs h)
+write_fits true xs h = with_end (instruction_rows (Write xs)) (tt, actions_sound xs h)
 
-metadata_fits : (m : Option (ℕ × ℕ)) → IfSome m (λ m. (m.0 < 2 ^ 64) × (m.1 < 2 ^ 64)) → AllByRecursion Fits (flat_map step_rows (metadata_step m))
+metadata_fits : (m : Option (ℕ × ℕ)) → IfSome m (λ m. (m.0 < 2 ^ 64) × (m.1 < 2 ^ 64)) → AllByRecursion Fits (flat_map instruction_rows (metadata_instruction m))
 metadata_fits None h = tt
 metadata_fits (Some m) h = (h, tt)
 
-goto_fits : (g : Option ℕ) → IfSome g (λ table. table < 2 ^ 8) → AllByRecursion Fits (flat_map step_rows (goto_step g))
+goto_fits : (g : Option ℕ) → IfSome g (λ table. table < 2 ^ 8) → AllByRecursion Fits (flat_map instruction_rows (goto_instruction g))
 goto_fits None h = tt
 goto_fits (Some table) h = (h, tt)
 
-steps_fit : (s : PartialFlow) → IsTyped s → list_all action_fits s.apply ≡ true → list_all action_fits s.write ≡ true → AllByRecursion Fits (flat_map step_rows (steps_of s))
-steps_fit s t a w =
-    fits_both (((when (not (eqb (length s.apply) 0)) (Apply s.apply) ++ when s.clears Clear) ++ when s.writes (Write s.write)) ++ metadata_step s.metadata) (goto_step s.goto)
-    (fits_both ((when (not (eqb (length s.apply) 0)) (Apply s.apply) ++ when s.clears Clear) ++ when s.writes (Write s.write)) (metadata_step s.metadata)
+instructions_fit : (s : PartialFlow) → IsTyped s → list_all action_fits s.apply ≡ true → list_all action_fits s.write ≡ true → AllByRecursion Fits (flat_map instruction_rows (instructions_of s))
+instructions_fit s t a w =
+    fits_both (((when (not (eqb (length s.apply) 0)) (Apply s.apply) ++ when s.clears Clear) ++ when s.writes (Write s.write)) ++ metadata_instruction s.metadata) (goto_instruction s.goto)
+    (fits_both ((when (not (eqb (length s.apply) 0)) (Apply s.apply) ++ when s.clears Clear) ++ when s.writes (Write s.write)) (metadata_instruction s.metadata)
     (fits_both (when (not (eqb (length s.apply) 0)) (Apply s.apply) ++ when s.clears Clear) (when s.writes (Write s.write))
     (fits_both (when (not (eqb (length s.apply) 0)) (Apply s.apply)) (when s.clears Clear) (apply_fits (not (eqb (length s.apply) 0)) s.apply a) (clear_fits s.clears))
     (write_fits s.writes s.write w))
@@ -251,16 +253,16 @@ steps_fit s t a w =
 is_some : (o : Option ℕ) (n : ℕ) → o ≡ Some n → IsSome o
 is_some o n e = rw e refl
 
-pub partial_flow_sound : (s : PartialFlow) → IsTyped s → numbers_fit s ≡ true → IsSoundFlow (record { head = s.head; fields = fields_of_settings s.settings; steps = steps_of s })
+pub partial_flow_sound : (s : PartialFlow) → IsTyped s → numbers_fit s ≡ true → IsSoundFlow (record { head = s.head; fields = fields_of_settings s.settings; instructions = instructions_of s })
 partial_flow_sound s t n =
     let both = and_parts (list_all field_fits (fields_of_settings s.settings) && list_all action_fits s.apply) (list_all action_fits s.write) n in
     let first = and_parts (list_all field_fits (fields_of_settings s.settings)) (list_all action_fits s.apply) both.0 in
-    let front = fields_stand s.settings 0 constants.ALL (flat_map step_rows (steps_of s)) (omega arith) all_rise in
+    let front = fields_stand s.settings 0 constants.ALL (flat_map instruction_rows (instructions_of s)) (omega arith) all_rise in
     let low : front.next ≤ 31 = front.small in
-    let back = steps_past s front.next [] (omega (arith, low)) in
+    let back = instructions_past s front.next [] (omega (arith, low)) in
     record {
-      fits = (t.head, all_both Fits (map rows.Match (fields_of_settings s.settings)) (flat_map step_rows (steps_of s)) (fields_sound (fields_of_settings s.settings) first.0) (steps_fit s t first.1 both.1));
-      order = is_some _ back.next (front.is ∙ (ap (flow_standing front.next) (sym (append-nil (flat_map step_rows (steps_of s)))) ∙ back.is));
+      fits = (t.head, all_both Fits (map rows.Match (fields_of_settings s.settings)) (flat_map instruction_rows (instructions_of s)) (fields_sound (fields_of_settings s.settings) first.0) (instructions_fit s t first.1 both.1));
+      order = is_some _ back.next (front.is ∙ (ap (flow_standing front.next) (sym (append-nil (flat_map instruction_rows (instructions_of s)))) ∙ back.is));
     }
 
 some_or_none : {A : Type 0} (x : A) (o : Option A) → o ≡ Some x → o ≡ None → ⊥
@@ -287,8 +289,8 @@ flow_sound s t e = by_actions s.in_actions refl
     by_actions false a = absurd (some_or_none (value_missing s) (refusal_of s) (rw a refl) e)
 
 -- as it is made
-pub flow_made : (s : PartialFlow) (fields : List MatchField) (steps : List Step) → fields ≡ fields_of_settings s.settings → steps ≡ steps_of s → IsSoundFlow (finished_flow s) → IsSoundFlow (record { head = s.head; fields = fields; steps = steps })
-flow_made s fields steps f t h = rw (f, t) h
+pub flow_made : (s : PartialFlow) (fields : List MatchField) (instructions : List Instruction) → fields ≡ fields_of_settings s.settings → instructions ≡ instructions_of s → IsSoundFlow (finished_flow s) → IsSoundFlow (record { head = s.head; fields = fields; instructions = instructions })
+flow_made s fields instructions f t h = rw (f, t) h
 
 -- ---- groups
 

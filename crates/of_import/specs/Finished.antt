@@ -11,8 +11,10 @@ use Rattle.of_oxm.specs.declared.match_field.MatchField.{MatchField}
 use Rattle.of_actions.specs.declared.action.Action.{Action}
 use Rattle.of_actions.specs.declared.argument.Argument.{Argument}
 use Rattle.of_actions.specs.declared.argument.Argument.TheVariants.{Nothing, Byte, Tag, Word, Port, Field as FieldValue}
+use Rattle.of_actions.specs.declared.instruction.Instruction.{Instruction}
+use Rattle.of_actions.specs.declared.instruction.Instruction.TheVariants.{Apply, Clear, Write, Metadata, Goto}
 use Rattle.of_actions.specs.Rows.{said}
-use Rattle.of_text.specs.Flows.{Flow, Step, Apply, Clear, Write, Metadata, Goto}
+use Rattle.of_text.specs.Flows.{Flow}
 use Rattle.of_ovs_words.specs.declared.why.Why.{Why}
 use Rattle.of_ovs_words.specs.declared.why.Why.TheVariants as whys
 use Rattle.of_ovs_words.specs.Matches.{fields_of_settings}
@@ -22,17 +24,17 @@ use Rattle.of_import.specs.PartialFlows.{PartialFlow, Refusal}
 abbrev pub when : {A : Type 0} → Bool → A → List A
 when wanted a = if wanted then a ∷ [] else []
 
-abbrev pub metadata_step : Option (ℕ × ℕ) → List Step
-metadata_step None = []
-metadata_step (Some m) = Metadata m.0 m.1 ∷ []
+abbrev pub metadata_instruction : Option (ℕ × ℕ) → List Instruction
+metadata_instruction None = []
+metadata_instruction (Some m) = Metadata m.0 m.1 ∷ []
 
-abbrev pub goto_step : Option ℕ → List Step
-goto_step None = []
-goto_step (Some table) = Goto table ∷ []
+abbrev pub goto_instruction : Option ℕ → List Instruction
+goto_instruction None = []
+goto_instruction (Some table) = Goto table ∷ []
 
 -- in execution order (OpenFlow 1.3.5, 5.9)
-abbrev pub steps_of : PartialFlow → List Step
-steps_of s = when (not (length s.apply == 0)) (Apply s.apply) ++ when s.clears Clear ++ when s.writes (Write s.write) ++ metadata_step s.metadata ++ goto_step s.goto
+abbrev pub instructions_of : PartialFlow → List Instruction
+instructions_of s = when (not (length s.apply == 0)) (Apply s.apply) ++ when s.clears Clear ++ when s.writes (Write s.write) ++ metadata_instruction s.metadata ++ goto_instruction s.goto
 
 -- ---- each number fits its place
 
@@ -83,7 +85,7 @@ refusal_of s =
 
 -- THE FLOW of its words
 abbrev pub finished_flow : PartialFlow → Flow
-finished_flow s = record { head = s.head; fields = fields_of_settings s.settings; steps = steps_of s }
+finished_flow s = record { head = s.head; fields = fields_of_settings s.settings; instructions = instructions_of s }
 
 -- ---- tables
 

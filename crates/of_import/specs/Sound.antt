@@ -2,7 +2,7 @@
 use Rattle.std.specs.Prelude.{◌++◌, map, IsSome}
 use Rattle.std.specs.List.{AllByRecursion, flat_map}
 use Rattle.of_lines.specs.declared.row.Row.TheVariants as rows
-use Rattle.of_text.specs.Flows.{Flow, flow_rows, step_rows}
+use Rattle.of_text.specs.Flows.{Flow, flow_rows, instruction_rows}
 use Rattle.of_text.specs.Groups.{group_rows}
 use Rattle.of_text.specs.Order.{flow_standing}
 use Rattle.of_text.specs.Rows.{Fits}
@@ -12,7 +12,7 @@ use Rattle.of_text.specs.Views.{view, view_group}
 
 pub record IsSoundFlow (f : Flow) : Type 0 where
   pub fits : AllByRecursion Fits (flow_rows f)
-  pub order : IsSome (flow_standing 0 (map rows.Match f.fields ++ flat_map step_rows f.steps))
+  pub order : IsSome (flow_standing 0 (map rows.Match f.fields ++ flat_map instruction_rows f.instructions))
 
 -- the same of what a line says
 abbrev pub IsSoundContent : Declared → Type 0

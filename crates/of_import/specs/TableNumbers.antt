@@ -1,15 +1,11 @@
 -- NEW NUMBERS OF TABLES: those that occur, as the table of a flow or of GOTO_TABLE, get the numbers from 0 on, in their order.
-use Rattle.std.specs.Prelude.{ℕ, suc, zero, ◌+◌, ◌==◌, ◌&&◌, ◌||◌, not, min, Bool, false, List, [], ◌∷◌, ◌++◌, if◌then◌else◌}
+use Rattle.std.specs.Prelude.{ℕ, suc, zero, ◌+◌, ◌==◌, ◌&&◌, ◌||◌, not, min, Bool, List, [], ◌∷◌, ◌++◌, if◌then◌else◌}
 use Rattle.std.specs.List.{list_any}
-use Rattle.of_text.specs.Flows.{Flow as TextFlow, Step, Goto}
+use Rattle.of_text.specs.Flows.{Flow as TextFlow, goes_to}
 use Rattle.of_import.specs.ParsedLines.{FlowAt}
 
-abbrev pub is_goto_to : ℕ → Step → Bool
-is_goto_to table (Goto to) = to == table
-is_goto_to table other = false
-
 abbrev pub concerns_table : ℕ → TextFlow → Bool
-concerns_table table f = f.head.table == table || list_any (is_goto_to table) f.steps
+concerns_table table f = f.head.table == table || list_any (goes_to table) f.instructions
 
 abbrev pub occurs : List FlowAt → ℕ → Bool
 occurs fs table = list_any (λ f. concerns_table table f.flow) fs

@@ -1,10 +1,10 @@
 //! Copies of groups and flows.
 ghost use Rattle.std.specs.Prelude.{◌≡◌, map, IfOk};
-ghost use Rattle.of_text.specs.Views.{view, view_bucket, view_group, view_step};
+ghost use Rattle.of_text.specs.Views.{view, view_bucket, view_group, view_instruction};
 
 use of_actions::Action;
 use of_oxm::MatchField;
-use of_text::{BucketText, FlowText, GroupText, StepText};
+use of_text::{BucketText, FlowText, GroupText, InstructionText};
 use std::alloc::{AllocError, Global};
 
 fn copy_actions(alloc: Global, actions: &[Action]) -> Result<Vec<Action>, AllocError>
@@ -23,27 +23,37 @@ fn copy_fields(alloc: Global, fields: &[MatchField]) -> Result<Vec<MatchField>, 
     Ok(copy)
 }
 
-fn copy_step(alloc: Global, step: &StepText) -> Result<StepText, AllocError>
-    ensures { IfOk result (λ copy. view_step copy ≡ view_step step.now) }
+fn copy_instruction(
+    alloc: Global,
+    instruction: &InstructionText,
+) -> Result<InstructionText, AllocError>
+    ensures { IfOk result (λ copy. view_instruction copy ≡ view_instruction instruction.now) }
 {
-    match step {
-        StepText::Apply(actions) => Ok(StepText::Apply(copy_actions(alloc, actions)?)),
-        StepText::Clear => Ok(StepText::Clear),
-        StepText::Write(actions) => Ok(StepText::Write(copy_actions(alloc, actions)?)),
-        StepText::Metadata { value, mask } => Ok(StepText::Metadata {
+    match instruction {
+        InstructionText::Apply(actions) => Ok(InstructionText::Apply(copy_actions(
+            alloc, actions,
+        )?)),
+        InstructionText::Clear => Ok(InstructionText::Clear),
+        InstructionText::Write(actions) => Ok(InstructionText::Write(copy_actions(
+            alloc, actions,
+        )?)),
+        InstructionText::Metadata { value, mask } => Ok(InstructionText::Metadata {
             value: *value,
             mask: *mask,
         }),
-        StepText::Goto(table) => Ok(StepText::Goto(*table)),
+        InstructionText::Goto(table) => Ok(InstructionText::Goto(*table)),
     }
 }
 
-fn copy_steps(alloc: Global, steps: &[StepText]) -> Result<Vec<StepText>, AllocError>
-    ensures { IfOk result (λ copies. map view_step copies.items ≡ map view_step steps.now) }
+fn copy_instructions(
+    alloc: Global,
+    instructions: &[InstructionText],
+) -> Result<Vec<InstructionText>, AllocError>
+    ensures { IfOk result (λ copies. map view_instruction copies.items ≡ map view_instruction instructions.now) }
 {
     let mut copies = Vec::new(alloc);
-    for step in steps {
-        copies.push(copy_step(alloc, step)?)?;
+    for instruction in instructions {
+        copies.push(copy_instruction(alloc, instruction)?)?;
     }
     Ok(copies)
 }
@@ -55,7 +65,7 @@ pub fn copy_flow(alloc: Global, flow: &FlowText) -> Result<FlowText, AllocError>
     Ok(FlowText {
         head: flow.head,
         fields: copy_fields(alloc, &flow.fields)?,
-        steps: copy_steps(alloc, &flow.steps)?,
+        instructions: copy_instructions(alloc, &flow.instructions)?,
     })
 }
 

@@ -2,12 +2,12 @@
 ghost use Rattle.std.specs.Prelude.{◌≡◌, ◌++◌, ◌&&◌, None, IfOk, OnOk, map, IfSome, [], ◌<◌, ◌^◌};
 ghost use Rattle.std.specs.List.{list_all};
 ghost use Rattle.std.specs.Option.{option_map};
-ghost use Rattle.of_import.specs.Finished.{action_fits as action_fits_so, field_fits as field_fits_so, first_unmet as first_unmet_of, finished_flow, goto_step, metadata_step, refusal_of as refusal_in, steps_of, when, why_missing as why_missing_so};
+ghost use Rattle.of_import.specs.Finished.{action_fits as action_fits_so, field_fits as field_fits_so, first_unmet as first_unmet_of, finished_flow, goto_instruction, metadata_instruction, refusal_of as refusal_in, instructions_of, when, why_missing as why_missing_so};
 ghost use Rattle.of_ovs_words.specs.Matches.{fields_of_settings as fields_in};
 ghost use Rattle.of_import.specs.PartialFlowViews.{view_partial_flow, view_word_fault};
 ghost use Rattle.of_text.specs.Rows.{HeadFits};
 ghost use Rattle.of_import.specs.Sound.{IsSoundFlow};
-ghost use Rattle.of_text.specs.Views.{view, view_step};
+ghost use Rattle.of_text.specs.Views.{view, view_instruction};
 
 use crate::partial_flow::PartialFlow;
 use crate::word_fault::WordFault;
@@ -15,32 +15,40 @@ use of_actions::{Action, Argument};
 use of_layers::Prerequisite;
 use of_ovs_words::{Why, text_for};
 use of_oxm::{MatchField, is_met};
-use of_text::{FlowHead, FlowText, StepText};
+use of_text::{FlowHead, FlowText, InstructionText};
 use std::alloc::{AllocError, Global};
 
-fn push_when(steps: &mut Vec<StepText>, wanted: bool, step: StepText) -> Result<(), AllocError>
-    ensures { OnOk result (map view_step steps.new.items ≡ map view_step steps.old.items ++ when wanted (view_step step)) }
+fn push_when(
+    instructions: &mut Vec<InstructionText>,
+    wanted: bool,
+    instruction: InstructionText,
+) -> Result<(), AllocError>
+    ensures { OnOk result (map view_instruction instructions.new.items ≡
+        map view_instruction instructions.old.items ++ when wanted (view_instruction instruction)) }
 {
     if wanted {
-        steps.push(step)?;
+        instructions.push(instruction)?;
     }
     Ok(())
 }
 
-fn push_metadata(steps: &mut Vec<StepText>, metadata: Option<(u64, u64)>) -> Result<(), AllocError>
-    ensures { OnOk result (map view_step steps.new.items ≡ map view_step steps.old.items ++ metadata_step metadata) }
+fn push_metadata(
+    instructions: &mut Vec<InstructionText>,
+    metadata: Option<(u64, u64)>,
+) -> Result<(), AllocError>
+    ensures { OnOk result (map view_instruction instructions.new.items ≡ map view_instruction instructions.old.items ++ metadata_instruction metadata) }
 {
     if let Some((value, mask)) = metadata {
-        steps.push(StepText::Metadata { value, mask })?;
+        instructions.push(InstructionText::Metadata { value, mask })?;
     }
     Ok(())
 }
 
-fn push_goto(steps: &mut Vec<StepText>, goto: Option<u8>) -> Result<(), AllocError>
-    ensures { OnOk result (map view_step steps.new.items ≡ map view_step steps.old.items ++ goto_step goto) }
+fn push_goto(instructions: &mut Vec<InstructionText>, goto: Option<u8>) -> Result<(), AllocError>
+    ensures { OnOk result (map view_instruction instructions.new.items ≡ map view_instruction instructions.old.items ++ goto_instruction goto) }
 {
     if let Some(table) = goto {
-        steps.push(StepText::Goto(table))?;
+        instructions.push(InstructionText::Goto(table))?;
     }
     Ok(())
 }
@@ -55,37 +63,44 @@ pub fn take_actions(actions: &mut Vec<Action>) -> Vec<Action>
 }
 
 // Appends the instructions, in execution order, and takes their actions out of the flow.
-fn push_steps(steps: &mut Vec<StepText>, partial: &mut PartialFlow) -> Result<(), AllocError>
-    ensures steps { OnOk result (map view_step steps.new.items ≡ map view_step steps.old.items ++ steps_of (view_partial_flow partial.old)) }
+fn push_instructions(
+    instructions: &mut Vec<InstructionText>,
+    partial: &mut PartialFlow,
+) -> Result<(), AllocError>
+    ensures instructions { OnOk result (map view_instruction instructions.new.items ≡
+        map view_instruction instructions.old.items ++ instructions_of (view_partial_flow partial.old)) }
     ensures left { partial.new.left ≡ partial.old.left }
     ensures resubmits { partial.new.resubmits ≡ partial.old.resubmits }
     ensures counters { partial.new.counters ≡ partial.old.counters }
 {
     let applies = !partial.apply.is_empty();
     push_when(
-        steps,
+        instructions,
         applies,
-        StepText::Apply(take_actions(&mut partial.apply)),
+        InstructionText::Apply(take_actions(&mut partial.apply)),
     )?;
-    push_when(steps, partial.clears, StepText::Clear)?;
+    push_when(instructions, partial.clears, InstructionText::Clear)?;
     push_when(
-        steps,
+        instructions,
         partial.writes,
-        StepText::Write(take_actions(&mut partial.write)),
+        InstructionText::Write(take_actions(&mut partial.write)),
     )?;
-    push_metadata(steps, partial.metadata)?;
-    push_goto(steps, partial.goto)
+    push_metadata(instructions, partial.metadata)?;
+    push_goto(instructions, partial.goto)
 }
 
-fn steps_from(alloc: Global, partial: &mut PartialFlow) -> Result<Vec<StepText>, AllocError>
-    ensures steps { IfOk result (λ steps. map view_step steps.items ≡ steps_of (view_partial_flow partial.old)) }
+fn instructions_from(
+    alloc: Global,
+    partial: &mut PartialFlow,
+) -> Result<Vec<InstructionText>, AllocError>
+    ensures instructions { IfOk result (λ instructions. map view_instruction instructions.items ≡ instructions_of (view_partial_flow partial.old)) }
     ensures left { partial.new.left ≡ partial.old.left }
     ensures resubmits { partial.new.resubmits ≡ partial.old.resubmits }
     ensures counters { partial.new.counters ≡ partial.old.counters }
 {
-    let mut steps = Vec::new(alloc);
-    push_steps(&mut steps, partial)?;
-    Ok(steps)
+    let mut instructions = Vec::new(alloc);
+    push_instructions(&mut instructions, partial)?;
+    Ok(instructions)
 }
 
 fn field_fits(e: MatchField) -> bool
@@ -229,6 +244,6 @@ pub fn flow_from(
     Ok(FlowText {
         head: partial.head,
         fields,
-        steps: steps_from(alloc, partial)?,
+        instructions: instructions_from(alloc, partial)?,
     })
 }

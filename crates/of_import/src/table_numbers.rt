@@ -1,40 +1,34 @@
 //! New numbers of tables.
 ghost use Rattle.std.specs.Prelude.{◌≡◌, ◌++◌, ◌∷◌, [], map, IfOk, OnOk};
 ghost use Rattle.std.specs.List.{list_any};
-ghost use Rattle.of_text.specs.Views.{view, view_step};
+ghost use Rattle.of_text.specs.Flows.{goes_to};
+ghost use Rattle.of_text.specs.Views.{view, view_instruction};
 ghost use Rattle.of_import.specs.ParsedLinesViews.{view_flow_line};
-ghost use Rattle.of_import.specs.TableNumbers.{following_number, is_goto_to as goes_to_table, move_of, concerns_table as names_table, table_numbers_of, occurs as occurs_in, same_numbers};
+ghost use Rattle.of_import.specs.TableNumbers.{following_number, move_of, concerns_table as names_table, table_numbers_of, occurs as occurs_in, same_numbers};
 ghost use Rattle.of_import.specs.TableNumbersViews.{view_numbers};
 
 use crate::parsed_lines::FlowLine;
-use of_text::{FlowText, StepText};
+use of_text::{FlowText, InstructionText};
 use std::alloc::{AllocError, Global};
-
-fn goes_to(table: u8, step: &StepText) -> bool
-    ensures { result ≡ goes_to_table table (view_step step.now) }
-{
-    match step {
-        StepText::Goto(to) => *to == table,
-        _ => false,
-    }
-}
 
 fn names(table: u8, flow: &FlowText) -> bool
     ensures { result ≡ names_table table (view flow.now) }
 {
-    flow.head.table == table || some_goes_to(table, &flow.steps)
+    flow.head.table == table || some_goes_to(table, &flow.instructions)
 }
 
-fn some_step(table: u8, steps: &[StepText]) -> bool
-    ensures { result ≡ list_any (λ step. goes_to_table table (view_step step)) steps.now }
+fn some_instruction(table: u8, instructions: &[InstructionText]) -> bool
+    ensures { result ≡ list_any (λ instruction. goes_to table (view_instruction instruction)) instructions.now }
 {
-    steps.iter().any(|step| goes_to(table, step))
+    instructions
+        .iter()
+        .any(|instruction| instruction.goes_to(table))
 }
 
-fn some_goes_to(table: u8, steps: &[StepText]) -> bool
-    ensures { result ≡ list_any (goes_to_table table) (map view_step steps.now) }
+fn some_goes_to(table: u8, instructions: &[InstructionText]) -> bool
+    ensures { result ≡ list_any (goes_to table) (map view_instruction instructions.now) }
 {
-    some_step(table, steps)
+    some_instruction(table, instructions)
 }
 
 fn some_names(flows: &[FlowLine], table: u8) -> bool

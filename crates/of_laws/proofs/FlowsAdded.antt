@@ -14,15 +14,12 @@ use Rattle.of_actions.proofs.InstructionLengths.{instructions_short}
 use Rattle.of_actions.specs.InstructionLists.{are_for}
 use Rattle.of_formats.specs.Structs.{FitsStruct}
 use Rattle.of_formats.specs.Tables as tables
-use Rattle.of_groups.specs.Buckets.{sends}
-use Rattle.of_groups.specs.Faults.{is_absent}
-use Rattle.of_table.specs.Selecting.{has_action}
 use Rattle.of_table.specs.Table.{FlowEntry, Table, added, empty_table, is_full, is_same}
 use Rattle.of_table.specs.Tables.{Tables, added_to, no_tables, table_at, tables_of}
 use Rattle.of_table.proofs.PlaceLemmas.{find_none, filter_others}
-use Rattle.of_text.specs.Flows.{Flow as TextFlow, Step, Apply, Clear, Write, Metadata, Goto}
+use Rattle.of_text.specs.Flows.{Flow as TextFlow}
 use Rattle.of_text.specs.Groups.{TextGroup, groups_at}
-use Rattle.of_text.specs.Kept.{AllStandBehind, IsEntry, instruction_of, instructions_of}
+use Rattle.of_text.specs.Kept.{AllStandBehind, IsEntry}
 use Rattle.of_text.specs.Refusals.{names_absent, has_same_match as is_same_text}
 use Rattle.of_text.specs.Configs.{all_flows}
 use Rattle.of_text.specs.Rows.{HeadFits}
@@ -40,6 +37,7 @@ use Rattle.of_datapath.specs.Loading.{loaded_entry, loaded_table, loaded_tables}
 use Rattle.of_switch.specs.State.{State}
 use Rattle.of_switch.specs.Runs.{Gives, happened}
 use Rattle.of_datapath.proofs.LoadLemmas.{filled, filled_all, filled_more, filled_next, filled_none}
+use Rattle.of_datapath.proofs.StandingLemmas.{same_named}
 use Rattle.of_laws.proofs.ByteLemmas.{flow_mod_are_bytes}
 use Rattle.of_laws.proofs.FlowAgain.{flow_mod_again}
 use Rattle.of_laws.proofs.StreamMessages.{built, one_message}
@@ -95,41 +93,30 @@ flow_read : (xid table : ℕ) (f : TextFlow) → IsSent table f → bit_and f.he
 flow_read xid table f s flags =
     let few = few_flags f.head.flags flags in
     let low : f.head.table < 16 = omega (arith, s.own, s.low) in
-    let fit : are_for f.head.table (instructions_of f) ≡ true = rw (s.own) s.entry.leads_on in
+    let fit : are_for f.head.table f.instructions ≡ true = rw (s.own) s.entry.leads_on in
     let fits : FitsStruct tables.flow_mod (flow_mod_numbers (add_of f)) [] = (s.head.2, (omega arith, (omega arith, (omega arith, (s.head.3, (s.head.4, (s.head.1, (omega arith, (omega arith, (omega arith, (omega (arith, few), tt))))))))))) in
     flow_mod_again xid (add_of f) fits (record { table = low; flags = omega (arith, few); fit = s.entry.checked }) s.entry.fields s.entry.kept fit (λ deleted. absurd cc)
 
-step_named : (gs : List TextGroup) (s : Step) → has_action (sends (is_absent (groups_at 0 gs))) (instruction_of s) ≡ names_absent gs s
-step_named gs (Apply actions) = refl
-step_named gs Clear = refl
-step_named gs (Write actions) = refl
-step_named gs (Metadata value mask) = refl
-step_named gs (Goto to) = refl
-
-steps_named : (gs : List TextGroup) (ss : List Step) → names_absent_group (groups_at 0 gs) (map instruction_of ss) ≡ list_any (names_absent gs) ss
-steps_named gs [] = refl
-steps_named gs (s ∷ ss) = rw (step_named gs s, steps_named gs ss) refl
-
-not_refused : (gs : List TextGroup) (ts : Tables) (f : TextFlow) → f.head.table < 16 → bit_and f.head.flags 25 ≡ f.head.flags → list_any (names_absent gs) f.steps ≡ false → length (table_at f.head.table ts).flows < 4096
+not_refused : (gs : List TextGroup) (ts : Tables) (f : TextFlow) → f.head.table < 16 → bit_and f.head.flags 25 ≡ f.head.flags → list_any (names_absent gs) f.instructions ≡ false → length (table_at f.head.table ts).flows < 4096
     → first_of (flow_mod_refusals (add_of f) ts (groups_at 0 gs) none_held) ≡ None
 not_refused gs ts f low flags there room =
-    let named : names_absent_group (groups_at 0 gs) (instructions_of f) ≡ false = steps_named gs f.steps ∙ there in
+    let named : names_absent_group (groups_at 0 gs) f.instructions ≡ false = same_named gs f.instructions ∙ there in
     let check : has_flag f.head.flags 2 ≡ false = unchecked f.head.flags flags in
     let some : nat_le 4096 (length (table_at f.head.table ts).flows) ≡ false = grind (arith, nat_tests) in
     let full : is_full (flow_of (add_of f)) (table_at f.head.table ts).flows ≡ false = and_right (not (list_any (is_same (flow_of (add_of f))) (table_at f.head.table ts).flows)) _ some in
     rw (named, check, full) refl
 
-message_size : (xid : ℕ) (f : TextFlow) (table : ℕ) → IsSent table f → length (flow_mod_fixed_part (add_of f) ++ (canonical f.fields ++ canonical_instructions (instructions_of f))) ≤ 4296
+message_size : (xid : ℕ) (f : TextFlow) (table : ℕ) → IsSent table f → length (flow_mod_fixed_part (add_of f) ++ (canonical f.fields ++ canonical_instructions f.instructions)) ≤ 4296
 message_size xid f table s =
-    omega (arith, length_flow_mod (add_of f), length-append (flow_mod_fixed_part (add_of f)) (canonical f.fields ++ canonical_instructions (instructions_of f)), length-append (canonical f.fields) (canonical_instructions (instructions_of f)), canonical_short f.fields s.entry.fields.rising, instructions_short (instructions_of f) s.entry.kept)
+    omega (arith, length_flow_mod (add_of f), length-append (flow_mod_fixed_part (add_of f)) (canonical f.fields ++ canonical_instructions f.instructions), length-append (canonical f.fields) (canonical_instructions f.instructions), canonical_short f.fields s.entry.fields.rising, instructions_short f.instructions s.entry.kept)
 
 -- its FLOW_MOD is handled
-handled_flow : (dpid xid table : ℕ) (gs : List TextGroup) (ts : Tables) (f : TextFlow) → IsSent table f → bit_and f.head.flags 25 ≡ f.head.flags → list_any (names_absent gs) f.steps ≡ false → length (table_at f.head.table ts).flows < 4096
+handled_flow : (dpid xid table : ℕ) (gs : List TextGroup) (ts : Tables) (f : TextFlow) → IsSent table f → bit_and f.head.flags 25 ≡ f.head.flags → list_any (names_absent gs) f.instructions ≡ false → length (table_at f.head.table ts).flows < 4096
     → happened (Chunk (flow_mod_bytes xid (add_of f))) (ready (built dpid (groups_at 0 gs) ts)) ≡ record { report = Gives []; state = ready (built dpid (groups_at 0 gs) (added_to f.head.table (flow_of (add_of f)) ts)) }
 handled_flow dpid xid table gs ts f s flags there room =
     let few = message_size xid f table s in
     handles (flow_mod_bytes xid (add_of f)) (built dpid (groups_at 0 gs) ts) (built dpid (groups_at 0 gs) (added_to f.head.table (flow_of (add_of f)) ts)) (IsFlowMod (add_of f))
-    (one_message 14 xid (flow_mod_fixed_part (add_of f) ++ (canonical f.fields ++ canonical_instructions (instructions_of f))) (omega (arith, few)))
+    (one_message 14 xid (flow_mod_fixed_part (add_of f) ++ (canonical f.fields ++ canonical_instructions f.instructions)) (omega (arith, few)))
     refl
     (flow_read xid table f s flags)
     (not_refused gs ts f (omega (arith, s.own, s.low)) flags there room)

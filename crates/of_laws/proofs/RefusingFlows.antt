@@ -12,7 +12,7 @@ use Rattle.of_wire.specs.Items.{items_from, outcome}
 use Rattle.of_wire.specs.Numbered.{is_distinct, is_used}
 use Rattle.of_wire.specs.Refusals.{first_of, refusal}
 use Rattle.of_actions.specs.declared.instruction.Instruction.{Instruction}
-use Rattle.of_actions.specs.declared.instruction.Instruction.TheVariants as instructions
+use Rattle.of_actions.specs.declared.instruction.Instruction.TheVariants.{Apply, Clear, Write, Metadata, Goto}
 use Rattle.of_actions.specs.Beginnings.{len_at}
 use Rattle.of_actions.specs.CanonicalActions.{canonical_actions}
 use Rattle.of_actions.specs.CanonicalInstructions.{after_type, canonical_instruction, canonical_instructions}
@@ -23,18 +23,16 @@ use Rattle.of_actions.specs.Rising.{is_ascending}
 use Rattle.of_actions.proofs.ActionsAgain.{length-canonical}
 use Rattle.of_actions.proofs.Bodies.{distinct_place}
 use Rattle.of_actions.proofs.RunOrders.{order_same, rising_once}
-use Rattle.of_text.specs.Flows.{Step, Apply, Clear, Write, Metadata, Goto}
-use Rattle.of_text.specs.Kept.{instruction_of}
-use Rattle.of_text.specs.Refusals.{goto_refusals, list_refusals, or_else, step_refusals}
+use Rattle.of_text.specs.Refusals.{goto_refusals, instruction_refusals, list_refusals, or_else}
 use Rattle.of_text.proofs.RefusalLemmas.{first_append}
-use Rattle.of_laws.specs.Refused.{StepFits}
+use Rattle.of_laws.specs.Refused.{InstructionFits}
 use Rattle.of_laws.proofs.Refusing.{AreSteps, IsStep, actions_told, walk, walked}
 use Rattle.of_laws.proofs.InstructionStructs.{last_left, served_as}
 
 -- ---- headers
 
 -- the header of an instruction, and what it is written as
-abbrev header_of : Step → Header
+abbrev header_of : Instruction → Header
 header_of (Apply actions) = apply (canonical_actions actions)
 header_of Clear = clear
 header_of (Write actions) = write (canonical_actions actions)
@@ -172,16 +170,16 @@ header_steps table seen (h ∷ hs) fits new once =
     (λ x. header_step table h seen x fits.0 unused, header_steps table (seen ++ h ∷ []) hs fits.1 (new_more seen h hs new' later) once')
 
 -- the refusals of headers are those of GOTO_TABLE
-next_same : (table : ℕ) (seen : List Header) (steps : List Step) → walked (own_header table) seen (map header_of steps) ≡ flat_map (goto_refusals table) steps
+next_same : (table : ℕ) (seen : List Header) (is : List Instruction) → walked (own_header table) seen (map header_of is) ≡ flat_map (goto_refusals table) is
 unfolding own_header
 next_same table seen [] = refl
-next_same table seen (Apply actions ∷ steps) = next_same table (seen ++ header_of (Apply actions) ∷ []) steps
-next_same table seen (Clear ∷ steps) = next_same table (seen ++ header_of Clear ∷ []) steps
-next_same table seen (Write actions ∷ steps) = next_same table (seen ++ header_of (Write actions) ∷ []) steps
-next_same table seen (Metadata value mask ∷ steps) = next_same table (seen ++ header_of (Metadata value mask) ∷ []) steps
-next_same table seen (Goto to ∷ steps) = ap (λ (rs : List (Bool × Code)). (not (is_next table to), refusal 3 2) ∷ rs) (next_same table (seen ++ header_of (Goto to) ∷ []) steps)
+next_same table seen (Apply actions ∷ is) = next_same table (seen ++ header_of (Apply actions) ∷ []) is
+next_same table seen (Clear ∷ is) = next_same table (seen ++ header_of Clear ∷ []) is
+next_same table seen (Write actions ∷ is) = next_same table (seen ++ header_of (Write actions) ∷ []) is
+next_same table seen (Metadata value mask ∷ is) = next_same table (seen ++ header_of (Metadata value mask) ∷ []) is
+next_same table seen (Goto to ∷ is) = ap (λ (rs : List (Bool × Code)). (not (is_next table to), refusal 3 2) ∷ rs) (next_same table (seen ++ header_of (Goto to) ∷ []) is)
 
-text_same : (s : Step) → text_of (header_of s) ≡ canonical_instruction (instruction_of s)
+text_same : (s : Instruction) → text_of (header_of s) ≡ canonical_instruction s
 unfolding text_of canonical_instruction
 text_same (Apply actions) = refl
 text_same Clear = refl
@@ -189,9 +187,9 @@ text_same (Write actions) = refl
 text_same (Metadata value mask) = refl
 text_same (Goto table) = refl
 
-texts_same : (steps : List Step) → flat_map text_of (map header_of steps) ≡ canonical_instructions (map instruction_of steps)
+texts_same : (is : List Instruction) → flat_map text_of (map header_of is) ≡ canonical_instructions is
 texts_same [] = refl
-texts_same (s ∷ steps) = rw (text_same s, texts_same steps) refl
+texts_same (s ∷ is) = rw (text_same s, texts_same is) refl
 
 -- ---- what follows the headers
 
@@ -199,54 +197,54 @@ abbrev one_outcome : Instruction → Option Code → Result Instruction Code
 one_outcome i None = Ok i
 one_outcome i (Some code) = Err code
 
-body_told : (s : Step) → StepFits s → instruction_of_header (header_of s) ≡ one_outcome (instruction_of s) (first_of (step_refusals s))
-unfolding step_refusals
-body_told (Apply actions) fits = ap (with_actions_read instructions.Apply) (actions_told actions fits) ∙ by_first (first_of (list_refusals actions))
+body_told : (s : Instruction) → InstructionFits s → instruction_of_header (header_of s) ≡ one_outcome s (first_of (instruction_refusals s))
+unfolding instruction_refusals
+body_told (Apply actions) fits = ap (with_actions_read Apply) (actions_told actions fits) ∙ by_first (first_of (list_refusals actions))
   where
-    by_first : (o : Option Code) → with_actions_read instructions.Apply (outcome actions o) ≡ one_outcome (instructions.Apply actions) o
+    by_first : (o : Option Code) → with_actions_read Apply (outcome actions o) ≡ one_outcome (Apply actions) o
     by_first None = refl
     by_first (Some code) = refl
 body_told Clear fits = refl
-body_told (Write actions) fits = ap (with_actions_read instructions.Write) (actions_told actions fits) ∙ by_first (first_of (list_refusals actions))
+body_told (Write actions) fits = ap (with_actions_read Write) (actions_told actions fits) ∙ by_first (first_of (list_refusals actions))
   where
-    by_first : (o : Option Code) → with_actions_read instructions.Write (outcome actions o) ≡ one_outcome (instructions.Write actions) o
+    by_first : (o : Option Code) → with_actions_read Write (outcome actions o) ≡ one_outcome (Write actions) o
     by_first None = refl
     by_first (Some code) = refl
 body_told (Metadata value mask) fits = refl
 body_told (Goto table) fits = refl
 
-bodies_told : (steps : List Step) → AllByRecursion StepFits steps → bodies_of (map header_of steps) ≡ outcome (map instruction_of steps) (first_of (flat_map step_refusals steps))
+bodies_told : (is : List Instruction) → AllByRecursion InstructionFits is → bodies_of (map header_of is) ≡ outcome is (first_of (flat_map instruction_refusals is))
 bodies_told [] fits = refl
-bodies_told (s ∷ steps) fits =
-    let others = flat_map step_refusals steps in
-    ap (λ (r : Result Instruction Code). instruction_prepended r (bodies_of (map header_of steps))) (body_told s fits.0)
-    ∙ ap (instruction_prepended (one_outcome (instruction_of s) (first_of (step_refusals s)))) (bodies_told steps fits.1)
-    ∙ by_first (first_of (step_refusals s)) (first_of others)
-    ∙ ap (outcome (map instruction_of (s ∷ steps))) (sym (first_append (step_refusals s) others))
+bodies_told (s ∷ is) fits =
+    let others = flat_map instruction_refusals is in
+    ap (λ (r : Result Instruction Code). instruction_prepended r (bodies_of (map header_of is))) (body_told s fits.0)
+    ∙ ap (instruction_prepended (one_outcome s (first_of (instruction_refusals s)))) (bodies_told is fits.1)
+    ∙ by_first (first_of (instruction_refusals s)) (first_of others)
+    ∙ ap (outcome (s ∷ is)) (sym (first_append (instruction_refusals s) others))
   where
-    by_first : (o p : Option Code) → instruction_prepended (one_outcome (instruction_of s) o) (outcome (map instruction_of steps) p) ≡ outcome (instruction_of s ∷ map instruction_of steps) (or_else o p)
+    by_first : (o p : Option Code) → instruction_prepended (one_outcome s o) (outcome is p) ≡ outcome (s ∷ is) (or_else o p)
     by_first (Some code) p = refl
     by_first None None = refl
     by_first None (Some code) = refl
 
 -- ---- instructions
 
-kind_same : (s : Step) → kind_of (header_of s) ≡ type_of_instruction (instruction_of s)
+kind_same : (s : Instruction) → kind_of (header_of s) ≡ type_of_instruction s
 kind_same (Apply actions) = refl
 kind_same Clear = refl
 kind_same (Write actions) = refl
 kind_same (Metadata value mask) = refl
 kind_same (Goto table) = refl
 
-used_same : (n : ℕ) (steps : List Step) → is_used kind_of n (map header_of steps) ≡ is_used type_of_instruction n (map instruction_of steps)
+used_same : (n : ℕ) (is : List Instruction) → is_used kind_of n (map header_of is) ≡ is_used type_of_instruction n is
 used_same n [] = refl
-used_same n (s ∷ steps) = rw (kind_same s, used_same n steps) refl
+used_same n (s ∷ is) = rw (kind_same s, used_same n is) refl
 
-distinct_same : (steps : List Step) → is_distinct kind_of (map header_of steps) ≡ is_distinct type_of_instruction (map instruction_of steps)
+distinct_same : (is : List Instruction) → is_distinct kind_of (map header_of is) ≡ is_distinct type_of_instruction is
 distinct_same [] = refl
-distinct_same (s ∷ steps) = rw (kind_same s, used_same (type_of_instruction (instruction_of s)) steps, distinct_same steps) refl
+distinct_same (s ∷ is) = rw (kind_same s, used_same (type_of_instruction s) is, distinct_same is) refl
 
-header_fits : (s : Step) → StepFits s → length (canonical_instruction (instruction_of s)) < 65528 → HeaderFits (header_of s)
+header_fits : (s : Instruction) → InstructionFits s → length (canonical_instruction s) < 65528 → HeaderFits (header_of s)
 unfolding canonical_instruction
 header_fits (Apply actions) fits few = let l = length-canonical actions in (omega arith, l.eights)
 header_fits Clear fits few = tt
@@ -254,33 +252,32 @@ header_fits (Write actions) fits few = let l = length-canonical actions in (omeg
 header_fits (Metadata value mask) fits few = (omega (arith, fits.0), omega (arith, fits.1))
 header_fits (Goto table) fits few = omega (arith, fits)
 
-headers_fit : (steps : List Step) → AllByRecursion StepFits steps → length (canonical_instructions (map instruction_of steps)) < 65528 → AllByRecursion HeaderFits (map header_of steps)
+headers_fit : (is : List Instruction) → AllByRecursion InstructionFits is → length (canonical_instructions is) < 65528 → AllByRecursion HeaderFits (map header_of is)
 headers_fit [] fits short = tt
-headers_fit (s ∷ steps) fits short =
-    let parts = length-append (canonical_instruction (instruction_of s)) (canonical_instructions (map instruction_of steps)) in
-    (header_fits s fits.0 (omega (arith, short, parts)), headers_fit steps fits.1 (omega (arith, short, parts)))
+headers_fit (s ∷ is) fits short =
+    let parts = length-append (canonical_instruction s) (canonical_instructions is) in
+    (header_fits s fits.0 (omega (arith, short, parts)), headers_fit is fits.1 (omega (arith, short, parts)))
 
-pub instructions_told : (table : ℕ) (steps : List Step) → AllByRecursion StepFits steps → is_ascending run_place (map instruction_of steps) ≡ true → length (canonical_instructions (map instruction_of steps)) < 65528
-    → instructions_in_bytes table (canonical_instructions (map instruction_of steps)) ≡ outcome (map instruction_of steps) (first_of (flat_map (goto_refusals table) steps ++ flat_map step_refusals steps))
+pub instructions_told : (table : ℕ) (is : List Instruction) → AllByRecursion InstructionFits is → is_ascending run_place is ≡ true → length (canonical_instructions is) < 65528
+    → instructions_in_bytes table (canonical_instructions is) ≡ outcome is (first_of (flat_map (goto_refusals table) is ++ flat_map instruction_refusals is))
 unfolding instructions_in_bytes
-instructions_told table steps fits up short =
-    let is = map instruction_of steps in
-    let hs = map header_of steps in
+instructions_told table is fits up short =
+    let hs = map header_of is in
     let bytes = canonical_instructions is in
-    let once : is_distinct kind_of hs ≡ true = distinct_same steps ∙ sym (distinct_place is) ∙ rising_once is up in
-    let texts = texts_same steps in
-    let nexts = flat_map (goto_refusals table) steps in
-    let bodies = flat_map step_refusals steps in
+    let once : is_distinct kind_of hs ≡ true = distinct_same is ∙ sym (distinct_place is) ∙ rising_once is up in
+    let texts = texts_same is in
+    let nexts = flat_map (goto_refusals table) is in
+    let bodies = flat_map instruction_refusals is in
     let headers : items_from (headers_of table) (length bytes) [] bytes ≡ outcome hs (first_of nexts) =
     ap (λ (x : List ℕ). items_from (headers_of table) (length x) [] x) (sym texts)
-    ∙ walk (headers_of table) text_of (own_header table) (length (flat_map text_of hs)) [] hs (omega arith) (header_steps table [] hs (headers_fit steps fits short) (all_new hs) once)
-    ∙ ap (λ (rs : List (Bool × Code)). outcome hs (first_of rs)) (next_same table [] steps) in
+    ∙ walk (headers_of table) text_of (own_header table) (length (flat_map text_of hs)) [] hs (omega arith) (header_steps table [] hs (headers_fit is fits short) (all_new hs) once)
+    ∙ ap (λ (rs : List (Bool × Code)). outcome hs (first_of rs)) (next_same table [] is) in
     ap (λ (r : Result (List Header) Code). then_ordered (then_bodies r)) headers ∙ by_headers (first_of nexts) ∙ ap (outcome is) (sym (first_append nexts bodies))
   where
-    by_bodies : (o : Option Code) → then_ordered (outcome (map instruction_of steps) o) ≡ outcome (map instruction_of steps) o
+    by_bodies : (o : Option Code) → then_ordered (outcome is o) ≡ outcome is o
     by_bodies (Some code) = refl
-    by_bodies None = ap Ok (order_same (map instruction_of steps) up)
+    by_bodies None = ap Ok (order_same is up)
 
-    by_headers : (o : Option Code) → then_ordered (then_bodies (outcome (map header_of steps) o)) ≡ outcome (map instruction_of steps) (or_else o (first_of (flat_map step_refusals steps)))
+    by_headers : (o : Option Code) → then_ordered (then_bodies (outcome (map header_of is) o)) ≡ outcome is (or_else o (first_of (flat_map instruction_refusals is)))
     by_headers (Some code) = refl
-    by_headers None = ap then_ordered (bodies_told steps fits) ∙ by_bodies (first_of (flat_map step_refusals steps))
+    by_headers None = ap then_ordered (bodies_told is fits) ∙ by_bodies (first_of (flat_map instruction_refusals is))

@@ -1,7 +1,7 @@
 -- A FLOW_MOD of a flow of a text is refused with the text's code.
-use Rattle.std.proofs.Common.{◌≡◌, ℕ, ◌<◌, Bool, true, false, not, ltb, eqb, List, [], ◌∷◌, ◌++◌, length, drop, map, Option, Some, None, Result, Ok, Err, refl, sym, ◌∙◌, ap, append_assoc, arith, inl, inr}
+use Rattle.std.proofs.Common.{◌≡◌, ℕ, ◌<◌, Bool, true, false, not, ltb, eqb, List, [], ◌∷◌, ◌++◌, length, drop, Option, Some, None, Result, Ok, Err, refl, sym, ◌∙◌, ap, append_assoc, arith, inl, inr}
 use Rattle.std.specs.Prelude.{◌⊎◌, bit_and}
-use Rattle.std.specs.List.{flat_map, list_all}
+use Rattle.std.specs.List.{flat_map}
 use Rattle.std.proofs.lemmas.Bool.{eq-eqb, le-ltb, lt-ltb, ne_eqb}
 use Rattle.std.proofs.lemmas.List.{drop_at, length-append}
 use Rattle.std.proofs.lemmas.Nat.{and_le_r}
@@ -22,9 +22,8 @@ use Rattle.of_messages.specs.declared.message.FlowModCommand.TheVariants.{Add}
 use Rattle.of_messages.specs.Messages.{command_said, flow_mod_by, flow_mod_of, instructions_for, message_of}
 use Rattle.of_messages.specs.Written.{flow_mod_bytes, flow_mod_numbers}
 use Rattle.of_build.specs.Listing.{add_of}
-use Rattle.of_text.specs.Flows.{Flow, Step, Apply, Clear, Write, Metadata, Goto}
-use Rattle.of_text.specs.Kept.{instruction_of, instructions_of}
-use Rattle.of_text.specs.Refusals.{flow_refusals, goes_with, goto_refusals, match_refusals, or_else, step_refusals, steps_refusals}
+use Rattle.of_text.specs.Flows.{Flow}
+use Rattle.of_text.specs.Refusals.{flow_refusals, goto_refusals, instruction_refusals, instructions_refusals, match_refusals, or_else}
 use Rattle.of_text.proofs.RefusalLemmas.{first_append}
 use Rattle.of_laws.specs.Refused.{IsSaid, match_outcome, message_outcome}
 use Rattle.of_laws.proofs.FlowAgain.{Says, body_is, says}
@@ -59,14 +58,6 @@ front_same f w = by_tests (ltb 15 f.head.table) (eqb (bit_and f.head.flags 25) f
     by_tests false true under known flags = let fine : ltb 31 f.head.flags ≡ false = flags ∙ ap not known in rw (under, fine, known) refl
     by_tests false false under known flags = let high : ltb 31 f.head.flags ≡ true = flags ∙ ap not known in rw (under, high, known) refl
 
-checked_same : (m : List MatchField) (steps : List Step) → all_go_with m (map instruction_of steps) ≡ list_all (goes_with m) steps
-checked_same m [] = refl
-checked_same m (Apply actions ∷ steps) = rw (checked_same m steps) refl
-checked_same m (Clear ∷ steps) = rw (checked_same m steps) refl
-checked_same m (Write actions ∷ steps) = rw (checked_same m steps) refl
-checked_same m (Metadata value mask ∷ steps) = rw (checked_same m steps) refl
-checked_same m (Goto to ∷ steps) = rw (checked_same m steps) refl
-
 abbrev mod_outcome : FlowMod → Option Code → Result FlowMod Code
 mod_outcome m None = Ok m
 mod_outcome m (Some code) = Err code
@@ -100,10 +91,10 @@ abbrev then_command : Flow → List ℕ → Result FlowModCommand Code → Resul
 then_command f rest r = r >>= λ command. then_match f rest command (match_of rest)
 
 -- the instructions, and the flow check
-steps_told : (f : Flow) (o : Option Code)
-    → then_instructions f Add f.fields (outcome (instructions_of f) o) ≡ mod_outcome (add_of f) (or_else o (first_of ((not (list_all (goes_with f.fields) f.steps), refusal 2 10) ∷ [])))
-steps_told f (Some code) = refl
-steps_told f None = ap (λ (t : Bool). unless ((not t, refusal 2 10) ∷ []) >>= (λ fit. Ok (add_of f))) (checked_same f.fields f.steps) ∙ by_fit (list_all (goes_with f.fields) f.steps)
+check_told : (f : Flow) (o : Option Code)
+    → then_instructions f Add f.fields (outcome f.instructions o) ≡ mod_outcome (add_of f) (or_else o (first_of ((not (all_go_with f.fields f.instructions), refusal 2 10) ∷ [])))
+check_told f (Some code) = refl
+check_told f None = by_fit (all_go_with f.fields f.instructions)
   where
     by_fit : (t : Bool) → (unless ((not t, refusal 2 10) ∷ []) >>= λ fit. Ok (add_of f)) ≡ mod_outcome (add_of f) (first_of ((not t, refusal 2 10) ∷ []))
     by_fit true = refl
@@ -111,34 +102,34 @@ steps_told f None = ap (λ (t : Bool). unless ((not t, refusal 2 10) ∷ []) >>=
 
 -- the bytes behind the numbers
 abbrev rest_of : Flow → List ℕ
-rest_of f = canonical f.fields ++ canonical_instructions (instructions_of f)
+rest_of f = canonical f.fields ++ canonical_instructions f.instructions
 
 instructions_there : (f : Flow) → IsSaid f
-    → reading.instructions_in_bytes f.head.table (drop (length (canonical f.fields)) (rest_of f)) ≡ outcome (instructions_of f) (first_of (flat_map (goto_refusals f.head.table) f.steps ++ flat_map step_refusals f.steps))
+    → reading.instructions_in_bytes f.head.table (drop (length (canonical f.fields)) (rest_of f)) ≡ outcome f.instructions (first_of (flat_map (goto_refusals f.head.table) f.instructions ++ flat_map instruction_refusals f.instructions))
 instructions_there f w =
-    let parts = length-append (canonical f.fields) (canonical_instructions (instructions_of f)) in
-    ap (reading.instructions_in_bytes f.head.table) (drop_at (canonical f.fields) (canonical_instructions (instructions_of f)) (length (canonical f.fields)) refl)
-    ∙ instructions_told f.head.table f.steps w.steps w.in_order (omega (arith, parts, w.short))
+    let parts = length-append (canonical f.fields) (canonical_instructions f.instructions) in
+    ap (reading.instructions_in_bytes f.head.table) (drop_at (canonical f.fields) (canonical_instructions f.instructions) (length (canonical f.fields)) refl)
+    ∙ instructions_told f.head.table f.instructions w.instructions w.in_order (omega (arith, parts, w.short))
 
 -- the match, and what follows it
 match_then : (f : Flow) → IsSaid f → (o : Option Code)
-    → then_match f (rest_of f) Add (match_outcome f.fields o) ≡ mod_outcome (add_of f) (or_else o (first_of (steps_refusals f.head.table f.fields f.steps)))
-unfolding steps_refusals
+    → then_match f (rest_of f) Add (match_outcome f.fields o) ≡ mod_outcome (add_of f) (or_else o (first_of (instructions_refusals f.head.table f.fields f.instructions)))
+unfolding instructions_refusals
 match_then f w (Some code) = refl
 match_then f w None =
-    let nexts = flat_map (goto_refusals f.head.table) f.steps in
-    let bodies = flat_map step_refusals f.steps in
-    let check : List (Bool × Code) = (not (list_all (goes_with f.fields) f.steps), refusal 2 10) ∷ [] in
+    let nexts = flat_map (goto_refusals f.head.table) f.instructions in
+    let bodies = flat_map instruction_refusals f.instructions in
+    let check : List (Bool × Code) = (not (all_go_with f.fields f.instructions), refusal 2 10) ∷ [] in
     ap (then_instructions f Add f.fields) (instructions_there f w)
-    ∙ steps_told f (first_of (nexts ++ bodies))
+    ∙ check_told f (first_of (nexts ++ bodies))
     ∙ ap (mod_outcome (add_of f)) (sym (first_append (nexts ++ bodies) check) ∙ ap first_of (append_assoc nexts bodies check))
 
 front_then : (f : Flow) → IsSaid f → (o : Option Code)
-    → then_command f (rest_of f) (said_outcome o) ≡ mod_outcome (add_of f) (or_else o (first_of (match_refusals f.fields ++ steps_refusals f.head.table f.fields f.steps)))
+    → then_command f (rest_of f) (said_outcome o) ≡ mod_outcome (add_of f) (or_else o (first_of (match_refusals f.fields ++ instructions_refusals f.head.table f.fields f.instructions)))
 front_then f w (Some code) = refl
 front_then f w None =
-    let behind = steps_refusals f.head.table f.fields f.steps in
-    ap (then_match f (rest_of f) Add) (match_told f.fields (canonical_instructions (instructions_of f)) w.fields w.ascending)
+    let behind = instructions_refusals f.head.table f.fields f.instructions in
+    ap (then_match f (rest_of f) Add) (match_told f.fields (canonical_instructions f.instructions) w.fields w.ascending)
     ∙ match_then f w (first_of (match_refusals f.fields))
     ∙ ap (mod_outcome (add_of f)) (sym (first_append (match_refusals f.fields) behind))
 
@@ -149,7 +140,7 @@ mod_told f b h w =
     ∙ ap (flow_mod_by (flow_mod_numbers (add_of f))) h.rest_is
     ∙ ap (then_command f (rest_of f)) (front_same f w)
     ∙ front_then f w (first_of (front f))
-    ∙ ap (mod_outcome (add_of f)) (sym (first_append (front f) (match_refusals f.fields ++ steps_refusals f.head.table f.fields f.steps)))
+    ∙ ap (mod_outcome (add_of f)) (sym (first_append (front f) (match_refusals f.fields ++ instructions_refusals f.head.table f.fields f.instructions)))
 
 as_message : (m : FlowMod) (o : Option Code) → as_flow_mod (mod_outcome m o) ≡ message_outcome m o
 as_message m None = refl

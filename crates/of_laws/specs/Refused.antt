@@ -5,11 +5,12 @@ use Rattle.of_wire.specs.declared.limits.TheConstants.{ENTRY_FLAGS, FLOW_MOD_FLA
 use Rattle.of_oxm.specs.Canonical.{canonical}
 use Rattle.of_oxm.specs.NormalForm.{IsAscending}
 use Rattle.of_oxm.specs.declared.match_field.MatchField.{MatchField}
+use Rattle.of_actions.specs.declared.instruction.Instruction.{Instruction}
+use Rattle.of_actions.specs.declared.instruction.Instruction.TheVariants.{Apply, Clear, Write, Metadata, Goto}
 use Rattle.of_actions.specs.CanonicalInstructions.{canonical_instructions}
 use Rattle.of_actions.specs.InstructionLists.{run_place}
 use Rattle.of_actions.specs.Rising.{is_ascending}
-use Rattle.of_text.specs.Kept.{instructions_of}
-use Rattle.of_text.specs.Flows.{Flow, Step, Apply, Clear, Write, Metadata, Goto}
+use Rattle.of_text.specs.Flows.{Flow}
 use Rattle.of_text.specs.Rows.{ActionFits, BucketFits, FieldFits, HeadFits}
 use Rattle.of_wire.specs.declared.codes.TheConstants.{OFPGMFC_INVALID_GROUP}
 use Rattle.of_wire.specs.declared.code.Code.{Code}
@@ -23,12 +24,12 @@ use Rattle.of_messages.specs.declared.message.Message.{Message}
 use Rattle.of_messages.specs.declared.message.Message.TheVariants.{FlowMod as IsFlowMod, GroupMod as IsGroupMod}
 
 -- numbers fit their bytes
-abbrev pub StepFits : Step → Type 0
-StepFits (Apply actions) = AllByRecursion ActionFits actions
-StepFits Clear = Unit {0}
-StepFits (Write actions) = AllByRecursion ActionFits actions
-StepFits (Metadata value mask) = (value < 2 ^ 64) × (mask < 2 ^ 64)
-StepFits (Goto table) = table < 2 ^ 8
+abbrev pub InstructionFits : Instruction → Type 0
+InstructionFits (Apply actions) = AllByRecursion ActionFits actions
+InstructionFits Clear = Unit {0}
+InstructionFits (Write actions) = AllByRecursion ActionFits actions
+InstructionFits (Metadata value mask) = (value < 2 ^ 64) × (mask < 2 ^ 64)
+InstructionFits (Goto table) = table < 2 ^ 8
 
 -- a match with the size of its encoding, or its first refusal
 abbrev pub match_outcome : List MatchField → Option Code → Result (List MatchField × ℕ) Code
@@ -45,9 +46,9 @@ pub record IsSaid (f : Flow) : Type 0 where
   pub head : HeadFits f.head
   pub fields : AllByRecursion FieldFits f.fields
   pub ascending : IsAscending f.fields
-  pub steps : AllByRecursion StepFits f.steps
-  pub in_order : is_ascending run_place (instructions_of f) ≡ true
-  pub short : length (canonical f.fields ++ canonical_instructions (instructions_of f)) < 65488
+  pub instructions : AllByRecursion InstructionFits f.instructions
+  pub in_order : is_ascending run_place f.instructions ≡ true
+  pub short : length (canonical f.fields ++ canonical_instructions f.instructions) < 65488
   pub flags : (bit_and f.head.flags ENTRY_FLAGS ≡ f.head.flags) ⊎ (FLOW_MOD_FLAGS < f.head.flags)
 
 -- ---- groups

@@ -1,5 +1,5 @@
 //! Laws of the round trip of flow texts, by the file that `asm` writes, and of the rows of such files.
-ghost use Rattle.std.specs.Prelude.{◌≡◌, ◌<◌, ◌++◌, ℕ, List, length, map, None, Option, Some, false, true};
+ghost use Rattle.std.specs.Prelude.{◌≡◌, ◌<◌, ◌++◌, ℕ, List, length, None, Option, Some, false, true};
 ghost use Rattle.std.specs.List.{AllByRecursion, flat_map};
 ghost use Rattle.of_wire.specs.Items.{outcome};
 ghost use Rattle.of_wire.specs.Refusals.{first_of};
@@ -8,6 +8,7 @@ ghost use Rattle.of_oxm.specs.MatchReading.{match_of};
 ghost use Rattle.of_oxm.specs.NormalForm.{IsAscending};
 ghost use Rattle.of_oxm.specs.declared.match_field.MatchField.{MatchField};
 ghost use Rattle.of_actions.specs.declared.action.Action.{Action};
+ghost use Rattle.of_actions.specs.declared.instruction.Instruction.{Instruction};
 ghost use Rattle.of_actions.specs.Actions.{actions_said};
 ghost use Rattle.of_actions.specs.CanonicalActions.{canonical_actions};
 ghost use Rattle.of_actions.specs.CanonicalInstructions.{canonical_instructions};
@@ -18,9 +19,8 @@ ghost use Rattle.of_messages.specs.CanonicalGroups.{group_add_bytes};
 ghost use Rattle.of_messages.specs.Messages.{message_of};
 ghost use Rattle.of_messages.specs.Written.{flow_mod_bytes};
 ghost use Rattle.of_text.specs.Groups.{TextGroup};
-ghost use Rattle.of_text.specs.Flows.{Flow, Step};
-ghost use Rattle.of_text.specs.Kept.{instruction_of};
-ghost use Rattle.of_text.specs.Refusals.{flow_refusals, goto_refusals, list_refusals, match_refusals, step_refusals};
+ghost use Rattle.of_text.specs.Flows.{Flow};
+ghost use Rattle.of_text.specs.Refusals.{flow_refusals, goto_refusals, instruction_refusals, list_refusals, match_refusals};
 ghost use Rattle.of_text.specs.Rows.{ActionFits, FieldFits};
 ghost use Rattle.of_build.specs.Building.{BuildsOf, build_text};
 ghost use Rattle.of_build.specs.Listing.{add_of, new_of};
@@ -32,7 +32,7 @@ ghost use Rattle.of_replay.specs.Play.{lines_read};
 ghost use Rattle.of_switch.specs.declared.event.Event.{Event};
 ghost use Rattle.of_replay.specs.Rows.{events_in, row_of_line, rows_of_lines};
 ghost use Rattle.of_laws.specs.RoundTrip.{ComesBack};
-ghost use Rattle.of_laws.specs.Refused.{IsSaid, IsSaidGroup, StepFits, group_outcome, match_outcome, message_outcome, said_refusals};
+ghost use Rattle.of_laws.specs.Refused.{InstructionFits, IsSaid, IsSaidGroup, group_outcome, match_outcome, message_outcome, said_refusals};
 ghost use Rattle.of_laws.specs.RowText.{HasLine, file_text, row_text};
 
 /// The file that is built of a flow text, run on a new switch with any datapath_id, ends with the configuration that the text encodes.
@@ -67,10 +67,10 @@ pub fn texts_are_refused_as_messages()
         actions_said false (canonical_actions actions) ≡ outcome actions (first_of (list_refusals actions)) }
     ensures fields { (fields : List MatchField) (rest : List ℕ) → AllByRecursion FieldFits fields → IsAscending fields →
         match_of (canonical fields ++ rest) ≡ match_outcome fields (first_of (match_refusals fields)) }
-    ensures instructions { (table : ℕ) (steps : List Step) → AllByRecursion StepFits steps → is_ascending run_place (map instruction_of steps) ≡ true
-        → length (canonical_instructions (map instruction_of steps)) < 65528
-        → instructions_in_bytes table (canonical_instructions (map instruction_of steps))
-        ≡ outcome (map instruction_of steps) (first_of (flat_map (goto_refusals table) steps ++ flat_map step_refusals steps)) }
+    ensures instructions { (table : ℕ) (is : List Instruction) → AllByRecursion InstructionFits is → is_ascending run_place is ≡ true
+        → length (canonical_instructions is) < 65528
+        → instructions_in_bytes table (canonical_instructions is)
+        ≡ outcome is (first_of (flat_map (goto_refusals table) is ++ flat_map instruction_refusals is)) }
     ensures flow { (xid : ℕ) (f : Flow) → IsSaid f → message_of (flow_mod_bytes xid (add_of f)) ≡ message_outcome (add_of f) (first_of (flow_refusals f)) }
     ensures group { (xid : ℕ) (g : TextGroup) → IsSaidGroup g → message_of (group_add_bytes xid (new_of g)) ≡
         group_outcome (new_of g) (first_of (said_refusals g)) }

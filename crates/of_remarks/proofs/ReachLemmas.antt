@@ -1,18 +1,19 @@
 -- The tables that are counted as reached are those that ways lead to.
 use Rattle.std.proofs.Common.{◌≡◌, ℕ, ◌+◌, ◌-◌, ◌<◌, ◌≤◌, ◌⊎◌, ◌↔◌, zero, suc, Bool, true, false, cond, eqb, ltb, List, [], ◌∷◌, ◌++◌, length, refl, sym, ap, subst, ◌∙◌, arith, inl, inr}
-use Rattle.std.specs.Prelude.{◌&&◌, ◌||◌, map, slice_index_or}
+use Rattle.std.specs.Prelude.{◌&&◌, ◌||◌, slice_index_or}
 use Rattle.std.specs.List.{AllByRecursion, list_all, list_any}
 use Rattle.std.proofs.lemmas.Bool.{and_from, and_parts, cases_lt, eq-eqb, eqb-true, ltb-true, or_cases}
 use Rattle.std.proofs.lemmas.List.{get_or_past}
 use Rattle.std.proofs.lemmas.List.Folds.{list_any-append}
 use Rattle.of_actions.specs.declared.instruction.Instruction.{Instruction}
+use Rattle.of_actions.specs.declared.instruction.Instruction.TheVariants.{Apply, Clear, Write, Metadata, Goto}
 use Rattle.of_actions.specs.InstructionLists.{is_for}
-use Rattle.of_text.specs.Flows.{Step, Apply, Clear, Write, Metadata, Goto, Flow}
-use Rattle.of_text.specs.Kept.{IsEntry, instruction_of}
+use Rattle.of_text.specs.Flows.{Flow, goes_to}
+use Rattle.of_text.specs.Kept.{IsEntry}
 use Rattle.of_text.specs.Configs.{Configuration, IsConfig}
 use Rattle.of_text.proofs.EntryLemmas.{config_entries}
 use Rattle.of_text.proofs.FillLemmas.{sixteen}
-use Rattle.of_remarks.specs.Tables.{IsReached, flows_at, goes_to, is_led_to, is_reached, is_way, leads_to_table, reached_below}
+use Rattle.of_remarks.specs.Tables.{IsReached, flows_at, is_led_to, is_reached, is_way, leads_to_table, reached_below}
 
 or_left : (a b : Bool) → a ≡ true → (a || b) ≡ true
 or_left true b e = refl
@@ -113,26 +114,26 @@ module _ (tables : List (List Flow)) where
 
 -- ---- GOTO_TABLE of a configuration
 
-step_rises : (from to : ℕ) (steps : List Step) → list_all (is_for from) (map instruction_of steps) ≡ true → list_any (goes_to to) steps ≡ true → from < to
-step_rises from to [] all some = absurd cc
-step_rises from to (s ∷ steps) all some =
-    let both = and_parts (is_for from (instruction_of s)) (list_all (is_for from) (map instruction_of steps)) all in
-    elim (or_cases (goes_to to s) (list_any (goes_to to) steps) some) as (λ w. from < to) [
-      | inl here ↦ by_step s both.0 here
-      | inr later ↦ step_rises from to steps both.1 later
+instruction_rises : (from to : ℕ) (instructions : List Instruction) → list_all (is_for from) instructions ≡ true → list_any (goes_to to) instructions ≡ true → from < to
+instruction_rises from to [] all some = absurd cc
+instruction_rises from to (s ∷ instructions) all some =
+    let both = and_parts (is_for from s) (list_all (is_for from) instructions) all in
+    elim (or_cases (goes_to to s) (list_any (goes_to to) instructions) some) as (λ w. from < to) [
+      | inl here ↦ by_instruction s both.0 here
+      | inr later ↦ instruction_rises from to instructions both.1 later
     ]
   where
-    by_step : (x : Step) → is_for from (instruction_of x) ≡ true → goes_to to x ≡ true → from < to
-    by_step (Goto t) up here = omega (arith, ltb-true from t up, eqb-true t to here)
-    by_step (Apply actions) up here = absurd cc
-    by_step Clear up here = absurd cc
-    by_step (Write actions) up here = absurd cc
-    by_step (Metadata value mask) up here = absurd cc
+    by_instruction : (x : Instruction) → is_for from x ≡ true → goes_to to x ≡ true → from < to
+    by_instruction (Goto t) up here = omega (arith, ltb-true from t up, eqb-true t to here)
+    by_instruction (Apply actions) up here = absurd cc
+    by_instruction Clear up here = absurd cc
+    by_instruction (Write actions) up here = absurd cc
+    by_instruction (Metadata value mask) up here = absurd cc
 
-flows_rise : (from to : ℕ) (flows : List Flow) → AllByRecursion (IsEntry from) flows → list_any (λ f. list_any (goes_to to) f.steps) flows ≡ true → from < to
+flows_rise : (from to : ℕ) (flows : List Flow) → AllByRecursion (IsEntry from) flows → list_any (λ f. list_any (goes_to to) f.instructions) flows ≡ true → from < to
 flows_rise from to [] all some = absurd cc
-flows_rise from to (f ∷ flows) all some = elim (or_cases (list_any (goes_to to) f.steps) (list_any (λ g. list_any (goes_to to) g.steps) flows) some) as (λ w. from < to) [
-  | inl here ↦ step_rises from to f.steps all.0.leads_on here
+flows_rise from to (f ∷ flows) all some = elim (or_cases (list_any (goes_to to) f.instructions) (list_any (λ g. list_any (goes_to to) g.instructions) flows) some) as (λ w. from < to) [
+  | inl here ↦ instruction_rises from to f.instructions all.0.leads_on here
   | inr later ↦ flows_rise from to flows all.1 later
 ]
 
@@ -142,7 +143,7 @@ config_rises c k from to l = elim (cases_lt from 16) as (λ w. from < to) [
   | inr le ↦ (
       let few : length c.tables ≡ 16 = ap length k.filled ∙ sixteen k.flows in
       let none : flows_at c.tables from ≡ [] = get_or_past c.tables from [] (omega (arith, few, le)) in
-      let no : false ≡ true = subst (λ (x : List Flow). list_any (λ f. list_any (goes_to to) f.steps) x ≡ true) none l in
+      let no : false ≡ true = subst (λ (x : List Flow). list_any (λ f. list_any (goes_to to) f.instructions) x ≡ true) none l in
       absurd cc)
 ]
 

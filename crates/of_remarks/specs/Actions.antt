@@ -6,8 +6,11 @@ use Rattle.of_layers.specs.declared.field.Field.TheVariants.{InPort}
 use Rattle.of_oxm.specs.declared.match_field.MatchField.{MatchField}
 use Rattle.of_actions.specs.declared.action.Action.{Action}
 use Rattle.of_actions.specs.declared.action.Action.TheVariants.{Output, Group, DecNwTtl}
+use Rattle.of_actions.specs.declared.instruction.Instruction.{Instruction}
+use Rattle.of_actions.specs.declared.instruction.Instruction.TheVariants.{Clear, Write, Goto}
 use Rattle.of_actions.specs.PortNumbers.{is_number}
-use Rattle.of_text.specs.Flows.{Step, Apply, Clear, Write, Metadata, Goto, Flow}
+use Rattle.of_text.specs.Flows.{Flow}
+use Rattle.of_text.specs.Refusals.{some_action}
 
 -- ---- OUTPUT to the ingress port: nothing leaves there, since only IN_PORT sends a packet back (4.5 and 7.2.1)
 
@@ -23,15 +26,9 @@ abbrev pub is_output_to_port : ℕ → Action → Bool
 is_output_to_port port (Output to max_len) = to == port
 is_output_to_port port other = false
 
--- an action of APPLY_ACTIONS or of WRITE_ACTIONS passes the test
-abbrev pub some_action : (Action → Bool) → Step → Bool
-some_action test (Apply actions) = list_any test actions
-some_action test (Write actions) = list_any test actions
-some_action test other = false
-
 -- some action sends to the port
-abbrev pub some_output_to : ℕ → List Step → Bool
-some_output_to port steps = list_any (some_action (is_output_to_port port)) steps
+abbrev pub some_output_to : ℕ → List Instruction → Bool
+some_output_to port instructions = list_any (some_action (is_output_to_port port)) instructions
 
 -- ---- actions that nobody sees
 
@@ -47,25 +44,25 @@ abbrev pub silent : List Action → ℕ
 silent actions = suffix_len (λ a. not (may_send_packet a)) actions
 
 -- it puts an action into the action set that may send
-abbrev pub writes_sending : Step → Bool
+abbrev pub writes_sending : Instruction → Bool
 writes_sending (Write actions) = list_any may_send_packet actions
 writes_sending other = false
 
 abbrev pub some_writes_sending : List Flow → Bool
-some_writes_sending flows = list_any (λ f. list_any writes_sending f.steps) flows
+some_writes_sending flows = list_any (λ f. list_any writes_sending f.instructions) flows
 
-abbrev pub is_goto : Step → Bool
+abbrev pub is_goto : Instruction → Bool
 is_goto (Goto table) = true
 is_goto other = false
 
-abbrev pub is_clear : Step → Bool
+abbrev pub is_clear : Instruction → Bool
 is_clear Clear = true
 is_clear other = false
 
 -- AFTER THE APPLY_ACTIONS OF AN ENTRY OF A TABLE the packet may go on or be sent: by GOTO_TABLE, by what the entry writes into the action set,
 -- or by what entries of earlier tables wrote and it does not clear
-abbrev pub is_used_later : List (List Flow) → ℕ → List Step → Bool
-is_used_later tables table steps =
-    list_any is_goto steps
-    || list_any writes_sending steps
-    || (not (list_any is_clear steps) && list_any some_writes_sending (take table tables))
+abbrev pub is_used_later : List (List Flow) → ℕ → List Instruction → Bool
+is_used_later tables table instructions =
+    list_any is_goto instructions
+    || list_any writes_sending instructions
+    || (not (list_any is_clear instructions) && list_any some_writes_sending (take table tables))

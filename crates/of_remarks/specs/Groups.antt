@@ -5,10 +5,10 @@ use Rattle.of_actions.specs.declared.action.Action.{Action}
 use Rattle.of_groups.specs.declared.group.GroupKind.{GroupKind}
 use Rattle.of_groups.specs.declared.group.GroupKind.TheVariants.{All, Indirect, FastFailover}
 use Rattle.of_groups.specs.Buckets.{sends}
-use Rattle.of_text.specs.Flows.{Step, Flow}
+use Rattle.of_text.specs.Flows.{Flow}
 use Rattle.of_text.specs.Groups.{TextBucket, TextGroup}
+use Rattle.of_text.specs.Refusals.{some_action}
 use Rattle.of_text.specs.Configs.{Configuration}
-use Rattle.of_remarks.specs.Actions.{some_action}
 
 -- the action sends the packet to the group
 abbrev pub is_to_group : ℕ → Action → Bool
@@ -26,7 +26,7 @@ group_names n g = list_any (λ b. list_any (is_to_group n) b.actions || (is_watc
 
 -- an action of the entry does, in APPLY_ACTIONS or in WRITE_ACTIONS
 abbrev pub flow_names : ℕ → Flow → Bool
-flow_names n f = list_any (some_action (is_to_group n)) f.steps
+flow_names n f = list_any (some_action (is_to_group n)) f.instructions
 
 abbrev pub table_names : ℕ → List Flow → Bool
 table_names n flows = list_any (flow_names n) flows

@@ -2,7 +2,9 @@
 use Rattle.std.specs.Prelude.{ℕ, zero, suc, ◌==◌, Bool, true, false, not, ◌&&◌, List, [], ◌∷◌, ◌++◌, Option, Some, None, if◌then◌else◌}
 use Rattle.std.specs.List.{list_any, flat_map}
 use Rattle.of_oxm.specs.declared.match_field.MatchField.{MatchField}
-use Rattle.of_text.specs.Flows.{Step, Apply, Clear, Write, Metadata, Goto, Flow}
+use Rattle.of_actions.specs.declared.instruction.Instruction.{Instruction}
+use Rattle.of_actions.specs.declared.instruction.Instruction.TheVariants.{Apply, Goto}
+use Rattle.of_text.specs.Flows.{Flow}
 use Rattle.of_text.specs.Groups.{TextGroup}
 use Rattle.of_text.specs.Configs.{Configuration}
 use Rattle.of_remarks.specs.declared.remark.Remark.{Remark}
@@ -18,30 +20,30 @@ where_so applies remark = if applies then remark ∷ [] else []
 -- ---- a flow entry, which is named by its table, and its index there by age, from 0
 
 -- it goes on at a table without entries: there its packets are dropped (5.4)
-abbrev pub goto_remarks : List (List Flow) → ℕ → ℕ → Step → List Remark
+abbrev pub goto_remarks : List (List Flow) → ℕ → ℕ → Instruction → List Remark
 goto_remarks tables table place (Goto to) = where_so (is_empty (flows_at tables to)) (EmptyGoto table place to)
 goto_remarks tables table place other = []
 
 -- it sends to the ingress port that its match requires (4.5)
-abbrev pub port_remarks : ℕ → ℕ → List Step → Option ℕ → List Remark
-port_remarks table place steps None = []
-port_remarks table place steps (Some port) = where_so (some_output_to port steps) (IngressOutput table place port)
+abbrev pub port_remarks : ℕ → ℕ → List Instruction → Option ℕ → List Remark
+port_remarks table place instructions None = []
+port_remarks table place instructions (Some port) = where_so (some_output_to port instructions) (IngressOutput table place port)
 
-abbrev pub ingress_remarks : ℕ → ℕ → List Step → MatchField → List Remark
-ingress_remarks table place steps e = port_remarks table place steps (required_port e)
+abbrev pub ingress_remarks : ℕ → ℕ → List Instruction → MatchField → List Remark
+ingress_remarks table place instructions e = port_remarks table place instructions (required_port e)
 
 -- its last applied actions change a packet that is neither sent nor looked at after them (5.12)
-abbrev pub unseen_remarks : ℕ → ℕ → Step → List Remark
+abbrev pub unseen_remarks : ℕ → ℕ → Instruction → List Remark
 unseen_remarks table place (Apply actions) = where_so (not (silent actions == 0)) (UnseenActions table place (silent actions))
 unseen_remarks table place other = []
 
-abbrev pub end_remarks : List (List Flow) → ℕ → ℕ → List Step → List Remark
-end_remarks tables table place steps = if is_used_later tables table steps then [] else flat_map (unseen_remarks table place) steps
+abbrev pub end_remarks : List (List Flow) → ℕ → ℕ → List Instruction → List Remark
+end_remarks tables table place instructions = if is_used_later tables table instructions then [] else flat_map (unseen_remarks table place) instructions
 
 unfoldable pub flow_remarks : List (List Flow) → ℕ → ℕ → Flow → List Remark
 flow_remarks tables table place f =
-    flat_map (goto_remarks tables table place) f.steps
-    ++ (flat_map (ingress_remarks table place f.steps) f.fields ++ end_remarks tables table place f.steps)
+    flat_map (goto_remarks tables table place) f.instructions
+    ++ (flat_map (ingress_remarks table place f.instructions) f.fields ++ end_remarks tables table place f.instructions)
 
 -- those of these entries, of which the first has that index
 unfoldable pub flows_remarks : List (List Flow) → ℕ → ℕ → List Flow → List Remark

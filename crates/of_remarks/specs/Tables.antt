@@ -1,20 +1,15 @@
 -- THE TABLES OF A CONFIGURATION: which of them packets come to, and which have a table-miss flow entry (OpenFlow 1.3.5, 5.1, 5.4 and 5.9).
 use Rattle.std.specs.Prelude.{◌≡◌, ℕ, zero, suc, ◌==◌, Bool, true, false, ◌&&◌, ◌||◌, List, [], ◌∷◌, ◌++◌, length, slice_index_or, if◌then◌else◌}
 use Rattle.std.specs.List.{list_any}
-use Rattle.of_text.specs.Flows.{Step, Apply, Clear, Write, Metadata, Goto, Flow}
+use Rattle.of_text.specs.Flows.{Flow, goes_to}
 
 -- the flow entries of a table
 abbrev pub flows_at : List (List Flow) → ℕ → List Flow
 flows_at tables table = slice_index_or tables table []
 
--- GOTO_TABLE to that table
-abbrev pub goes_to : ℕ → Step → Bool
-goes_to to (Goto table) = table == to
-goes_to to other = false
-
 -- some entry of one table goes on at the other
 abbrev pub leads_to_table : List (List Flow) → ℕ → ℕ → Bool
-leads_to_table tables from to = list_any (λ f. list_any (goes_to to) f.steps) (flows_at tables from)
+leads_to_table tables from to = list_any (λ f. list_any (goes_to to) f.instructions) (flows_at tables from)
 
 -- each of these tables leads to the next, and the last is the one asked for
 abbrev pub is_way : List (List Flow) → ℕ → List ℕ → ℕ → Bool

@@ -1,14 +1,15 @@
 //! Actions without effect.
 ghost use Rattle.std.specs.Prelude.{◌≡◌, take};
 ghost use Rattle.std.specs.List.{list_any};
-ghost use Rattle.of_text.specs.Views.{view, view_flows, view_step};
-ghost use Rattle.of_remarks.specs.Actions.{is_clear as is_clearing, is_goto as is_going_on, is_in_port as is_ingress_field, is_output_to_port as is_sending_to, is_used_later as is_looked_at_later, may_send_packet as may_be_sent, required_port as ingress_required, silent as silent_count, some_action, some_output_to as is_some_output, some_writes_sending, writes_sending as is_writing};
+ghost use Rattle.of_text.specs.Refusals.{some_action};
+ghost use Rattle.of_text.specs.Views.{view, view_flows, view_instruction};
+ghost use Rattle.of_remarks.specs.Actions.{is_clear as is_clearing, is_goto as is_going_on, is_in_port as is_ingress_field, is_output_to_port as is_sending_to, is_used_later as is_looked_at_later, may_send_packet as may_be_sent, required_port as ingress_required, silent as silent_count, some_output_to as is_some_output, some_writes_sending, writes_sending as is_writing};
 
 use crate::tables::flows_of;
 use of_actions::{Action, is_number};
 use of_headers::Field;
 use of_oxm::MatchField;
-use of_text::{Config, FlowText, StepText};
+use of_text::{Config, FlowText, InstructionText};
 
 fn is_ingress(field: Field) -> bool
     ensures { result ≡ is_ingress_field field }
@@ -45,27 +46,32 @@ fn some_output(actions: &[Action], port: u32) -> bool
     actions.iter().any(|action| is_output_to(action, port))
 }
 
-fn outputs_to(step: &StepText, port: u32) -> bool
-    ensures { result ≡ some_action (is_sending_to port) (view_step step.now) }
+fn outputs_to(instruction: &InstructionText, port: u32) -> bool
+    ensures { result ≡ some_action (is_sending_to port) (view_instruction instruction.now) }
 {
-    match step {
-        StepText::Apply(actions) | StepText::Write(actions) => some_output(actions, port),
-        StepText::Clear | StepText::Metadata { .. } | StepText::Goto(_) => false,
+    match instruction {
+        InstructionText::Apply(actions) | InstructionText::Write(actions) => some_output(
+            actions, port,
+        ),
+        InstructionText::Clear | InstructionText::Metadata { .. } | InstructionText::Goto(_) =>
+            false,
     }
 }
 
-fn some_outputs_to(steps: &[StepText], port: u32) -> bool
-    ensures { result ≡ list_any (λ s. some_action (is_sending_to port) (view_step s)) steps.now }
+fn some_outputs_to(instructions: &[InstructionText], port: u32) -> bool
+    ensures { result ≡ list_any (λ s. some_action (is_sending_to port) (view_instruction s)) instructions.now }
 {
-    steps.iter().any(|step| outputs_to(step, port))
+    instructions
+        .iter()
+        .any(|instruction| outputs_to(instruction, port))
 }
 
 /// Whether some action of an entry sends to the port.
 #[tactic(auto, using(of_text::proofs::RefusalLemmas::mapped_any))]
 pub fn some_output_to(flow: &FlowText, port: u32) -> bool
-    ensures { result ≡ is_some_output port (view flow.now).steps }
+    ensures { result ≡ is_some_output port (view flow.now).instructions }
 {
-    some_outputs_to(&flow.steps, port)
+    some_outputs_to(&flow.instructions, port)
 }
 
 // Whether the packet may be sent as it is then.
@@ -95,31 +101,35 @@ fn some_may_send(actions: &[Action]) -> bool
     actions.iter().any(|action| may_send(action))
 }
 
-fn writes_sending(step: &StepText) -> bool
-    ensures { result ≡ is_writing (view_step step.now) }
+fn writes_sending(instruction: &InstructionText) -> bool
+    ensures { result ≡ is_writing (view_instruction instruction.now) }
 {
-    match step {
-        StepText::Write(actions) => some_may_send(actions),
-        StepText::Apply(_) | StepText::Clear | StepText::Metadata { .. } | StepText::Goto(_) =>
-            false,
+    match instruction {
+        InstructionText::Write(actions) => some_may_send(actions),
+        InstructionText::Apply(_)
+        | InstructionText::Clear
+        | InstructionText::Metadata { .. }
+        | InstructionText::Goto(_) => false,
     }
 }
 
-fn some_writes(steps: &[StepText]) -> bool
-    ensures { result ≡ list_any (λ s. is_writing (view_step s)) steps.now }
+fn some_writes(instructions: &[InstructionText]) -> bool
+    ensures { result ≡ list_any (λ s. is_writing (view_instruction s)) instructions.now }
 {
-    steps.iter().any(|step| writes_sending(step))
+    instructions
+        .iter()
+        .any(|instruction| writes_sending(instruction))
 }
 
 #[tactic(auto, using(of_text::proofs::RefusalLemmas::mapped_any))]
 fn flow_writes_sending(flow: &FlowText) -> bool
-    ensures { result ≡ list_any is_writing (view flow.now).steps }
+    ensures { result ≡ list_any is_writing (view flow.now).instructions }
 {
-    some_writes(&flow.steps)
+    some_writes(&flow.instructions)
 }
 
 fn any_writes_sending(flows: &[FlowText]) -> bool
-    ensures { result ≡ list_any (λ f. list_any is_writing (view f).steps) flows.now }
+    ensures { result ≡ list_any (λ f. list_any is_writing (view f).instructions) flows.now }
 {
     flows.iter().any(|flow| flow_writes_sending(flow))
 }
@@ -143,47 +153,47 @@ pub fn is_written_before(config: &Config, table: u8) -> bool
     false
 }
 
-fn is_goto(step: &StepText) -> bool
-    ensures { result ≡ is_going_on (view_step step.now) }
+fn is_goto(instruction: &InstructionText) -> bool
+    ensures { result ≡ is_going_on (view_instruction instruction.now) }
 {
-    matches!(step, StepText::Goto(_))
+    matches!(instruction, InstructionText::Goto(_))
 }
 
-fn is_clear(step: &StepText) -> bool
-    ensures { result ≡ is_clearing (view_step step.now) }
+fn is_clear(instruction: &InstructionText) -> bool
+    ensures { result ≡ is_clearing (view_instruction instruction.now) }
 {
-    matches!(step, StepText::Clear)
+    matches!(instruction, InstructionText::Clear)
 }
 
-fn go_on(steps: &[StepText]) -> bool
-    ensures { result ≡ list_any (λ s. is_going_on (view_step s)) steps.now }
+fn go_on(instructions: &[InstructionText]) -> bool
+    ensures { result ≡ list_any (λ s. is_going_on (view_instruction s)) instructions.now }
 {
-    steps.iter().any(|step| is_goto(step))
+    instructions.iter().any(|instruction| is_goto(instruction))
 }
 
-fn clear(steps: &[StepText]) -> bool
-    ensures { result ≡ list_any (λ s. is_clearing (view_step s)) steps.now }
+fn clear(instructions: &[InstructionText]) -> bool
+    ensures { result ≡ list_any (λ s. is_clearing (view_instruction s)) instructions.now }
 {
-    steps.iter().any(|step| is_clear(step))
+    instructions.iter().any(|instruction| is_clear(instruction))
 }
 
 #[tactic(auto, using(of_text::proofs::RefusalLemmas::mapped_any))]
 fn goes_on(flow: &FlowText) -> bool
-    ensures { result ≡ list_any is_going_on (view flow.now).steps }
+    ensures { result ≡ list_any is_going_on (view flow.now).instructions }
 {
-    go_on(&flow.steps)
+    go_on(&flow.instructions)
 }
 
 #[tactic(auto, using(of_text::proofs::RefusalLemmas::mapped_any))]
 fn clears(flow: &FlowText) -> bool
-    ensures { result ≡ list_any is_clearing (view flow.now).steps }
+    ensures { result ≡ list_any is_clearing (view flow.now).instructions }
 {
-    clear(&flow.steps)
+    clear(&flow.instructions)
 }
 
 /// Whether the packet may go on or be sent after the APPLY_ACTIONS of an entry, where it is known what earlier tables write (OpenFlow 1.3.5, 5.9).
 pub fn is_used_later(config: &Config, table: u8, flow: &FlowText) -> bool
-    ensures { result ≡ is_looked_at_later config.now.tables table (view flow.now).steps }
+    ensures { result ≡ is_looked_at_later config.now.tables table (view flow.now).instructions }
 {
     goes_on(flow) || flow_writes_sending(flow) || !clears(flow) && is_written_before(config, table)
 }

@@ -1,14 +1,14 @@
 //! Groups that nothing names.
 ghost use Rattle.std.specs.Prelude.{◌≡◌, ◌==◌, ◌&&◌, ◌||◌};
 ghost use Rattle.std.specs.List.{list_any};
-ghost use Rattle.of_text.specs.Views.{view, view_flows, view_step, view_bucket, view_group, view_groups};
-ghost use Rattle.of_remarks.specs.Actions.{some_action};
+ghost use Rattle.of_text.specs.Refusals.{some_action};
+ghost use Rattle.of_text.specs.Views.{view, view_flows, view_instruction, view_bucket, view_group, view_groups};
 ghost use Rattle.of_remarks.specs.Groups.{flow_names as is_flow_naming, group_names as is_group_naming, is_named as is_named_in, is_to_group as is_sending_to, is_watching as is_watching_kind, table_names as is_table_naming};
 
 use crate::tables::flows_of;
 use of_actions::Action;
 use of_groups::GroupKind;
-use of_text::{BucketText, Config, FlowText, GroupText, StepText};
+use of_text::{BucketText, Config, FlowText, GroupText, InstructionText};
 use of_wire::limits::TABLES;
 
 fn is_to_group(action: &Action, id: u32) -> bool
@@ -26,26 +26,31 @@ fn some_to_group(actions: &[Action], id: u32) -> bool
     actions.iter().any(|action| is_to_group(action, id))
 }
 
-fn step_names(step: &StepText, id: u32) -> bool
-    ensures { result ≡ some_action (is_sending_to id) (view_step step.now) }
+fn instruction_names(instruction: &InstructionText, id: u32) -> bool
+    ensures { result ≡ some_action (is_sending_to id) (view_instruction instruction.now) }
 {
-    match step {
-        StepText::Apply(actions) | StepText::Write(actions) => some_to_group(actions, id),
-        StepText::Clear | StepText::Metadata { .. } | StepText::Goto(_) => false,
+    match instruction {
+        InstructionText::Apply(actions) | InstructionText::Write(actions) => some_to_group(
+            actions, id,
+        ),
+        InstructionText::Clear | InstructionText::Metadata { .. } | InstructionText::Goto(_) =>
+            false,
     }
 }
 
-fn steps_name(steps: &[StepText], id: u32) -> bool
-    ensures { result ≡ list_any (λ s. some_action (is_sending_to id) (view_step s)) steps.now }
+fn instructions_name(instructions: &[InstructionText], id: u32) -> bool
+    ensures { result ≡ list_any (λ s. some_action (is_sending_to id) (view_instruction s)) instructions.now }
 {
-    steps.iter().any(|step| step_names(step, id))
+    instructions
+        .iter()
+        .any(|instruction| instruction_names(instruction, id))
 }
 
 #[tactic(auto, using(of_text::proofs::RefusalLemmas::mapped_any))]
 fn flow_names(flow: &FlowText, id: u32) -> bool
     ensures { result ≡ is_flow_naming id (view flow.now) }
 {
-    steps_name(&flow.steps, id)
+    instructions_name(&flow.instructions, id)
 }
 
 fn flows_name(flows: &[FlowText], id: u32) -> bool

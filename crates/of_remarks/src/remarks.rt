@@ -1,7 +1,7 @@
 //! The remarks on a configuration.
 ghost use Rattle.std.specs.Prelude.{◌≡◌, ◌++◌, ◌<◌, IfOk, OnOk};
 ghost use Rattle.std.specs.List.{flat_map};
-ghost use Rattle.of_text.specs.Views.{view, view_flows, view_group, view_groups, view_step};
+ghost use Rattle.of_text.specs.Views.{view, view_flows, view_group, view_groups, view_instruction};
 ghost use Rattle.of_remarks.specs.Tables.{flows_at, reached_below};
 ghost use Rattle.of_remarks.specs.Remarks.{end_remarks, flow_remarks, flows_remarks, goto_remarks, group_remarks, ingress_remarks, remarks_below, remarks_on as all_remarks, table_remarks, unseen_remarks, where_so};
 
@@ -10,7 +10,7 @@ use crate::groups::is_named;
 use crate::remark::Remark;
 use crate::tables::{flows_of, has_miss, is_among, reached_tables};
 use of_oxm::MatchField;
-use of_text::{Config, FlowText, GroupText, StepText};
+use of_text::{Config, FlowText, GroupText, InstructionText};
 use of_wire::limits::TABLES;
 use std::alloc::{AllocError, Global};
 
@@ -29,12 +29,12 @@ fn push_goto(
     config: &Config,
     table: u8,
     place: usize,
-    step: &StepText,
+    instruction: &InstructionText,
 ) -> Result<(), AllocError>
-    ensures { OnOk result (out.new.items ≡ out.old.items ++ goto_remarks config.now.tables table place (view_step step.now)) }
+    ensures { OnOk result (out.new.items ≡ out.old.items ++ goto_remarks config.now.tables table place (view_instruction instruction.now)) }
 {
-    match step {
-        StepText::Goto(to) => {
+    match instruction {
+        InstructionText::Goto(to) => {
             let empty = flows_of(config, *to).is_empty();
             push_where(
                 out,
@@ -46,9 +46,10 @@ fn push_goto(
                 },
             )
         }
-        StepText::Apply(_) | StepText::Clear | StepText::Write(_) | StepText::Metadata { .. } => Ok(
-            (),
-        ),
+        InstructionText::Apply(_)
+        | InstructionText::Clear
+        | InstructionText::Write(_)
+        | InstructionText::Metadata { .. } => Ok(()),
     }
 }
 
@@ -59,10 +60,10 @@ fn push_gotos(
     place: usize,
     flow: &FlowText,
 ) -> Result<(), AllocError>
-    ensures { OnOk result (out.new.items ≡ out.old.items ++ flat_map (goto_remarks config.now.tables table place) (view flow.now).steps) }
+    ensures { OnOk result (out.new.items ≡ out.old.items ++ flat_map (goto_remarks config.now.tables table place) (view flow.now).instructions) }
 {
-    for step in &flow.steps {
-        push_goto(out, config, table, place, step)?;
+    for instruction in &flow.instructions {
+        push_goto(out, config, table, place, instruction)?;
     }
     Ok(())
 }
@@ -74,7 +75,7 @@ fn push_port(
     flow: &FlowText,
     e: &MatchField,
 ) -> Result<(), AllocError>
-    ensures { OnOk result (out.new.items ≡ out.old.items ++ ingress_remarks table place (view flow.now).steps e.now) }
+    ensures { OnOk result (out.new.items ≡ out.old.items ++ ingress_remarks table place (view flow.now).instructions e.now) }
 {
     match required_port(e) {
         None => Ok(()),
@@ -91,7 +92,7 @@ fn push_ports(
     place: usize,
     flow: &FlowText,
 ) -> Result<(), AllocError>
-    ensures { OnOk result (out.new.items ≡ out.old.items ++ flat_map (ingress_remarks table place (view flow.now).steps) (view flow.now).fields) }
+    ensures { OnOk result (out.new.items ≡ out.old.items ++ flat_map (ingress_remarks table place (view flow.now).instructions) (view flow.now).fields) }
 {
     for e in &flow.fields {
         push_port(out, table, place, flow, e)?;
@@ -103,12 +104,12 @@ fn push_unseen(
     out: &mut Vec<Remark>,
     table: u8,
     place: usize,
-    step: &StepText,
+    instruction: &InstructionText,
 ) -> Result<(), AllocError>
-    ensures { OnOk result (out.new.items ≡ out.old.items ++ unseen_remarks table place (view_step step.now)) }
+    ensures { OnOk result (out.new.items ≡ out.old.items ++ unseen_remarks table place (view_instruction instruction.now)) }
 {
-    match step {
-        StepText::Apply(actions) => {
+    match instruction {
+        InstructionText::Apply(actions) => {
             let count = silent(actions);
             push_where(
                 out,
@@ -120,9 +121,10 @@ fn push_unseen(
                 },
             )
         }
-        StepText::Clear | StepText::Write(_) | StepText::Metadata { .. } | StepText::Goto(_) => Ok(
-            (),
-        ),
+        InstructionText::Clear
+        | InstructionText::Write(_)
+        | InstructionText::Metadata { .. }
+        | InstructionText::Goto(_) => Ok(()),
     }
 }
 
@@ -132,10 +134,10 @@ fn push_all_unseen(
     place: usize,
     flow: &FlowText,
 ) -> Result<(), AllocError>
-    ensures { OnOk result (out.new.items ≡ out.old.items ++ flat_map (unseen_remarks table place) (view flow.now).steps) }
+    ensures { OnOk result (out.new.items ≡ out.old.items ++ flat_map (unseen_remarks table place) (view flow.now).instructions) }
 {
-    for step in &flow.steps {
-        push_unseen(out, table, place, step)?;
+    for instruction in &flow.instructions {
+        push_unseen(out, table, place, instruction)?;
     }
     Ok(())
 }
@@ -147,7 +149,7 @@ fn push_end(
     place: usize,
     flow: &FlowText,
 ) -> Result<(), AllocError>
-    ensures { OnOk result (out.new.items ≡ out.old.items ++ end_remarks config.now.tables table place (view flow.now).steps) }
+    ensures { OnOk result (out.new.items ≡ out.old.items ++ end_remarks config.now.tables table place (view flow.now).instructions) }
 {
     if is_used_later(config, table, flow) {
         return Ok(());

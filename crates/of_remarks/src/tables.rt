@@ -1,10 +1,11 @@
 //! The tables that packets come to.
 ghost use Rattle.std.specs.Prelude.{◌≡◌, ◌==◌, IfOk};
 ghost use Rattle.std.specs.List.{list_any};
-ghost use Rattle.of_text.specs.Views.{view, view_flows, view_step};
-ghost use Rattle.of_remarks.specs.Tables.{flows_at, goes_to as is_going_to, leads_to_table as is_leading, is_led_to as are_leading, is_table_miss_flow as is_table_miss, is_reached as is_reached_in, reached_below};
+ghost use Rattle.of_text.specs.Flows.{goes_to as is_going_to};
+ghost use Rattle.of_text.specs.Views.{view, view_flows, view_instruction};
+ghost use Rattle.of_remarks.specs.Tables.{flows_at, leads_to_table as is_leading, is_led_to as are_leading, is_table_miss_flow as is_table_miss, is_reached as is_reached_in, reached_below};
 
-use of_text::{Config, FlowText, StepText};
+use of_text::{Config, FlowText, InstructionText};
 use of_wire::limits::TABLES;
 use std::alloc::{AllocError, Global};
 
@@ -20,31 +21,23 @@ pub fn flows_of(config: &Config, table: u8) -> &[FlowText]
     }
 }
 
-fn goes_to(step: &StepText, to: u8) -> bool
-    ensures { result ≡ is_going_to to (view_step step.now) }
+fn some_goes(instructions: &[InstructionText], to: u8) -> bool
+    ensures { result ≡ list_any (λ s. is_going_to to (view_instruction s)) instructions.now }
 {
-    match step {
-        StepText::Goto(table) => *table == to,
-        StepText::Apply(_) | StepText::Clear | StepText::Write(_) | StepText::Metadata { .. } =>
-            false,
-    }
-}
-
-fn some_goes(steps: &[StepText], to: u8) -> bool
-    ensures { result ≡ list_any (λ s. is_going_to to (view_step s)) steps.now }
-{
-    steps.iter().any(|step| goes_to(step, to))
+    instructions
+        .iter()
+        .any(|instruction| instruction.goes_to(to))
 }
 
 #[tactic(auto, using(of_text::proofs::RefusalLemmas::mapped_any))]
 fn flow_goes_to(flow: &FlowText, to: u8) -> bool
-    ensures { result ≡ list_any (is_going_to to) (view flow.now).steps }
+    ensures { result ≡ list_any (is_going_to to) (view flow.now).instructions }
 {
-    some_goes(&flow.steps, to)
+    some_goes(&flow.instructions, to)
 }
 
 fn any_goes_to(flows: &[FlowText], to: u8) -> bool
-    ensures { result ≡ list_any (λ f. list_any (is_going_to to) (view f).steps) flows.now }
+    ensures { result ≡ list_any (λ f. list_any (is_going_to to) (view f).instructions) flows.now }
 {
     flows.iter().any(|flow| flow_goes_to(flow, to))
 }
@@ -52,7 +45,7 @@ fn any_goes_to(flows: &[FlowText], to: u8) -> bool
 // Whether some of these entries goes on at the table.
 #[tactic(auto, using(of_text::proofs::RefusalLemmas::mapped_any))]
 fn lead(flows: &[FlowText], to: u8) -> bool
-    ensures { result ≡ list_any (λ f. list_any (is_going_to to) f.steps) (view_flows flows.now) }
+    ensures { result ≡ list_any (λ f. list_any (is_going_to to) f.instructions) (view_flows flows.now) }
 {
     any_goes_to(flows, to)
 }

@@ -18,7 +18,7 @@ use Rattle.of_lines.specs.declared.row.FlowHead.{FlowHead}
 use Rattle.of_text.specs.Groups.{TextGroup, rows_of_groups}
 use Rattle.of_lines.specs.Reading.{◌>>=◌}
 use Rattle.of_lines.specs.Order.{start_place, following, following_all, flow_next, flow_standing}
-use Rattle.of_text.specs.Flows.{Flow, flow_rows, rows_of_all_flows, step_rows, text_rows}
+use Rattle.of_text.specs.Flows.{Flow, flow_rows, rows_of_all_flows, instruction_rows, text_rows}
 use Rattle.of_text.specs.Refusals.{all_there, flow_refusals, table_refusals}
 use Rattle.of_text.specs.Texts.{AreRows}
 use Rattle.of_text.specs.First.{flows_for, refusals_behind, refused_from, refused_group, first_refusal}
@@ -156,7 +156,7 @@ both_stand gs fs a b = ap (λ (o : Option (ℕ × Code)). option_map_or Some o (
 -- ---- they are in order
 
 abbrev pub body : Flow → List Row
-body f = map rows.Match f.fields ++ flat_map step_rows f.steps
+body f = map rows.Match f.fields ++ flat_map instruction_rows f.instructions
 
 pub record IsWhole (f : Flow) : Type 0 where
   pub fits : AllByRecursion Fits (flow_rows f)

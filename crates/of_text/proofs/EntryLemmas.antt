@@ -19,6 +19,7 @@ use Rattle.of_oxm.specs.Prerequisites.{prerequisites_met}
 use Rattle.of_actions.specs.declared.action.Action.{Action}
 use Rattle.of_actions.specs.declared.action.Action.TheVariants.{Output, PushVlan, SetField}
 use Rattle.of_actions.specs.declared.instruction.Instruction.{Instruction}
+use Rattle.of_actions.specs.declared.instruction.Instruction.TheVariants.{Apply, Clear, Write, Metadata, Goto}
 use Rattle.of_actions.specs.PortNumbers.{is_port}
 use Rattle.of_actions.specs.Headers.{is_next}
 use Rattle.of_actions.specs.Supported.{is_supported, are_supported}
@@ -31,9 +32,9 @@ use Rattle.of_lines.specs.Rows.{Fits, ActionFits, FieldFits, IsMask}
 use Rattle.of_lines.specs.Order.{flow_next, flow_standing}
 use Rattle.of_lines.specs.Reading.{◌>>=◌}
 use Rattle.of_text.specs.Groups.{TextGroup}
-use Rattle.of_text.specs.Flows.{Step, Apply, Clear, Write, Metadata, Goto, Flow, step_rows}
-use Rattle.of_text.specs.Refusals.{text_field_refusals, text_action_refusals, list_refusals, step_refusals, goto_refusals, goes_with, match_refusals, steps_refusals, flow_refusals, table_refusals, or_else}
-use Rattle.of_text.specs.Kept.{instruction_of, IsEntry, StandsBehind, AllStandBehind}
+use Rattle.of_text.specs.Flows.{Flow, instruction_rows}
+use Rattle.of_text.specs.Refusals.{text_field_refusals, text_action_refusals, list_refusals, instruction_refusals, goto_refusals, match_refusals, instructions_refusals, flow_refusals, table_refusals, or_else}
+use Rattle.of_text.specs.Kept.{IsEntry, StandsBehind, AllStandBehind}
 use Rattle.of_text.specs.First.{flows_for}
 use Rattle.of_text.specs.Configs.{Configuration, IsConfig}
 use Rattle.of_text.proofs.RefusalLemmas.{first_append}
@@ -114,26 +115,26 @@ fields_rise p (e ∷ es) rest h =
 
 -- ---- instructions
 
-step_after : (p : ℕ) (s : Step) (rest : List Row) → IsSome (flow_standing p (step_rows s ++ rest)) → (p ≤ 40 + run_place (instruction_of s)) × IsSome (flow_standing (41 + run_place (instruction_of s)) rest)
+instruction_after : (p : ℕ) (s : Instruction) (rest : List Row) → IsSome (flow_standing p (instruction_rows s ++ rest)) → (p ≤ 40 + run_place s) × IsSome (flow_standing (41 + run_place s) rest)
 unfolding flow_next
-step_after p (Apply xs) rest h =
+instruction_after p (Apply xs) rest h =
     let parts = some_bind (nat_le p 40) 41 (λ q. flow_standing q (map rows.Do xs ++ rest)) h in
     (leb-true p 40 parts.0, subst IsSome (actions_stand 41 xs rest refl) parts.1)
-step_after p Clear rest h = let parts = some_bind (nat_le p 41) 42 (λ q. flow_standing q rest) h in (leb-true p 41 parts.0, parts.1)
-step_after p (Write xs) rest h =
+instruction_after p Clear rest h = let parts = some_bind (nat_le p 41) 42 (λ q. flow_standing q rest) h in (leb-true p 41 parts.0, parts.1)
+instruction_after p (Write xs) rest h =
     let parts = some_bind (nat_le p 42) 43 (λ q. flow_standing q (map rows.Do xs ++ rest)) h in
     (leb-true p 42 parts.0, subst IsSome (actions_stand 43 xs rest refl) parts.1)
-step_after p (Metadata v m) rest h = let parts = some_bind (nat_le p 43) 44 (λ q. flow_standing q rest) h in (leb-true p 43 parts.0, parts.1)
-step_after p (Goto t) rest h = let parts = some_bind (nat_le p 44) 45 (λ q. flow_standing q rest) h in (leb-true p 44 parts.0, parts.1)
+instruction_after p (Metadata v m) rest h = let parts = some_bind (nat_le p 43) 44 (λ q. flow_standing q rest) h in (leb-true p 43 parts.0, parts.1)
+instruction_after p (Goto t) rest h = let parts = some_bind (nat_le p 44) 45 (λ q. flow_standing q rest) h in (leb-true p 44 parts.0, parts.1)
 
-steps_rise : (p : ℕ) (ss : List Step) → IsSome (flow_standing p (flat_map step_rows ss)) → AllByRecursion (λ i. p ≤ 40 + run_place i) (map instruction_of ss) × (is_ascending run_place (map instruction_of ss) ≡ true)
-steps_rise p [] h = (tt, refl)
-steps_rise p (s ∷ ss) h =
-    let n = run_place (instruction_of s) in
-    let parts = step_after p s (flat_map step_rows ss) h in
-    let others = steps_rise (41 + n) ss parts.1 in
+instructions_rise : (p : ℕ) (ss : List Instruction) → IsSome (flow_standing p (flat_map instruction_rows ss)) → AllByRecursion (λ i. p ≤ 40 + run_place i) ss × (is_ascending run_place ss ≡ true)
+instructions_rise p [] h = (tt, refl)
+instructions_rise p (s ∷ ss) h =
+    let n = run_place s in
+    let parts = instruction_after p s (flat_map instruction_rows ss) h in
+    let others = instructions_rise (41 + n) ss parts.1 in
     let low : p ≤ 40 + n = parts.0 in
-    ((low, lower p n low (map instruction_of ss) others.0), and_from _ _ (above n (map instruction_of ss) others.0) others.1)
+    ((low, lower p n low ss others.0), and_from _ _ (above n ss others.0) others.1)
   where
     lower : (p n : ℕ) → p ≤ 40 + n → (xs : List Instruction) → AllByRecursion (λ i. 41 + n ≤ 40 + run_place i) xs → AllByRecursion (λ i. p ≤ 40 + run_place i) xs
     lower p n l [] h = tt
@@ -165,31 +166,23 @@ list_served xs k h =
     let all : first_of (flat_map text_action_refusals xs) ≡ None = ap (λ (ys : List Action). first_of (flat_map text_action_refusals ys)) (sym (take_all 64 xs few)) ∙ parts.0 in
     and_from (nat_le (length xs) 64) (list_all (is_supported false) xs) (le-leb (length xs) 64 few) (each_served xs k (none_each text_action_refusals xs all))
 
-step_served : (table : ℕ) (s : Step) → AllByRecursion Fits (step_rows s) → first_of (step_refusals s) ≡ None → first_of (goto_refusals table s) ≡ None → (is_served_body (instruction_of s) ≡ true) × (is_for table (instruction_of s) ≡ true)
-unfolding step_refusals
-step_served table (Apply xs) k h g = (list_served xs k.1 h, refl)
-step_served table Clear k h g = (refl, refl)
-step_served table (Write xs) k h g = (list_served xs k.1 h, refl)
-step_served table (Metadata v m) k h g = (and_from (nat_lt v (2 ^ 64)) (nat_lt m (2 ^ 64)) (lt-ltb v (2 ^ 64) k.0.0) (lt-ltb m (2 ^ 64) k.0.1), refl)
-step_served table (Goto to) k h g =
+instruction_served : (table : ℕ) (s : Instruction) → AllByRecursion Fits (instruction_rows s) → first_of (instruction_refusals s) ≡ None → first_of (goto_refusals table s) ≡ None → (is_served_body s ≡ true) × (is_for table s ≡ true)
+unfolding instruction_refusals
+instruction_served table (Apply xs) k h g = (list_served xs k.1 h, refl)
+instruction_served table Clear k h g = (refl, refl)
+instruction_served table (Write xs) k h g = (list_served xs k.1 h, refl)
+instruction_served table (Metadata v m) k h g = (and_from (nat_lt v (2 ^ 64)) (nat_lt m (2 ^ 64)) (lt-ltb v (2 ^ 64) k.0.0) (lt-ltb m (2 ^ 64) k.0.1), refl)
+instruction_served table (Goto to) k h g =
     let next : is_next table to ≡ true = not-false _ (none_next _ [] g).0 in
     let parts = and_parts (nat_lt table to) (nat_lt to 16) next in
     (parts.1, parts.0)
 
-steps_served : (table : ℕ) (ss : List Step) → AllByRecursion Fits (flat_map step_rows ss) → AllByRecursion (λ s. first_of (step_refusals s) ≡ None) ss → AllByRecursion (λ s. first_of (goto_refusals table s) ≡ None) ss → (list_all is_served_body (map instruction_of ss) ≡ true) × (are_for table (map instruction_of ss) ≡ true)
-steps_served table [] k h g = (refl, refl)
-steps_served table (s ∷ ss) k h g =
-    let one = step_served table s (all_front Fits (step_rows s) (flat_map step_rows ss) k) h.0 g.0 in
-    let others = steps_served table ss (all_back Fits (step_rows s) (flat_map step_rows ss) k) h.1 g.1 in
+instructions_served : (table : ℕ) (ss : List Instruction) → AllByRecursion Fits (flat_map instruction_rows ss) → AllByRecursion (λ s. first_of (instruction_refusals s) ≡ None) ss → AllByRecursion (λ s. first_of (goto_refusals table s) ≡ None) ss → (list_all is_served_body ss ≡ true) × (are_for table ss ≡ true)
+instructions_served table [] k h g = (refl, refl)
+instructions_served table (s ∷ ss) k h g =
+    let one = instruction_served table s (all_front Fits (instruction_rows s) (flat_map instruction_rows ss) k) h.0 g.0 in
+    let others = instructions_served table ss (all_back Fits (instruction_rows s) (flat_map instruction_rows ss) k) h.1 g.1 in
     (and_from _ _ one.0 others.0, and_from _ _ one.1 others.1)
-
-pub goes_same : (m : List MatchField) (ss : List Step) → all_go_with m (map instruction_of ss) ≡ list_all (goes_with m) ss
-goes_same m [] = refl
-goes_same m (Apply xs ∷ ss) = ap (λ (b : Bool). goes_with m (Apply xs) && b) (goes_same m ss)
-goes_same m (Clear ∷ ss) = ap (λ (b : Bool). true && b) (goes_same m ss)
-goes_same m (Write xs ∷ ss) = ap (λ (b : Bool). goes_with m (Write xs) && b) (goes_same m ss)
-goes_same m (Metadata v n ∷ ss) = ap (λ (b : Bool). true && b) (goes_same m ss)
-goes_same m (Goto t ∷ ss) = ap (λ (b : Bool). true && b) (goes_same m ss)
 
 -- ---- flows
 
@@ -203,30 +196,30 @@ match_is m rest k o h =
       met = not-false (prerequisites_met m) (none_next _ [] parts.1).0;
     }
 
-behind_fields : (m : List MatchField) (ss : List Step) → IsSome (flow_standing 0 (map rows.Match m ++ flat_map step_rows ss)) → is_ascending run_place (map instruction_of ss) ≡ true
+behind_fields : (m : List MatchField) (ss : List Instruction) → IsSome (flow_standing 0 (map rows.Match m ++ flat_map instruction_rows ss)) → is_ascending run_place ss ≡ true
 behind_fields m ss o =
-    let both = flow_both 0 (map rows.Match m) (flat_map step_rows ss) in
-    let next = some_front (flow_standing 0 (map rows.Match m)) (λ q. flow_standing q (flat_map step_rows ss)) (subst IsSome both o) in
-    (steps_rise next.0 ss (rw next.1 at (subst IsSome both o))).1
+    let both = flow_both 0 (map rows.Match m) (flat_map instruction_rows ss) in
+    let next = some_front (flow_standing 0 (map rows.Match m)) (λ q. flow_standing q (flat_map instruction_rows ss)) (subst IsSome both o) in
+    (instructions_rise next.0 ss (rw next.1 at (subst IsSome both o))).1
 
 flow_entry : (f : Flow) → IsWhole f → first_of (flow_refusals f) ≡ None → IsEntry f.head.table f
-unfolding flow_refusals steps_refusals
+unfolding flow_refusals instructions_refusals
 flow_entry f w h =
     let table = f.head.table in
-    let steps = flat_map step_rows f.steps in
-    let fits : AllByRecursion Fits (map rows.Match f.fields ++ steps) = w.fits.1 in
-    let check : List (Bool × Code) = (not (list_all (goes_with f.fields) f.steps), refusal 2 10) ∷ [] in
-    let behind : List (Bool × Code) = match_refusals f.fields ++ steps_refusals table f.fields f.steps in
+    let instructions = flat_map instruction_rows f.instructions in
+    let fits : AllByRecursion Fits (map rows.Match f.fields ++ instructions) = w.fits.1 in
+    let check : List (Bool × Code) = (not (all_go_with f.fields f.instructions), refusal 2 10) ∷ [] in
+    let behind : List (Bool × Code) = match_refusals f.fields ++ instructions_refusals table f.fields f.instructions in
     let flags : Bool × Code = (not (eqb (bit_and f.head.flags 25) f.head.flags), refusal 5 7) in
-    let parts = none_both (match_refusals f.fields) (steps_refusals table f.fields f.steps) (none_next flags behind (none_next (nat_lt 15 table, refusal 5 2) (flags ∷ behind) h).1).1 in
-    let gotos = none_both (flat_map (goto_refusals table) f.steps) (flat_map step_refusals f.steps ++ check) parts.1 in
-    let lists = none_both (flat_map step_refusals f.steps) check gotos.1 in
-    let served = steps_served table f.steps (all_back Fits (map rows.Match f.fields) steps fits) (none_each step_refusals f.steps lists.0) (none_each (goto_refusals table) f.steps gotos.0) in
+    let parts = none_both (match_refusals f.fields) (instructions_refusals table f.fields f.instructions) (none_next flags behind (none_next (nat_lt 15 table, refusal 5 2) (flags ∷ behind) h).1).1 in
+    let gotos = none_both (flat_map (goto_refusals table) f.instructions) (flat_map instruction_refusals f.instructions ++ check) parts.1 in
+    let lists = none_both (flat_map instruction_refusals f.instructions) check gotos.1 in
+    let served = instructions_served table f.instructions (all_back Fits (map rows.Match f.fields) instructions fits) (none_each instruction_refusals f.instructions lists.0) (none_each (goto_refusals table) f.instructions gotos.0) in
     record {
-      fields = match_is f.fields steps (all_front Fits (map rows.Match f.fields) steps fits) w.order parts.0;
-      kept = and_from _ _ (behind_fields f.fields f.steps w.order) served.0;
+      fields = match_is f.fields instructions (all_front Fits (map rows.Match f.fields) instructions fits) w.order parts.0;
+      kept = and_from _ _ (behind_fields f.fields f.instructions w.order) served.0;
       leads_on = served.1;
-      checked = goes_same f.fields f.steps ∙ not-false _ (none_next (not (list_all (goes_with f.fields) f.steps), refusal 2 10) [] lists.1).0;
+      checked = not-false _ (none_next (not (all_go_with f.fields f.instructions), refusal 2 10) [] lists.1).0;
     }
 
 table_entries : (gs : List TextGroup) (table : ℕ) (before fs : List Flow) → AllFor table fs → AllByRecursion IsWhole fs → Stand gs before fs → AllByRecursion (IsEntry table) fs
@@ -249,7 +242,7 @@ flow_stands : (gs : List TextGroup) (before : List Flow) (f : Flow) → first_of
 unfolding flow_refusals table_refusals
 flow_stands gs before f h =
     let parts = none_both (flow_refusals f) (table_refusals gs before f) h in
-    let behind : List (Bool × Code) = match_refusals f.fields ++ steps_refusals f.head.table f.fields f.steps in
+    let behind : List (Bool × Code) = match_refusals f.fields ++ instructions_refusals f.head.table f.fields f.instructions in
     let flags : Bool × Code = (not (eqb (bit_and f.head.flags 25) f.head.flags), refusal 5 7) in
     let own = none_next flags behind (none_next (nat_lt 15 f.head.table, refusal 5 2) (flags ∷ behind) parts.0).1 in
     let beside = none_applies (table_refusals gs before f) parts.1 in

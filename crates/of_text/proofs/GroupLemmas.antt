@@ -25,11 +25,11 @@ use Rattle.of_lines.specs.Rows.{Fits}
 use Rattle.of_lines.specs.Order.{start_place, following, following_all}
 use Rattle.of_lines.specs.Reading.{◌>>=◌}
 use Rattle.of_text.specs.Groups.{TextBucket, TextGroup, bucket_rows, group_rows, rows_of_groups, bucket_of, buckets_of, group_at, groups_at}
-use Rattle.of_text.specs.Flows.{text_rows}
+use Rattle.of_text.specs.Flows.{Flow, text_rows}
 use Rattle.of_text.specs.Texts.{AreRows}
 use Rattle.of_text.specs.Refusals.{list_refusals, buckets_refusals, group_refusals, counted_as, there_from, all_there, naming_refusals}
 use Rattle.of_text.specs.First.{refused_group}
-use Rattle.of_text.specs.Kept.{AreKeptGroups, KeptFlow, IsKeptFlow, in_text}
+use Rattle.of_text.specs.Kept.{AreKeptGroups, IsKeptFlow}
 use Rattle.of_text.specs.Configs.{Configuration, IsConfig}
 use Rattle.of_text.proofs.TextLemmas.{all_front, all_back}
 use Rattle.of_text.proofs.GatherLemmas.{in_group, next_in, bind_cond}
@@ -230,7 +230,7 @@ config_groups c k =
     }
 
 -- what a switch may keep may be written
-pub kept_rows : (gs : List TextGroup) (fs : List KeptFlow) → AreKeptGroups gs → AllByRecursion IsKeptFlow fs → AreRows (text_rows gs (map in_text fs))
+pub kept_rows : (gs : List TextGroup) (fs : List Flow) → AreKeptGroups gs → AllByRecursion IsKeptFlow fs → AreRows (text_rows gs fs)
 kept_rows gs fs g h =
     let place = all_placed gs g.sound.rising in
-    rows_from gs (map in_text fs) (record { fits = g.fits; place = place.0; order = place.1; whole = each_whole 0 (map in_text fs) (flows.flows_fit fs h) (flows.flows_stand 0 fs h) })
+    rows_from gs fs (record { fits = g.fits; place = place.0; order = place.1; whole = each_whole 0 fs (flows.flows_fit fs h) (flows.flows_stand 0 fs h) })

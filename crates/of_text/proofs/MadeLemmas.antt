@@ -23,6 +23,18 @@ mapped_more {X} {Y} {Z} f g ys i d x old new all lt is e n h =
     ∙ (ap (λ (z : Z). map f old ++ z ∷ rest) e
     ∙ (ap (λ (zs : List Y). map f old ++ map g zs) (sym here) ∙ h))))
 
+-- one more element, which is seen as the next one
+pub seen_more : {X Y : Type 0} (f : X → Y) (ys : List Y) (i : ℕ) (d : Y) (x : X) (old new : List X) → i < length ys → d ≡ get_or ys i d → f x ≡ d → new ≡ old ++ x ∷ [] → map f old ++ drop i ys ≡ ys → map f new ++ drop (i + 1) ys ≡ ys
+seen_more {X} {Y} f ys i d x old new lt is e n h =
+    let rest : List Y = drop (i + 1) ys in
+    let parts : drop i ys ≡ get_or ys i d ∷ rest = rw (add-one, drop-cons ys i d) refl in
+    let here : drop i ys ≡ d ∷ rest = parts ∙ ap (λ (y : Y). y ∷ rest) (sym is) in
+    ap (λ (xs : List X). map f xs ++ rest) n
+    ∙ (ap (λ (zs : List Y). zs ++ rest) (map-append f old (x ∷ []))
+    ∙ (append_assoc (map f old) (f x ∷ []) rest
+    ∙ (ap (λ (z : Y). map f old ++ z ∷ rest) e
+    ∙ (ap (λ (zs : List Y). map f old ++ zs) (sym here) ∙ h))))
+
 -- and whose lines are within their bounds
 pub fits_more : {X Y : Type 0} (see : X → Y) (rows : Y → List Row) (old new : List X) (x : X) → new ≡ old ++ x ∷ [] → AllByRecursion Fits (rows (see x)) → AllByRecursion Fits (flat_map rows (map see old)) → AllByRecursion Fits (flat_map rows (map see new))
 fits_more {X} see rows old new x n one h = rw n (by_list old h)

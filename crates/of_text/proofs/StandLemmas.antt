@@ -15,7 +15,10 @@ use Rattle.of_oxm.specs.MatchFieldWire.{value_refusals}
 use Rattle.of_oxm.specs.NormalForm.{IsKept, IsKeptMask, IsMatch}
 use Rattle.of_actions.specs.declared.action.Action.{Action}
 use Rattle.of_actions.specs.declared.action.Action.TheVariants.{Output, PushVlan, SetField}
+use Rattle.of_actions.specs.declared.instruction.Instruction.{Instruction}
+use Rattle.of_actions.specs.declared.instruction.Instruction.TheVariants.{Apply, Clear, Write, Metadata, Goto}
 use Rattle.of_actions.specs.PortNumbers.{is_port}
+use Rattle.of_actions.specs.FlowCheck.{all_go_with}
 use Rattle.of_actions.specs.Rising.{is_ascending}
 use Rattle.of_actions.specs.Supported.{is_supported, are_supported}
 use Rattle.of_actions.specs.InstructionLists.{is_served_body, is_for, run_place}
@@ -27,15 +30,14 @@ use Rattle.of_groups.specs.Faults.{is_absent, is_bad_watch, is_not_one}
 use Rattle.of_groups.specs.Sound.{is_fit_group, is_whole}
 use Rattle.of_groups.proofs.ChainLaws.{chain_at_most}
 use Rattle.of_text.specs.Groups.{TextBucket, TextGroup, bucket_of, buckets_of, group_at, groups_at}
-use Rattle.of_text.specs.Flows.{Step, Apply, Clear, Write, Metadata, Goto, Flow, text_rows}
-use Rattle.of_text.specs.Refusals.{text_field_refusals, text_action_refusals, list_refusals, step_refusals, goto_refusals, goes_with, match_refusals, steps_refusals, flow_refusals, table_refusals, buckets_refusals, group_refusals, naming_refusals, there_from, all_there}
+use Rattle.of_text.specs.Flows.{Flow, text_rows}
+use Rattle.of_text.specs.Refusals.{text_field_refusals, text_action_refusals, list_refusals, instruction_refusals, goto_refusals, match_refusals, instructions_refusals, flow_refusals, table_refusals, buckets_refusals, group_refusals, naming_refusals, there_from, all_there}
 use Rattle.of_text.specs.Texts.{AreRows}
 use Rattle.of_text.specs.First.{flows_for, refused_from, refused_group}
-use Rattle.of_text.specs.Kept.{KeptFlow, IsKeptFlow, in_text, step_of, instruction_of, instructions_of, IsEntry, StandsBehind, AllStandBehind, AreKeptGroups}
+use Rattle.of_text.specs.Kept.{IsKeptFlow, IsEntry, StandsBehind, AllStandBehind, AreKeptGroups}
 use Rattle.of_text.specs.Configs.{Configuration, IsConfig, all_flows, tables_from, tables_of_flows}
 use Rattle.of_text.specs.KeptConfigs.{IsHeaded, AreKeptTables, IsKeptConfig}
 use Rattle.of_text.proofs.RefusalLemmas.{first_append}
-use Rattle.of_text.proofs.EntryLemmas.{goes_same}
 use Rattle.of_text.proofs.ConfigLemmas.{Stand, AllFor, stands_on, same_tables, both_stand}
 use Rattle.of_text.proofs.GroupLemmas.{kept_rows}
 
@@ -96,46 +98,45 @@ list_stands xs h =
     ∙ none_all text_action_refusals xs (all_true (λ a. first_of (text_action_refusals a) ≡ None) (is_supported false) action_stands xs parts.1) in
     none_joined (flat_map text_action_refusals (take 64 xs)) _ each (rw (not_above 64 (length xs) few) refl)
 
-step_stands : (s : Step) → is_served_body (instruction_of s) ≡ true → first_of (step_refusals s) ≡ None
-unfolding step_refusals
-step_stands (Apply xs) h = list_stands xs h
-step_stands Clear h = refl
-step_stands (Write xs) h = list_stands xs h
-step_stands (Metadata v m) h = refl
-step_stands (Goto t) h = refl
+instruction_stands : (s : Instruction) → is_served_body s ≡ true → first_of (instruction_refusals s) ≡ None
+unfolding instruction_refusals
+instruction_stands (Apply xs) h = list_stands xs h
+instruction_stands Clear h = refl
+instruction_stands (Write xs) h = list_stands xs h
+instruction_stands (Metadata v m) h = refl
+instruction_stands (Goto t) h = refl
 
-goto_stands : (table : ℕ) (s : Step) → is_served_body (instruction_of s) ≡ true → is_for table (instruction_of s) ≡ true → first_of (goto_refusals table s) ≡ None
+goto_stands : (table : ℕ) (s : Instruction) → is_served_body s ≡ true → is_for table s ≡ true → first_of (goto_refusals table s) ≡ None
 goto_stands table (Apply xs) h k = refl
 goto_stands table Clear h k = refl
 goto_stands table (Write xs) h k = refl
 goto_stands table (Metadata v m) h k = refl
 goto_stands table (Goto to) h k = rw (and_from (nat_lt table to) (nat_lt to 16) k h) refl
 
-steps_stand : (ss : List Step) → list_all is_served_body (map instruction_of ss) ≡ true → AllByRecursion (λ s. first_of (step_refusals s) ≡ None) ss
-steps_stand [] h = tt
-steps_stand (s ∷ ss) h = let parts = and_parts (is_served_body (instruction_of s)) (list_all is_served_body (map instruction_of ss)) h in (step_stands s parts.0, steps_stand ss parts.1)
+instructions_stand : (ss : List Instruction) → list_all is_served_body ss ≡ true → AllByRecursion (λ s. first_of (instruction_refusals s) ≡ None) ss
+instructions_stand [] h = tt
+instructions_stand (s ∷ ss) h = let parts = and_parts (is_served_body s) (list_all is_served_body ss) h in (instruction_stands s parts.0, instructions_stand ss parts.1)
 
-gotos_stand : (table : ℕ) (ss : List Step) → list_all is_served_body (map instruction_of ss) ≡ true → list_all (is_for table) (map instruction_of ss) ≡ true → AllByRecursion (λ s. first_of (goto_refusals table s) ≡ None) ss
+gotos_stand : (table : ℕ) (ss : List Instruction) → list_all is_served_body ss ≡ true → list_all (is_for table) ss ≡ true → AllByRecursion (λ s. first_of (goto_refusals table s) ≡ None) ss
 gotos_stand table [] h k = tt
 gotos_stand table (s ∷ ss) h k =
-    let served = and_parts (is_served_body (instruction_of s)) (list_all is_served_body (map instruction_of ss)) h in
-    let leads = and_parts (is_for table (instruction_of s)) (list_all (is_for table) (map instruction_of ss)) k in
+    let served = and_parts (is_served_body s) (list_all is_served_body ss) h in
+    let leads = and_parts (is_for table s) (list_all (is_for table) ss) k in
     (goto_stands table s served.0 leads.0, gotos_stand table ss served.1 leads.1)
 
 -- ---- flows
 
 flow_stands : (table : ℕ) (f : Flow) → f.head.table ≡ table → table < 16 → IsEntry table f → bit_and f.head.flags 25 ≡ f.head.flags → first_of (flow_refusals f) ≡ None
-unfolding flow_refusals steps_refusals
+unfolding flow_refusals instructions_refusals
 flow_stands table f t l h flags =
-    let served = (and_parts (is_ascending run_place (instructions_of f)) (list_all is_served_body (instructions_of f)) h.kept).1 in
+    let served = (and_parts (is_ascending run_place f.instructions) (list_all is_served_body f.instructions) h.kept).1 in
     let low : nat_lt 15 f.head.table ≡ false = not_above 15 f.head.table (omega (arith, t, l)) in
     let known : eqb (bit_and f.head.flags 25) f.head.flags ≡ true = eq-eqb (bit_and f.head.flags 25) f.head.flags flags in
-    let gotos : first_of (flat_map (goto_refusals f.head.table) f.steps) ≡ None = rw t (none_all (goto_refusals table) f.steps (gotos_stand table f.steps served h.leads_on)) in
-    let lists = none_all step_refusals f.steps (steps_stand f.steps served) in
-    let goes : list_all (goes_with f.fields) f.steps ≡ true = sym (goes_same f.fields f.steps) ∙ h.checked in
-    let check : first_of ((not (list_all (goes_with f.fields) f.steps), refusal 2 10) ∷ []) ≡ None = rw goes refl in
-    let steps = none_joined (flat_map (goto_refusals f.head.table) f.steps) _ gotos (none_joined (flat_map step_refusals f.steps) _ lists check) in
-    let behind = none_joined (match_refusals f.fields) _ (match_stands f.fields h.fields) steps in
+    let gotos : first_of (flat_map (goto_refusals f.head.table) f.instructions) ≡ None = rw t (none_all (goto_refusals table) f.instructions (gotos_stand table f.instructions served h.leads_on)) in
+    let lists = none_all instruction_refusals f.instructions (instructions_stand f.instructions served) in
+    let check : first_of ((not (all_go_with f.fields f.instructions), refusal 2 10) ∷ []) ≡ None = rw h.checked refl in
+    let instructions = none_joined (flat_map (goto_refusals f.head.table) f.instructions) _ gotos (none_joined (flat_map instruction_refusals f.instructions) _ lists check) in
+    let behind = none_joined (match_refusals f.fields) _ (match_stands f.fields h.fields) instructions in
     rw (low, known) behind
 
 behind_stands : (gs : List TextGroup) (before : List Flow) (f : Flow) → StandsBehind gs before f → first_of (table_refusals gs before f) ≡ None
@@ -192,34 +193,16 @@ tables_stand gs k (t ∷ ts) before l e h =
 
 -- ---- lines
 
-steps_again : (ss : List Step) → map step_of (map instruction_of ss) ≡ ss
-steps_again [] = refl
-steps_again (Apply xs ∷ ss) = ap (λ (x : List Step). Apply xs ∷ x) (steps_again ss)
-steps_again (Clear ∷ ss) = ap (λ (x : List Step). Clear ∷ x) (steps_again ss)
-steps_again (Write xs ∷ ss) = ap (λ (x : List Step). Write xs ∷ x) (steps_again ss)
-steps_again (Metadata v m ∷ ss) = ap (λ (x : List Step). Metadata v m ∷ x) (steps_again ss)
-steps_again (Goto t ∷ ss) = ap (λ (x : List Step). Goto t ∷ x) (steps_again ss)
-
-abbrev kept_flow : Flow → KeptFlow
-kept_flow f = record { head = f.head; fields = f.fields; instructions = instructions_of f }
-
-pub flow_again : (f : Flow) → in_text (record { head = f.head; fields = f.fields; instructions = instructions_of f }) ≡ f
-flow_again f = ap (λ (x : List Step). record { head = f.head; fields = f.fields; steps = x }) (steps_again f.steps)
-
-flows_again : (fs : List Flow) → map in_text (map kept_flow fs) ≡ fs
-flows_again [] = refl
-flows_again (f ∷ fs) = rw (flow_again f, flows_again fs) refl
-
-flows_kept : (table : ℕ) (fs rest : List Flow) → AllByRecursion (IsHeaded table) fs → AllByRecursion (IsEntry table) fs → AllByRecursion IsKeptFlow (map kept_flow rest) → AllByRecursion IsKeptFlow (map kept_flow (fs ++ rest))
+flows_kept : (table : ℕ) (fs rest : List Flow) → AllByRecursion (IsHeaded table) fs → AllByRecursion (IsEntry table) fs → AllByRecursion IsKeptFlow rest → AllByRecursion IsKeptFlow (fs ++ rest)
 flows_kept table [] rest a e k = k
 flows_kept table (f ∷ fs) rest a e k = (record { head = a.0.1; fields = e.0.fields; instructions = e.0.kept }, flows_kept table fs rest a.1 e.1 k)
 
-tables_kept : (gs : List TextGroup) (k : ℕ) (ts : List (List Flow)) → AreKeptTables gs k ts → AllByRecursion IsKeptFlow (map kept_flow (all_flows ts))
+tables_kept : (gs : List TextGroup) (k : ℕ) (ts : List (List Flow)) → AreKeptTables gs k ts → AllByRecursion IsKeptFlow (all_flows ts)
 tables_kept gs k [] h = tt
 tables_kept gs k (t ∷ ts) h = flows_kept k t (all_flows ts) h.0.heads h.0.entries (tables_kept gs (suc k) ts h.1)
 
 kept_lines : (c : Configuration) → IsKeptConfig c → AreRows (text_rows c.groups (all_flows c.tables))
-kept_lines c k = rw (flows_again (all_flows c.tables)) at (kept_rows c.groups (map kept_flow (all_flows c.tables)) k.groups (tables_kept c.groups 0 c.tables k.tables))
+kept_lines c k = kept_rows c.groups (all_flows c.tables) k.groups (tables_kept c.groups 0 c.tables k.tables)
 
 -- ---- groups
 

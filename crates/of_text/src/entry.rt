@@ -4,10 +4,9 @@ ghost use Rattle.std.specs.List.{list_all};
 ghost use Rattle.of_oxm.specs.NormalForm.{IsMatch};
 ghost use Rattle.of_actions.specs.InstructionLists.{are_kept, is_served_body};
 ghost use Rattle.of_actions.specs.Supported.{are_supported};
-ghost use Rattle.of_text.specs.Kept.{instruction_of, instructions_of};
-ghost use Rattle.of_text.specs.Views.{view, view_step};
+ghost use Rattle.of_text.specs.Views.{view, view_instruction};
 
-use crate::flow::{FlowText, StepText};
+use crate::flow::{FlowText, InstructionText};
 use of_actions::{Action, ActionList, Instruction, InstructionList};
 use of_oxm::Match;
 use std::alloc::{AllocError, Global};
@@ -36,29 +35,32 @@ pub(crate) fn list_of(actions: &Vec<Action>) -> Result<ActionList, AllocError>
     Ok(action_list(copy))
 }
 
-fn instruction_from(step: &StepText) -> Result<Instruction, AllocError>
-    requires { is_served_body (instruction_of (view_step step.now)) ≡ true }
-    ensures { IfOk result (λ i. i ≡ instruction_of (view_step step.now)) }
+fn instruction_from(text: &InstructionText) -> Result<Instruction, AllocError>
+    requires { is_served_body (view_instruction text.now) ≡ true }
+    ensures { IfOk result (λ i. i ≡ view_instruction text.now) }
 {
-    match step {
-        StepText::Apply(actions) => Ok(Instruction::Apply(list_of(actions)?)),
-        StepText::Clear => Ok(Instruction::Clear),
-        StepText::Write(actions) => Ok(Instruction::Write(list_of(actions)?)),
-        StepText::Metadata { value, mask } => Ok(Instruction::Metadata {
+    match text {
+        InstructionText::Apply(actions) => Ok(Instruction::Apply(list_of(actions)?)),
+        InstructionText::Clear => Ok(Instruction::Clear),
+        InstructionText::Write(actions) => Ok(Instruction::Write(list_of(actions)?)),
+        InstructionText::Metadata { value, mask } => Ok(Instruction::Metadata {
             value: *value,
             mask: *mask,
         }),
-        StepText::Goto(table) => Ok(Instruction::Goto(*table)),
+        InstructionText::Goto(table) => Ok(Instruction::Goto(*table)),
     }
 }
 
-fn instructions_from(alloc: Global, steps: &[StepText]) -> Result<Vec<Instruction>, AllocError>
-    requires { list_all is_served_body (map instruction_of (map view_step steps.now)) ≡ true }
-    ensures { IfOk result (λ is. is.items ≡ map instruction_of (map view_step steps.now)) }
+fn instructions_from(
+    alloc: Global,
+    texts: &[InstructionText],
+) -> Result<Vec<Instruction>, AllocError>
+    requires { list_all is_served_body (map view_instruction texts.now) ≡ true }
+    ensures { IfOk result (λ is. is.items ≡ map view_instruction texts.now) }
 {
     let mut instructions = Vec::new(alloc);
-    for step in steps {
-        instructions.push(instruction_from(step)?)?;
+    for text in texts {
+        instructions.push(instruction_from(text)?)?;
     }
     Ok(instructions)
 }
@@ -74,10 +76,10 @@ impl FlowText {
 
     /// Its instructions, as a table keeps them. Those of a flow of a configuration are such (`Config::known`).
     pub fn to_instructions(&self) -> Result<InstructionList, AllocError>
-        requires { IsTrue (are_kept (instructions_of (view self.now))) }
-        ensures { IfOk result (λ list. list ≡ instructions_of (view self.now)) }
+        requires { IsTrue (are_kept (view self.now).instructions) }
+        ensures { IfOk result (λ list. list ≡ (view self.now).instructions) }
     {
-        let instructions = instructions_from(*self.steps.allocator(), &self.steps)?;
+        let instructions = instructions_from(*self.instructions.allocator(), &self.instructions)?;
         match InstructionList::new(instructions) {
             Some(list) => Ok(list),
             None => unreachable!(),

@@ -1,9 +1,9 @@
 //! Groups and flows from lines.
 ghost use Rattle.std.specs.Prelude.{◌≡◌, [], ◌∷◌, OnOk, IfOk, reverse};
 ghost use Rattle.of_text.specs.Flows.{gather_line as gather_row, gathered_rows, nothing_gathered};
-ghost use Rattle.of_text.specs.Views.{view_flows, view_groups, view_step, seen_gathering};
+ghost use Rattle.of_text.specs.Views.{view_flows, view_groups, view_instruction, seen_gathering};
 
-use crate::flow::{FlowText, StepText};
+use crate::flow::{FlowText, InstructionText};
 use crate::group::{BucketText, GroupText};
 use of_actions::Action;
 use of_lines::{BucketHead, FlowHead, GroupHead, Row};
@@ -16,7 +16,7 @@ struct Gathering {
     actions: Vec<Action>,
     buckets: Vec<BucketText>,
     groups: Vec<GroupText>,
-    steps: Vec<StepText>,
+    instructions: Vec<InstructionText>,
     fields: Vec<MatchField>,
     flows: Vec<FlowText>,
 }
@@ -39,7 +39,7 @@ impl Gathering {
             actions: Vec::new(alloc),
             buckets: Vec::new(alloc),
             groups: Vec::new(alloc),
-            steps: Vec::new(alloc),
+            instructions: Vec::new(alloc),
             fields: Vec::new(alloc),
             flows: Vec::new(alloc),
         }
@@ -69,12 +69,12 @@ impl Gathering {
         ensures { OnOk result (seen_gathering self.new ≡ gather_row (Row.Flow head) (seen_gathering self.old)) }
     {
         let fields = take_turned(alloc, &mut self.fields);
-        let steps = take_turned(alloc, &mut self.steps);
+        let instructions = take_turned(alloc, &mut self.instructions);
         self.actions.clear();
         self.flows.push(FlowText {
             head,
             fields,
-            steps,
+            instructions,
         })?;
         Ok(())
     }
@@ -88,10 +88,11 @@ impl Gathering {
     }
 
     // An instruction.
-    fn push_step(&mut self, step: StepText) -> Result<(), AllocError>
-        ensures { OnOk result (seen_gathering self.new ≡ record (seen_gathering self.old) { steps = view_step step ∷ (seen_gathering self.old).steps }) }
+    fn push_instruction(&mut self, instruction: InstructionText) -> Result<(), AllocError>
+        ensures { OnOk result (seen_gathering self.new ≡
+            record (seen_gathering self.old) { instructions = view_instruction instruction ∷ (seen_gathering self.old).instructions }) }
     {
-        self.steps.push(step)?;
+        self.instructions.push(instruction)?;
         Ok(())
     }
 
@@ -122,15 +123,18 @@ impl Gathering {
             Row::Match(e) => self.push_field(e),
             Row::Apply => {
                 let actions = self.take_actions(alloc);
-                self.push_step(StepText::Apply(actions))
+                self.push_instruction(InstructionText::Apply(actions))
             }
-            Row::Clear => self.push_step(StepText::Clear),
+            Row::Clear => self.push_instruction(InstructionText::Clear),
             Row::Write => {
                 let actions = self.take_actions(alloc);
-                self.push_step(StepText::Write(actions))
+                self.push_instruction(InstructionText::Write(actions))
             }
-            Row::Metadata { value, mask } => self.push_step(StepText::Metadata { value, mask }),
-            Row::Goto(table) => self.push_step(StepText::Goto(table)),
+            Row::Metadata { value, mask } => self.push_instruction(InstructionText::Metadata {
+                value,
+                mask,
+            }),
+            Row::Goto(table) => self.push_instruction(InstructionText::Goto(table)),
             Row::Do(action) => self.push_action(action),
         }
     }

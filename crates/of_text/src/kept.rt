@@ -6,13 +6,13 @@ ghost use Rattle.of_actions.specs.Supported.{are_supported};
 ghost use Rattle.of_groups.specs.Buckets.{are_fit};
 ghost use Rattle.of_text.specs.Configs.{Configuration, IsConfig, view_config};
 ghost use Rattle.of_text.specs.Groups.{bucket_rows, bucket_text as text_of_bucket, group_rows, group_text};
-ghost use Rattle.of_text.specs.Kept.{IsKeptFlow, in_text, step_of};
+ghost use Rattle.of_text.specs.Kept.{IsKeptFlow};
 ghost use Rattle.of_text.specs.KeptConfigs.{IsKeptConfig};
 ghost use Rattle.of_lines.specs.Rows.{BucketFits, Fits};
-ghost use Rattle.of_text.specs.Views.{view, view_bucket, view_group, view_step};
+ghost use Rattle.of_text.specs.Views.{view, view_bucket, view_group, view_instruction};
 
 use crate::config::Config;
-use crate::flow::{FlowText, StepText};
+use crate::flow::{FlowText, InstructionText};
 use crate::group::{BucketText, GroupText};
 use of_actions::{Action, ActionList, Instruction, InstructionList};
 use of_groups::{Bucket, Group, GroupKind};
@@ -90,29 +90,32 @@ fn fields_of(alloc: Global, fields: &Match) -> Result<Vec<MatchField>, AllocErro
     Ok(copy)
 }
 
-fn step_from(alloc: Global, instruction: &Instruction) -> Result<StepText, AllocError>
-    ensures { IfOk result (λ step. view_step step ≡ step_of instruction.now) }
+fn instruction_text(alloc: Global, instruction: &Instruction) -> Result<InstructionText, AllocError>
+    ensures { IfOk result (λ text. view_instruction text ≡ instruction.now) }
 {
     match instruction {
-        Instruction::Apply(actions) => Ok(StepText::Apply(actions_of(alloc, actions)?)),
-        Instruction::Clear => Ok(StepText::Clear),
-        Instruction::Write(actions) => Ok(StepText::Write(actions_of(alloc, actions)?)),
-        Instruction::Metadata { value, mask } => Ok(StepText::Metadata {
+        Instruction::Apply(actions) => Ok(InstructionText::Apply(actions_of(alloc, actions)?)),
+        Instruction::Clear => Ok(InstructionText::Clear),
+        Instruction::Write(actions) => Ok(InstructionText::Write(actions_of(alloc, actions)?)),
+        Instruction::Metadata { value, mask } => Ok(InstructionText::Metadata {
             value: *value,
             mask: *mask,
         }),
-        Instruction::Goto(table) => Ok(StepText::Goto(*table)),
+        Instruction::Goto(table) => Ok(InstructionText::Goto(*table)),
     }
 }
 
-fn steps_from(alloc: Global, instructions: &[Instruction]) -> Result<Vec<StepText>, AllocError>
-    ensures { IfOk result (λ steps. map view_step steps.items ≡ map step_of instructions.now) }
+fn instructions_text(
+    alloc: Global,
+    instructions: &[Instruction],
+) -> Result<Vec<InstructionText>, AllocError>
+    ensures { IfOk result (λ texts. map view_instruction texts.items ≡ instructions.now) }
 {
-    let mut steps = Vec::new(alloc);
+    let mut texts = Vec::new(alloc);
     for instruction in instructions {
-        steps.push(step_from(alloc, instruction)?)?;
+        texts.push(instruction_text(alloc, instruction)?)?;
     }
-    Ok(steps)
+    Ok(texts)
 }
 
 impl FlowText {
@@ -123,14 +126,14 @@ impl FlowText {
         fields: &Match,
         instructions: &InstructionList,
     ) -> Result<FlowText, AllocError>
-        ensures text { IfOk result (λ flow. view flow ≡ in_text (record { head = head; fields = fields.now; instructions = instructions.now })) }
+        ensures text { IfOk result (λ flow. view flow ≡ record { head = head; fields = fields.now; instructions = instructions.now }) }
         ensures kept { IfOk result (λ _. IsKeptFlow (record { head = head; fields = fields.now; instructions = instructions.now })) }
     {
         fields.known();
         Ok(FlowText {
             head,
             fields: fields_of(alloc, fields)?,
-            steps: steps_from(alloc, instructions.as_slice())?,
+            instructions: instructions_text(alloc, instructions.as_slice())?,
         })
     }
 }

@@ -6,5 +6,5 @@ use Rattle.of_remarks.proofs.remarks.push_ports.Given as goal
 
 abbrev pub invariant-loop-e : goal.invariant-loop-e
 invariant-loop-e l =
-    let steps = (view l.flow).steps in
-    l.out.items ++ flat_map (ingress_remarks l.table l.place steps) (drop l.e-index l.flow.fields.items) ≡ l.fn.out.items ++ flat_map (ingress_remarks l.table l.place steps) l.flow.fields.items
+    let instructions = (view l.flow).instructions in
+    l.out.items ++ flat_map (ingress_remarks l.table l.place instructions) (drop l.e-index l.flow.fields.items) ≡ l.fn.out.items ++ flat_map (ingress_remarks l.table l.place instructions) l.flow.fields.items

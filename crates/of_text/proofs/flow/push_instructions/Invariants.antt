@@ -1,0 +1,9 @@
+use Rattle.std.proofs.Common.{◌≡◌, ◌++◌, take}
+use Rattle.std.specs.Prelude.{map}
+use Rattle.std.specs.List.{flat_map}
+use Rattle.of_text.specs.Flows.{instruction_rows}
+use Rattle.of_text.specs.Views.{view_instruction}
+use Rattle.of_text.proofs.flow.push_instructions.Given as goal
+
+abbrev pub invariant-loop-instruction : goal.invariant-loop-instruction
+invariant-loop-instruction l = l.rows.items ≡ l.initial.rows.items ++ flat_map instruction_rows (map view_instruction (take l.instruction-index l.instructions))
