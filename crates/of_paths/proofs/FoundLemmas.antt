@@ -1,5 +1,5 @@
 -- A path is put to what was found.
-use Rattle.std.proofs.Common.{◌≡◌, ◌<◌, ℕ, zero, suc, Bool, true, false, List, [], ◌∷◌, ◌++◌, length, get_or, set, map, refl, sym, ap, subst, ◌∙◌, arith, inl, inr, ◌⊎◌}
+use Rattle.std.proofs.Common.{◌≡◌, ◌<◌, ℕ, zero, suc, List, [], ◌∷◌, ◌++◌, length, get_or, set, map, refl, sym, ap, subst, ◌∙◌, arith, inl, inr, ◌⊎◌}
 use Rattle.std.specs.Global.{Vec}
 use Rattle.std.specs.List.{Contains}
 use Rattle.std.proofs.lemmas.List.{map-append}
@@ -8,10 +8,9 @@ use Rattle.of_rewrite.specs.Frames.{IsFrame}
 use Rattle.of_oxm.specs.declared.match_field.MatchField.{MatchField}
 use Rattle.of_machine.specs.declared.data.Step.{Step}
 use Rattle.of_machine.specs.TheWorld.{TheWorld}
-use Rattle.of_symbolic_run.specs.declared.frame_set.FrameSet.{FrameSet}
 use Rattle.of_symbolic_run.specs.FrameSets.{InFrames}
-use Rattle.of_symbolic_switch.specs.PortNumbers.{IsReceivingPort}
 use Rattle.of_symbolic_switch.specs.Received.{IsReceivedAt, items_at}
+use Rattle.of_symbolic_switch.specs.Unfound.{FindsNone}
 use Rattle.of_paths.specs.declared.path.Merging.{Merging}
 use Rattle.of_paths.specs.declared.path.Merging.TheVariants.{Each, SameWay}
 use Rattle.of_paths.specs.declared.path.Path.{Path}
@@ -19,14 +18,10 @@ use Rattle.of_paths.specs.declared.path.PathClass.{PathClass}
 use Rattle.of_paths.specs.declared.path.Paths.{Paths}
 use Rattle.of_paths.specs.declared.path.UndecidedFrames.{UndecidedFrames}
 use Rattle.of_paths.specs.Paths.{AreMerged, InFirstPath, InPaths, IsPath, IsPathClass}
-use Rattle.of_paths.specs.Reasons.{AreUndecided, FindsNone}
+use Rattle.of_paths.specs.Reasons.{AreUndecided}
 use Rattle.of_paths.specs.SoFar.{AreFoundSoFar, IsFoundIn, IsOtherWay, PutsAlone, PutsPath, unfound}
 use Rattle.of_paths.specs.Ways.{AreApart, class_way, paths_way, way_of}
 use Rattle.of_paths.proofs.WayLemmas.{apart_more}
-
-pub never_both : (b : Bool) → b ≡ true → b ≡ false → ⊥
-never_both true h k = cc
-never_both false h k = cc
 
 none_contained : {A : Type 0} (x : A) → Contains {X = A} [] x → ⊥
 none_contained x h = absurd (omega (arith, h.1))
@@ -49,10 +44,6 @@ found_undecided m w within steps old new u classes undecided reason h = record {
     | inr same ↦ subst (AreUndecided w within steps) same reason
   ];
 }
-
--- a frame was found by a port by which nothing is received
-pub unreceived_frame : (w : TheWorld) (steps : ℕ) (frames : FrameSet) (frame : List ℕ) (port : ℕ) → IsFrame frame → InFrames frames frame port → (IsReceivingPort w.ports port → ⊥) → FindsNone w steps frames
-unreceived_frame w steps frames frame port is inside silent = inr (frame, port, is, inside, silent)
 
 module _ (w : TheWorld) (steps : ℕ) (p : Path) where
   pub puts_unfound : (old new : Paths) → FindsNone w steps p.frames → new.classes ≡ old.classes → new.undecided.items ≡ old.undecided.items ++ unfound p ∷ [] → PutsAlone w steps p old new

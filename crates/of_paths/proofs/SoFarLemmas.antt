@@ -19,6 +19,7 @@ use Rattle.of_symbolic_run.specs.FrameSets.{InFrames}
 use Rattle.of_symbolic_run.specs.Later.{AreOneLater, IsOneLater}
 use Rattle.of_symbolic_run.specs.States.{IsAt}
 use Rattle.of_symbolic_switch.specs.Received.{IsReceivedAt}
+use Rattle.of_symbolic_switch.specs.Unfound.{FindsNone}
 use Rattle.of_paths.specs.declared.path.Merging.{Merging}
 use Rattle.of_paths.specs.declared.path.Merging.TheVariants.{Each, SameWay}
 use Rattle.of_paths.specs.declared.path.Path.{Path}
@@ -27,7 +28,7 @@ use Rattle.of_paths.specs.declared.path.PathClass.{PathClass}
 use Rattle.of_paths.specs.declared.path.UndecidedFrames.{UndecidedFrames}
 use Rattle.of_paths.specs.declared.path.WhyUndecided.TheVariants.{Steps}
 use Rattle.of_paths.specs.Paths.{ArePaths, AreMerged}
-use Rattle.of_paths.specs.Reasons.{AreLeftAfter, AreMatched, AreUndecided, FindsNone, IsFirstCase, IsReason, IsStateOfRuns}
+use Rattle.of_paths.specs.Reasons.{AreLeftAfter, AreMatched, AreUndecided, IsFirstCase, IsReason, IsStateOfRuns}
 use Rattle.of_paths.specs.SoFar.{ArePathsSoFar, InCases, IsFoundIn, PutsPath, unfound}
 use Rattle.of_paths.specs.Ways.{lines_at}
 use Rattle.of_paths.proofs.FoundLemmas.{found_undecided, last_undecided, more_undecided}

@@ -1,5 +1,5 @@
 -- WHY FRAMES ARE UNDECIDED: the runs of all frames take steps together, and a set of frames may be left (OpenFlow 1.3.5, 5.1).
-use Rattle.std.specs.Prelude.{◌≡◌, ◌≤◌, ◌⊎◌, ◌++◌, ℕ, zero, suc, List, [], ◌∷◌, true}
+use Rattle.std.specs.Prelude.{◌≡◌, ◌≤◌, ◌++◌, ℕ, zero, suc, List, [], ◌∷◌, true}
 use Rattle.std.specs.List.{Contains}
 use Rattle.of_rewrite.specs.Frames.{IsFrame}
 use Rattle.of_oxm.specs.declared.match_field.MatchField.{MatchField}
@@ -7,15 +7,14 @@ use Rattle.of_oxm.specs.Relations.{matches_map}
 use Rattle.of_machine.specs.TheWorld.{TheWorld}
 use Rattle.of_symbolic.specs.Parts.{received_fields}
 use Rattle.of_symbolic_run.specs.declared.dividing.Case.{Case}
-use Rattle.of_symbolic_run.specs.declared.finding.FrameFound.TheVariants.{Undecided}
 use Rattle.of_symbolic_run.specs.declared.frame_set.FrameSet.{FrameSet}
 use Rattle.of_symbolic_run.specs.Cases.{AreCases}
-use Rattle.of_symbolic_run.specs.FrameSets.{FindsFrame, InFrames}
+use Rattle.of_symbolic_run.specs.FrameSets.{InFrames}
 use Rattle.of_symbolic_run.specs.Later.{AreOneLater}
 use Rattle.of_symbolic_run.specs.States.{IsAt}
-use Rattle.of_symbolic_switch.specs.PortNumbers.{IsReceivingPort}
 use Rattle.of_symbolic_switch.specs.Received.{IsReceivedAt}
 use Rattle.of_symbolic_switch.specs.Sides.{IsUnknownLookup}
+use Rattle.of_symbolic_switch.specs.Unfound.{FindsNone}
 use Rattle.of_paths.specs.declared.path.UndecidedFrames.{UndecidedFrames}
 use Rattle.of_paths.specs.declared.path.WhyUndecided.{WhyUndecided}
 use Rattle.of_paths.specs.declared.path.WhyUndecided.TheVariants as why
@@ -56,11 +55,6 @@ pub record AreLeftAfter (w : TheWorld) (within : List MatchField) (taken : ℕ) 
   pub steps : AreCaseSteps w first taken cases
 
 -- ---- reasons
-
--- the search for a frame of the set took so many steps, or found only frames that no switch receives; or it found one by a port by which this switch
--- receives none
-abbrev pub FindsNone : TheWorld → ℕ → FrameSet → Type 0
-FindsNone w steps frames = FindsFrame frames steps Undecided ⊎ ((frame : List ℕ) × (port : ℕ) × IsFrame frame × InFrames frames frame port × ¬ IsReceivingPort w.ports port)
 
 -- it is not known what the lookup of the set finds; or all the steps were taken; or its run is at its end, and no frame of it was found
 abbrev pub IsReason : TheWorld → ℕ → ℕ → Case → WhyUndecided → Type 0

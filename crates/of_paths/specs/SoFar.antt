@@ -11,6 +11,7 @@ use Rattle.of_symbolic_run.specs.FrameSets.{InFrames}
 use Rattle.of_symbolic_run.specs.Later.{AreOneLater}
 use Rattle.of_symbolic_switch.specs.Received.{IsReceivedAt}
 use Rattle.of_symbolic_switch.specs.Sides.{IsUnknownLookup}
+use Rattle.of_symbolic_switch.specs.Unfound.{FindsNone}
 use Rattle.of_paths.specs.declared.path.Merging.{Merging}
 use Rattle.of_paths.specs.declared.path.Merging.TheVariants.{Each, SameWay}
 use Rattle.of_paths.specs.declared.path.Path.{Path}
@@ -21,7 +22,7 @@ use Rattle.of_paths.specs.declared.path.WhyUndecided.TheVariants.{Search, Unknow
 use Rattle.of_paths.specs.declared.stepping.Next.{Next}
 use Rattle.of_paths.specs.declared.stepping.Next.TheVariants as next
 use Rattle.of_paths.specs.Paths.{AreMerged, InClasses, InUndecidedFrames, IsPath, IsPathClass}
-use Rattle.of_paths.specs.Reasons.{AreMatched, AreUndecided, FindsNone, IsStateOfRuns}
+use Rattle.of_paths.specs.Reasons.{AreMatched, AreUndecided, IsStateOfRuns}
 use Rattle.of_paths.specs.Ways.{class_way, lines_at, way_of}
 
 abbrev pub InCases : List Case → List ℕ → ℕ → Type 0
