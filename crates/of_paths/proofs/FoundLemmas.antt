@@ -10,15 +10,16 @@ use Rattle.of_machine.specs.declared.data.Step.{Step}
 use Rattle.of_machine.specs.TheWorld.{TheWorld}
 use Rattle.of_symbolic_run.specs.FrameSets.{InFrames}
 use Rattle.of_symbolic_switch.specs.Received.{IsReceivedAt, items_at}
+use Rattle.of_symbolic_switch.specs.Unfound.{FindsNone}
 use Rattle.of_paths.specs.declared.path.Merging.{Merging}
 use Rattle.of_paths.specs.declared.path.Merging.TheVariants.{Each, SameWay}
 use Rattle.of_paths.specs.declared.path.Path.{Path}
 use Rattle.of_paths.specs.declared.path.PathClass.{PathClass}
 use Rattle.of_paths.specs.declared.path.Paths.{Paths}
 use Rattle.of_paths.specs.declared.path.UndecidedFrames.{UndecidedFrames}
-use Rattle.of_paths.specs.declared.path.WhyUndecided.TheVariants.{Search}
-use Rattle.of_paths.specs.Paths.{AreMatched, AreMerged, InFirstPath, InPaths, IsPath, IsPathClass}
-use Rattle.of_paths.specs.SoFar.{AreFoundSoFar, IsFoundIn, IsOtherWay, PutsAlone, PutsPath}
+use Rattle.of_paths.specs.Paths.{AreMerged, InFirstPath, InPaths, IsPath, IsPathClass}
+use Rattle.of_paths.specs.Reasons.{AreUndecided}
+use Rattle.of_paths.specs.SoFar.{AreFoundSoFar, IsFoundIn, IsOtherWay, PutsAlone, PutsPath, unfound}
 use Rattle.of_paths.specs.Ways.{AreApart, class_way, paths_way, way_of}
 use Rattle.of_paths.proofs.WayLemmas.{apart_more}
 
@@ -34,32 +35,31 @@ more_undecided old new u classes undecided frame port (inr h) = inr (h.0, subst 
 pub last_undecided : (old new : Paths) (u : UndecidedFrames) → new.undecided.items ≡ old.undecided.items ++ u ∷ [] → (frame : List ℕ) (port : ℕ) → InFrames u.frames frame port → IsFoundIn new frame port
 last_undecided old new u undecided frame port h = inr (u, subst (λ (l : List UndecidedFrames). Contains l u) (sym undecided) (Contains-push old.undecided.items u), h)
 
-pub found_undecided : (m : Merging) (w : TheWorld) (within : List MatchField) (old new : Paths) (u : UndecidedFrames) → new.classes.items ≡ old.classes.items → new.undecided.items ≡ old.undecided.items ++ u ∷ [] → AreMatched within u.frames → AreFoundSoFar m w within old → AreFoundSoFar m w within new
-found_undecided m w within old new u classes undecided inside h = record {
+pub found_undecided : (m : Merging) (w : TheWorld) (within : List MatchField) (steps : ℕ) (old new : Paths) (u : UndecidedFrames) → new.classes.items ≡ old.classes.items → new.undecided.items ≡ old.undecided.items ++ u ∷ [] → AreUndecided w within steps u → AreFoundSoFar m w within steps old → AreFoundSoFar m w within steps new
+found_undecided m w within steps old new u classes undecided reason h = record {
   classes = λ c there. h.classes c (subst (λ (l : List PathClass). Contains l c) classes there);
   merged = subst (AreMerged m) (sym classes) h.merged;
-  undecided = λ v there. elim (Contains-push_cases old.undecided.items u v (subst (λ (l : List UndecidedFrames). Contains l v) undecided there)) as (λ x. AreMatched within v.frames) [
+  undecided = λ v there. elim (Contains-push_cases old.undecided.items u v (subst (λ (l : List UndecidedFrames). Contains l v) undecided there)) as (λ x. AreUndecided w within steps v) [
     | inl before ↦ h.undecided v before
-    | inr same ↦ subst (λ (x : UndecidedFrames). AreMatched within x.frames) same inside
+    | inr same ↦ subst (AreUndecided w within steps) same reason
   ];
 }
 
-module _ (w : TheWorld) (p : Path) where
-  pub puts_undecided : (old new : Paths) (u : UndecidedFrames) → new.classes.items ≡ old.classes.items → new.undecided.items ≡ old.undecided.items ++ u ∷ [] → u.frames ≡ p.frames → PutsAlone w p old new
-  puts_undecided old new u classes undecided frames m other = record {
-    found = λ within is h. found_undecided m w within old new u classes undecided (rw frames is.matched) h;
-    own = λ frame port received inside. last_undecided old new u undecided frame port (rw frames inside);
-    kept = more_undecided old new u classes undecided;
-  }
-
-  pub puts_unfound : (old new : Paths) → new.classes ≡ old.classes → new.undecided.items ≡ old.undecided.items ++ record { frames = p.frames; why = Search } ∷ [] → PutsAlone w p old new
-  puts_unfound old new classes undecided = puts_undecided old new (record { frames = p.frames; why = Search }) (ap (λ (v : Vec PathClass). v.items) classes) undecided refl
+module _ (w : TheWorld) (steps : ℕ) (p : Path) where
+  pub puts_unfound : (old new : Paths) → FindsNone w steps p.frames → new.classes ≡ old.classes → new.undecided.items ≡ old.undecided.items ++ unfound p ∷ [] → PutsAlone w steps p old new
+  puts_unfound old new none classes undecided m other =
+      let same : new.classes.items ≡ old.classes.items = ap (λ (v : Vec PathClass). v.items) classes in
+      record {
+        found = λ within is reason h. found_undecided m w within steps old new (unfound p) same undecided (reason none) h;
+        own = λ frame port received inside. last_undecided old new (unfound p) undecided frame port inside;
+        kept = more_undecided old new (unfound p) same undecided;
+      }
 
   -- ---- a path without frames
 
-  pub puts_nothing : (old : Paths) → ((frame : List ℕ) (port : ℕ) → IsFrame frame → InFrames p.frames frame port → ⊥) → PutsAlone w p old old
+  pub puts_nothing : (old : Paths) → ((frame : List ℕ) (port : ℕ) → IsFrame frame → InFrames p.frames frame port → ⊥) → PutsAlone w steps p old old
   puts_nothing old empty m other = record {
-    found = λ within is h. h;
+    found = λ within is reason h. h;
     own = λ frame port received inside. absurd (empty frame port received.frame_is inside);
     kept = λ frame port h. h;
   }
@@ -91,9 +91,9 @@ module _ (w : TheWorld) (p : Path) where
   ]
 
   pub puts_class : (old new : Paths) (c : PathClass) → new.classes.items ≡ old.classes.items ++ c ∷ [] → new.undecided.items ≡ old.undecided.items → c.paths.items ≡ p ∷ [] → IsReceivedAt w c.frame.items c.in_port → InFrames p.frames c.frame.items c.in_port →
-      c.items.items ≡ items_at w c.frame.items c.in_port → PutsAlone w p old new
+      c.items.items ≡ items_at w c.frame.items c.in_port → PutsAlone w steps p old new
   puts_class old new c classes undecided paths received inside items m other = record {
-    found = λ within is h. record {
+    found = λ within is reason h. record {
       classes = λ d there. elim (Contains-push_cases old.classes.items c d (subst (λ (l : List PathClass). Contains l d) classes there)) as (λ x. IsPathClass w within d) [
         | inl before ↦ h.classes d before
         | inr same ↦ subst (IsPathClass w within) same (class_is within c paths received inside items is)
@@ -150,7 +150,7 @@ way_stays : (paths : List Path) (p : Path) → paths_way paths ≡ way_of p.step
 way_stays [] p same = sym same
 way_stays (q ∷ paths) p same = refl
 
-module _ (w : TheWorld) (p : Path) (old new : Paths) (i : ℕ) (x c : PathClass) (is : x ≡ get_or old.classes.items i x) (lt : i < length old.classes.items) (paths : c.paths.items ≡ x.paths.items ++ p ∷ []) (frame : c.frame ≡ x.frame) (in_port : c.in_port ≡ x.in_port) (items : c.items ≡ x.items)
+module _ (w : TheWorld) (steps : ℕ) (p : Path) (old new : Paths) (i : ℕ) (x c : PathClass) (is : x ≡ get_or old.classes.items i x) (lt : i < length old.classes.items) (paths : c.paths.items ≡ x.paths.items ++ p ∷ []) (frame : c.frame ≡ x.frame) (in_port : c.in_port ≡ x.in_port) (items : c.items ≡ x.items)
     (classes : new.classes.items ≡ set old.classes.items i c) (undecided : new.undecided.items ≡ old.undecided.items) (same : class_way x ≡ way_of p.steps.items) where
   one_way : class_way c ≡ class_way x
   one_way = ap paths_way paths ∙ way_stays x.paths.items p same
@@ -179,9 +179,9 @@ module _ (w : TheWorld) (p : Path) (old new : Paths) (i : ℕ) (x c : PathClass)
   there_is : Contains old.classes.items x
   there_is = (i, lt, sym is)
 
-  pub puts_joined : PutsPath SameWay w p old new
+  pub puts_joined : PutsPath SameWay w steps p old new
   puts_joined = record {
-    found = λ within own h. record {
+    found = λ within own reason h. record {
       classes = λ d there. elim (from_set old.classes.items i c d (subst (λ (l : List PathClass). Contains l d) classes there)) as (λ z. IsPathClass w within d) [
         | inl before ↦ h.classes d before
         | inr is_it ↦ subst (IsPathClass w within) is_it (joined_class within own (h.classes x there_is))

@@ -1,4 +1,5 @@
 mod WayLemmas
+pub mod TakenLemmas
 pub mod FoundLemmas
 pub mod SoFarLemmas
 pub mod ConditionLemmas

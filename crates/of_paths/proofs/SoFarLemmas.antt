@@ -1,5 +1,5 @@
 -- What is known of the frames while cases are left.
-use Rattle.std.proofs.Common.{◌≡◌, ℕ, true, List, [], ◌∷◌, ◌++◌, length, Result, Ok, Err, refl, sym, subst, arith, inl, inr, ◌⊎◌, zero, suc, reverse}
+use Rattle.std.proofs.Common.{◌≡◌, ◌<◌, ◌≤◌, ◌+◌, ◌-◌, ℕ, true, List, [], ◌∷◌, ◌++◌, length, Result, Ok, Err, refl, sym, subst, arith, inl, inr, ◌⊎◌, zero, suc, reverse}
 use Rattle.std.specs.Prelude.{OnOk, if◌then◌else◌, is_ok}
 use Rattle.std.specs.Global.{Vec}
 use Rattle.std.specs.List.{Contains}
@@ -16,16 +16,20 @@ use Rattle.of_symbolic_run.specs.declared.dividing.Case.{Case}
 use Rattle.of_symbolic_run.specs.declared.state.SymbolicState.{SymbolicState}
 use Rattle.of_symbolic_run.specs.Cases.{AreCases}
 use Rattle.of_symbolic_run.specs.FrameSets.{InFrames}
+use Rattle.of_symbolic_run.specs.Later.{AreOneLater, IsOneLater}
 use Rattle.of_symbolic_run.specs.States.{IsAt}
 use Rattle.of_symbolic_switch.specs.Received.{IsReceivedAt}
+use Rattle.of_symbolic_switch.specs.Unfound.{FindsNone}
 use Rattle.of_paths.specs.declared.path.Merging.{Merging}
 use Rattle.of_paths.specs.declared.path.Merging.TheVariants.{Each, SameWay}
 use Rattle.of_paths.specs.declared.path.Path.{Path}
 use Rattle.of_paths.specs.declared.path.Paths.{Paths}
 use Rattle.of_paths.specs.declared.path.PathClass.{PathClass}
 use Rattle.of_paths.specs.declared.path.UndecidedFrames.{UndecidedFrames}
-use Rattle.of_paths.specs.Paths.{ArePaths, AreMatched, AreMerged}
-use Rattle.of_paths.specs.SoFar.{ArePathsSoFar, InCases, IsFoundIn, IsStateOfRuns, PutsPath}
+use Rattle.of_paths.specs.declared.path.WhyUndecided.TheVariants.{Steps}
+use Rattle.of_paths.specs.Paths.{ArePaths, AreMerged}
+use Rattle.of_paths.specs.Reasons.{AreLeftAfter, AreMatched, AreUndecided, IsFirstCase, IsReason, IsStateOfRuns}
+use Rattle.of_paths.specs.SoFar.{ArePathsSoFar, InCases, IsFoundIn, PutsPath, unfound}
 use Rattle.of_paths.specs.Ways.{lines_at}
 use Rattle.of_paths.proofs.FoundLemmas.{found_undecided, last_undecided, more_undecided}
 
@@ -39,6 +43,10 @@ no_items (x ∷ xs) h = absurd (omega (arith, h))
 
 pub no_length : {X : Type 0} (xs : Vec X) → xs.len ≡ 0 → xs.items ≡ []
 no_length xs h = no_items xs.items (omega (arith, h, xs.ok.0))
+
+pub always_ok : {Y E : Type 0} (r : Result Y E) (Q : Type 0) → Q → OnOk r Q
+always_ok (Ok x) Q h = h
+always_ok (Err e) Q h = tt
 
 pub first_of_none : {X : Type 0} (none new : List X) (x : X) → none ≡ [] → new ≡ none ++ x ∷ [] → new ≡ x ∷ []
 first_of_none none new x is more = rw is at more
@@ -57,6 +65,9 @@ to_reverse : {X : Type 0} (xs : List X) (y : X) → Contains xs y → Contains (
 to_reverse [] y h = h
 to_reverse {X = X} (x ∷ xs) y (zero, lt, is) = subst (λ (l : List X). Contains l y) (sym (reverse-append (x ∷ []) xs)) (subst (λ (z : X). Contains (reverse xs ++ x ∷ []) z) is (Contains-push (reverse xs) x))
 to_reverse {X = X} (x ∷ xs) y (suc k, lt, is) = subst (λ (l : List X). Contains l y) (sym (reverse-append (x ∷ []) xs)) (Contains-append_left (reverse xs) (x ∷ []) y (to_reverse xs y (k, omega (arith, lt), is)))
+
+pub reversed_later : (old : SymbolicState) (cases more : List Case) → more ≡ reverse cases → AreOneLater old cases → AreOneLater old more
+reversed_later old cases more is later c there = later c (from_reverse cases c (subst (λ (l : List Case). Contains l c) is there))
 
 pub reversed_cases : (w : TheWorld) (old : Case) (cases more : List Case) → more ≡ reverse cases → AreCases w old.frames old.state cases → AreCases w old.frames old.state more
 reversed_cases w old cases more is are = record {
@@ -80,6 +91,14 @@ one_case w old new frames step = record {
         by_place (inl before) = absurd (omega (arith, before.1))
         by_place (inr same) = same
 
+-- it is one step later
+pub one_later : (old : SymbolicState) (new : Case) → IsOneLater old new.state → AreOneLater old (new ∷ [])
+one_later old new later c there = by_place (Contains-push_cases [] new c there)
+  where
+    by_place : Contains [] c ⊎ (new ≡ c) → IsOneLater old c.state
+    by_place (inl before) = absurd (omega (arith, before.1))
+    by_place (inr same) = subst (λ (x : Case). IsOneLater old x.state) same later
+
 -- the lines of a run that is done
 pub ended_lines : (w : TheWorld) (c : Case) → ((v : TheWorld) (frame : List ℕ) (port : ℕ) (s : SymbolicState) → IsSound v → IsAt v frame port s → s.tasks.items ≡ [] → (run_of v (entering frame port) (Lookup 0 ∷ [])).lines ≡ s.steps.items) → IsSound w → c.state.tasks.items ≡ [] →
     IsStateOfRuns w c → (frame : List ℕ) (port : ℕ) → IsReceivedAt w frame port → InFrames c.frames frame port → lines_at w frame port ≡ c.state.steps.items
@@ -89,12 +108,16 @@ none_merged : (m : Merging) → AreMerged m []
 none_merged SameWay = tt
 none_merged Each = λ c there. absurd (omega (arith, there.1))
 
-module _ (m : Merging) (w : TheWorld) (within : List MatchField) where
+-- the frames of a case, if all steps were taken
+abbrev pub left_over : Case → UndecidedFrames
+left_over c = record { frames = c.frames; why = Steps }
+
+module _ (m : Merging) (w : TheWorld) (within : List MatchField) (steps : ℕ) where
   -- where a frame is that is received
   abbrev pub IsSomewhere : List Case → Paths → List ℕ → ℕ → Type 0
   IsSomewhere cases found frame port = InCases cases frame port ⊎ IsFoundIn found frame port
 
-  module _ (cases : List Case) (old : Case) (found : Paths) (h : ArePathsSoFar m w within (cases ++ old ∷ []) found) where
+  module _ (cases : List Case) (old : Case) (found : Paths) (h : ArePathsSoFar m w within steps (cases ++ old ∷ []) found) where
     last_holds : IsStateOfRuns w old
     last_holds = h.hold old (Contains-push cases old)
 
@@ -116,7 +139,7 @@ module _ (m : Merging) (w : TheWorld) (within : List MatchField) where
         by_place (inr same) = last (subst (λ (c : Case). InFrames c.frames frame port) (sym same) k.2)
     at_cases frame port A (inr k) last other rest = rest k
 
-    pub put_cases : (more : List Case) → AreCases w old.frames old.state more → ArePathsSoFar m w within (cases ++ more) found
+    pub put_cases : (more : List Case) → AreCases w old.frames old.state more → ArePathsSoFar m w within steps (cases ++ more) found
     put_cases more are = record {
       hold = λ c there. elim (Contains-append_cases cases more c there) as (λ x. IsStateOfRuns w c) [
         | inl before ↦ others_hold c before
@@ -133,22 +156,37 @@ module _ (m : Merging) (w : TheWorld) (within : List MatchField) where
           (λ k. inr k);
     }
 
-    pub put_ended : (p : Path) (found' : Paths) → p.frames ≡ old.frames → (IsStateOfRuns w old → (frame : List ℕ) (port : ℕ) → IsReceivedAt w frame port → InFrames old.frames frame port → lines_at w frame port ≡ p.steps.items) → PutsPath m w p found found' → ArePathsSoFar m w within cases found'
-    put_ended p found' frames takes puts = record {
+    -- the last case is undecided, after so many steps
+    pub last_is_undecided : (taken : ℕ) (u : UndecidedFrames) → taken ≤ steps → AreLeftAfter w within taken (cases ++ old ∷ []) → u.frames ≡ old.frames → IsReason w steps taken old u.why → AreUndecided w within steps u
+    last_is_undecided taken u most left frames reason = record {
+      matched = rw frames last_inside;
+      taken = taken;
+      most = most;
+      cases = cases ++ old ∷ [];
+      left = left;
+      c = old;
+      there = Contains-push cases old;
+      own = sym frames;
+      reason = reason;
+    }
+
+    pub put_ended : (taken : ℕ) (p : Path) (found' : Paths) → taken ≤ steps → AreLeftAfter w within taken (cases ++ old ∷ []) → p.frames ≡ old.frames → old.state.tasks.items ≡ [] → (IsStateOfRuns w old → (frame : List ℕ) (port : ℕ) → IsReceivedAt w frame port → InFrames old.frames frame port → lines_at w frame port ≡ p.steps.items) → PutsPath m w steps p found found' → ArePathsSoFar m w within steps cases found'
+    put_ended taken p found' most left frames done takes puts = record {
       hold = others_hold;
       inside = others_inside;
-      right = puts.found within (record { matched = rw frames last_inside; takes = λ frame port received inside. takes last_holds frame port received (rw (sym frames) inside) }) h.right;
+      right = puts.found within (record { matched = rw frames last_inside; takes = λ frame port received inside. takes last_holds frame port received (rw (sym frames) inside) })
+          (λ none. last_is_undecided taken (unfound p) most left frames (done, subst (FindsNone w steps) frames none)) h.right;
       all = λ frame port received matched. at_cases frame port (IsSomewhere cases found' frame port) (h.all frame port received matched)
           (λ inside. inr (puts.own frame port received (rw frames inside)))
           (λ k. inl k)
           (λ k. inr (puts.kept frame port k));
     }
 
-    pub put_undecided : (u : UndecidedFrames) (found' : Paths) → u.frames ≡ old.frames → found'.classes.items ≡ found.classes.items → found'.undecided.items ≡ found.undecided.items ++ u ∷ [] → ArePathsSoFar m w within cases found'
-    put_undecided u found' frames classes undecided = record {
+    pub put_undecided : (u : UndecidedFrames) (found' : Paths) → u.frames ≡ old.frames → AreUndecided w within steps u → found'.classes.items ≡ found.classes.items → found'.undecided.items ≡ found.undecided.items ++ u ∷ [] → ArePathsSoFar m w within steps cases found'
+    put_undecided u found' frames reason classes undecided = record {
       hold = others_hold;
       inside = others_inside;
-      right = found_undecided m w within found found' u classes undecided (rw frames last_inside) h.right;
+      right = found_undecided m w within steps found found' u classes undecided reason h.right;
       all = λ frame port received matched. at_cases frame port (IsSomewhere cases found' frame port) (h.all frame port received matched)
           (λ inside. inr (last_undecided found found' u undecided frame port (rw frames inside)))
           (λ k. inl k)
@@ -158,7 +196,7 @@ module _ (m : Merging) (w : TheWorld) (within : List MatchField) where
   -- ---- the beginning and the end
 
   pub begins : (first : Case) (found : Paths) → found.classes.items ≡ [] → found.undecided.items ≡ [] → IsStateOfRuns w first → AreMatched within first.frames →
-      ((frame : List ℕ) (port : ℕ) → IsReceivedAt w frame port → matches_map within (received_fields frame port) ≡ true → InFrames first.frames frame port) → ArePathsSoFar m w within (first ∷ []) found
+      ((frame : List ℕ) (port : ℕ) → IsReceivedAt w frame port → matches_map within (received_fields frame port) ≡ true → InFrames first.frames frame port) → ArePathsSoFar m w within steps (first ∷ []) found
   begins first found no_classes none holds inside all = record {
     hold = λ c there. subst (IsStateOfRuns w) (one c there) holds;
     inside = λ c there. subst (λ (x : Case). AreMatched within x.frames) (one c there) inside;
@@ -180,9 +218,47 @@ module _ (m : Merging) (w : TheWorld) (within : List MatchField) where
           by_place (inl before) = absurd (omega (arith, before.1))
           by_place (inr same) = same
 
-  pub ends : (found : Paths) → ArePathsSoFar m w within [] found → ArePaths m w within found
+  pub ends : (found : Paths) → ArePathsSoFar m w within steps [] found → ArePaths m w within steps found
   ends found h = record { classes = h.right.classes; merged = h.right.merged; undecided = h.right.undecided; all = λ frame port received matched. by_place frame port (h.all frame port received matched) }
     where
       by_place : (frame : List ℕ) (port : ℕ) → IsSomewhere [] found frame port → IsFoundIn found frame port
       by_place frame port (inl k) = absurd (omega (arith, k.1.1))
       by_place frame port (inr k) = k
+
+  -- ---- the steps are taken
+
+  -- the runs, while so many steps are left
+  pub record IsRunning (left : ℕ) (cases : List Case) (found : Paths) : Type 0 where
+    pub taken : ℕ
+    pub counted : taken + left ≡ steps
+    pub after : AreLeftAfter w within taken cases
+    pub so_far : ArePathsSoFar m w within steps cases found
+
+  pub running_begins : (first : Case) (found : Paths) → found.classes.items ≡ [] → found.undecided.items ≡ [] → IsFirstCase w within first → IsRunning steps (first ∷ []) found
+  running_begins first found no_classes none is = record {
+    taken = 0;
+    counted = omega arith;
+    after = record { first = first; begins = is; steps = refl };
+    so_far = begins first found no_classes none is.runs is.matched is.all;
+  }
+
+  pub running_more : (left : ℕ) (old new : List Case) (found found' : Paths) → 0 < left → (h : IsRunning left old found) → AreLeftAfter w within (h.taken + 1) new → ArePathsSoFar m w within steps new found' → IsRunning (left - 1) new found'
+  running_more left old new found found' some h after so_far = record { taken = h.taken + 1; counted = omega (arith, some, h.counted); after = after; so_far = so_far }
+
+  -- ---- what is left after all steps
+
+  pub record AreLeaving (cases : List Case) (found : Paths) : Type 0 where
+    pub undecided : (c : Case) → Contains cases c → AreUndecided w within steps (left_over c)
+    pub so_far : ArePathsSoFar m w within steps cases found
+
+  pub leaving_begins : (cases : List Case) (found : Paths) → AreLeftAfter w within steps cases → ArePathsSoFar m w within steps cases found → AreLeaving cases found
+  leaving_begins cases found left h = record {
+    undecided = λ c there. record { matched = h.inside c there; taken = steps; most = omega arith; cases = cases; left = left; c = c; there = there; own = refl; reason = refl };
+    so_far = h;
+  }
+
+  pub leave_one : (cases : List Case) (old : Case) (found found' : Paths) → AreLeaving (cases ++ old ∷ []) found → found'.classes.items ≡ found.classes.items → found'.undecided.items ≡ found.undecided.items ++ left_over old ∷ [] → AreLeaving cases found'
+  leave_one cases old found found' h classes undecided = record {
+    undecided = λ c there. h.undecided c (Contains-append_left cases (old ∷ []) c there);
+    so_far = put_undecided cases old found h.so_far (left_over old) found' refl (h.undecided old (Contains-push cases old)) classes undecided;
+  }

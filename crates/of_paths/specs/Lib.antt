@@ -1,4 +1,5 @@
 pub mod Ingress
 pub mod Ways
+pub mod Reasons
 pub mod Paths
 pub mod SoFar

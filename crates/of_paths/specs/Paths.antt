@@ -5,7 +5,6 @@ use Rattle.of_oxm.specs.declared.match_field.MatchField.{MatchField}
 use Rattle.of_oxm.specs.Relations.{matches_map}
 use Rattle.of_machine.specs.TheWorld.{TheWorld}
 use Rattle.of_symbolic.specs.Parts.{received_fields}
-use Rattle.of_symbolic_run.specs.declared.frame_set.FrameSet.{FrameSet}
 use Rattle.of_symbolic_run.specs.FrameSets.{InFrames}
 use Rattle.of_symbolic_switch.specs.Received.{IsReceivedAt, items_at}
 use Rattle.of_paths.specs.declared.path.Merging.{Merging}
@@ -14,11 +13,8 @@ use Rattle.of_paths.specs.declared.path.Path.{Path}
 use Rattle.of_paths.specs.declared.path.PathClass.{PathClass}
 use Rattle.of_paths.specs.declared.path.Paths.{Paths}
 use Rattle.of_paths.specs.declared.path.UndecidedFrames.{UndecidedFrames}
+use Rattle.of_paths.specs.Reasons.{AreMatched, AreUndecided}
 use Rattle.of_paths.specs.Ways.{AreApart, class_way, lines_at, way_of}
-
--- each frame of the set is one that conditions match
-abbrev pub AreMatched : List MatchField → FrameSet → Type 0
-AreMatched within frames = (frame : List ℕ) (port : ℕ) → InFrames frames frame port → matches_map within (received_fields frame port) ≡ true
 
 -- each frame of the path that is received takes its steps
 pub record IsPath (w : TheWorld) (within : List MatchField) (p : Path) : Type 0 where
@@ -53,10 +49,11 @@ abbrev pub AreMerged : Merging → List PathClass → Type 0
 AreMerged SameWay classes = AreApart (map class_way classes)
 AreMerged Each classes = (c : PathClass) → Contains classes c → length c.paths.items ≡ 1
 
--- each class is one, their paths are merged as asked for, and each frame that is received and that conditions match is in a class, or in an undecided set
-pub record ArePaths (merging : Merging) (w : TheWorld) (within : List MatchField) (found : Paths) : Type 0 where
+-- each class is one, their paths are merged as asked for, each undecided set is one for a reason, where the runs of all frames take so many steps together
+-- and each search for a frame as many, and each frame that is received and that conditions match is in a class, or in an undecided set
+pub record ArePaths (merging : Merging) (w : TheWorld) (within : List MatchField) (steps : ℕ) (found : Paths) : Type 0 where
   pub classes : (c : PathClass) → Contains found.classes.items c → IsPathClass w within c
   pub merged : AreMerged merging found.classes.items
-  pub undecided : (u : UndecidedFrames) → Contains found.undecided.items u → AreMatched within u.frames
+  pub undecided : (u : UndecidedFrames) → Contains found.undecided.items u → AreUndecided w within steps u
   pub all : (frame : List ℕ) (port : ℕ) → IsReceivedAt w frame port → matches_map within (received_fields frame port) ≡ true →
       InClasses found.classes.items frame port ⊎ InUndecidedFrames found.undecided.items frame port

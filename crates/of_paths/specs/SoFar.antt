@@ -1,7 +1,6 @@
 -- For contracts inside this crate: what is known of the frames while some runs are not done.
-use Rattle.std.specs.Prelude.{◌≡◌, ℕ, ◌⊎◌, List, map, true, ⊤}
+use Rattle.std.specs.Prelude.{◌≡◌, ℕ, ◌⊎◌, List, [], map, true, ⊤}
 use Rattle.std.specs.List.{Contains}
-use Rattle.of_rewrite.specs.Frames.{IsFrame}
 use Rattle.of_oxm.specs.declared.match_field.MatchField.{MatchField}
 use Rattle.of_oxm.specs.Relations.{matches_map}
 use Rattle.of_machine.specs.TheWorld.{TheWorld}
@@ -9,45 +8,53 @@ use Rattle.of_symbolic.specs.Parts.{received_fields}
 use Rattle.of_symbolic_run.specs.declared.dividing.Case.{Case}
 use Rattle.of_symbolic_run.specs.Cases.{AreCases}
 use Rattle.of_symbolic_run.specs.FrameSets.{InFrames}
-use Rattle.of_symbolic_run.specs.States.{IsAt}
+use Rattle.of_symbolic_run.specs.Later.{AreOneLater}
 use Rattle.of_symbolic_switch.specs.Received.{IsReceivedAt}
+use Rattle.of_symbolic_switch.specs.Sides.{IsUnknownLookup}
+use Rattle.of_symbolic_switch.specs.Unfound.{FindsNone}
 use Rattle.of_paths.specs.declared.path.Merging.{Merging}
 use Rattle.of_paths.specs.declared.path.Merging.TheVariants.{Each, SameWay}
 use Rattle.of_paths.specs.declared.path.Path.{Path}
 use Rattle.of_paths.specs.declared.path.PathClass.{PathClass}
 use Rattle.of_paths.specs.declared.path.Paths.{Paths}
 use Rattle.of_paths.specs.declared.path.UndecidedFrames.{UndecidedFrames}
+use Rattle.of_paths.specs.declared.path.WhyUndecided.TheVariants.{Search, UnknownTag}
 use Rattle.of_paths.specs.declared.stepping.Next.{Next}
 use Rattle.of_paths.specs.declared.stepping.Next.TheVariants as next
-use Rattle.of_paths.specs.Paths.{AreMatched, AreMerged, InClasses, InUndecidedFrames, IsPath, IsPathClass}
+use Rattle.of_paths.specs.Paths.{AreMerged, InClasses, InUndecidedFrames, IsPath, IsPathClass}
+use Rattle.of_paths.specs.Reasons.{AreMatched, AreUndecided, IsStateOfRuns}
 use Rattle.of_paths.specs.Ways.{class_way, lines_at, way_of}
-
--- the state is that of the run of each frame
-abbrev pub IsStateOfRuns : TheWorld → Case → Type 0
-IsStateOfRuns w c = (frame : List ℕ) (port : ℕ) → IsFrame frame → InFrames c.frames frame port → IsAt w frame port c.state
 
 abbrev pub InCases : List Case → List ℕ → ℕ → Type 0
 InCases cases frame port = (c : Case) × Contains cases c × InFrames c.frames frame port
 
 -- what comes of a state for some frames
 abbrev pub IsNextOf : TheWorld → Case → Next → Type 0
-IsNextOf w old (next.Cases cases) = AreCases w old.frames old.state cases.items
-IsNextOf w old (next.Ended p) = (p.frames ≡ old.frames) × (IsStateOfRuns w old → (frame : List ℕ) (port : ℕ) → IsReceivedAt w frame port → InFrames old.frames frame port → lines_at w frame port ≡ p.steps.items)
-IsNextOf w old (next.Undecided u) = u.frames ≡ old.frames
+IsNextOf w old (next.Cases cases) = AreCases w old.frames old.state cases.items × AreOneLater old.state cases.items
+IsNextOf w old (next.Ended p) = (p.frames ≡ old.frames) × (old.state.tasks.items ≡ []) × (IsStateOfRuns w old → (frame : List ℕ) (port : ℕ) → IsReceivedAt w frame port → InFrames old.frames frame port → lines_at w frame port ≡ p.steps.items)
+IsNextOf w old (next.Undecided u) = (u.frames ≡ old.frames) × (u.why ≡ UnknownTag) × IsUnknownLookup w old.state
 
 -- what was found is right
-pub record AreFoundSoFar (merging : Merging) (w : TheWorld) (within : List MatchField) (found : Paths) : Type 0 where
+pub record AreFoundSoFar (merging : Merging) (w : TheWorld) (within : List MatchField) (steps : ℕ) (found : Paths) : Type 0 where
   pub classes : (c : PathClass) → Contains found.classes.items c → IsPathClass w within c
   pub merged : AreMerged merging found.classes.items
-  pub undecided : (u : UndecidedFrames) → Contains found.undecided.items u → AreMatched within u.frames
+  pub undecided : (u : UndecidedFrames) → Contains found.undecided.items u → AreUndecided w within steps u
 
 -- the frame is in it
 abbrev pub IsFoundIn : Paths → List ℕ → ℕ → Type 0
 IsFoundIn found frame port = InClasses found.classes.items frame port ⊎ InUndecidedFrames found.undecided.items frame port
 
+-- the frames of a path, if none of them was found
+abbrev pub unfound : Path → UndecidedFrames
+unfound p = record { frames = p.frames; why = Search }
+
+-- they are undecided for a reason
+abbrev pub IsUndecidedIfUnfound : TheWorld → List MatchField → ℕ → Path → Type 0
+IsUndecidedIfUnfound w within steps p = FindsNone w steps p.frames → AreUndecided w within steps (unfound p)
+
 -- a path was put to it
-pub record PutsPath (merging : Merging) (w : TheWorld) (p : Path) (old new : Paths) : Type 0 where
-  pub found : (within : List MatchField) → IsPath w within p → AreFoundSoFar merging w within old → AreFoundSoFar merging w within new
+pub record PutsPath (merging : Merging) (w : TheWorld) (steps : ℕ) (p : Path) (old new : Paths) : Type 0 where
+  pub found : (within : List MatchField) → IsPath w within p → IsUndecidedIfUnfound w within steps p → AreFoundSoFar merging w within steps old → AreFoundSoFar merging w within steps new
   pub own : (frame : List ℕ) (port : ℕ) → IsReceivedAt w frame port → InFrames p.frames frame port → IsFoundIn new frame port
   pub kept : (frame : List ℕ) (port : ℕ) → IsFoundIn old frame port → IsFoundIn new frame port
 
@@ -57,12 +64,12 @@ IsOtherWay SameWay found p = Contains (map class_way found.classes.items) (way_o
 IsOtherWay Each found p = ⊤
 
 -- a path was put to it, and to no class that was there
-abbrev pub PutsAlone : TheWorld → Path → Paths → Paths → Type 0
-PutsAlone w p old new = (merging : Merging) → IsOtherWay merging old p → PutsPath merging w p old new
+abbrev pub PutsAlone : TheWorld → ℕ → Path → Paths → Paths → Type 0
+PutsAlone w steps p old new = (merging : Merging) → IsOtherWay merging old p → PutsPath merging w steps p old new
 
 -- all that is known while cases are left
-pub record ArePathsSoFar (merging : Merging) (w : TheWorld) (within : List MatchField) (cases : List Case) (found : Paths) : Type 0 where
+pub record ArePathsSoFar (merging : Merging) (w : TheWorld) (within : List MatchField) (steps : ℕ) (cases : List Case) (found : Paths) : Type 0 where
   pub hold : (c : Case) → Contains cases c → IsStateOfRuns w c
   pub inside : (c : Case) → Contains cases c → AreMatched within c.frames
-  pub right : AreFoundSoFar merging w within found
+  pub right : AreFoundSoFar merging w within steps found
   pub all : (frame : List ℕ) (port : ℕ) → IsReceivedAt w frame port → matches_map within (received_fields frame port) ≡ true → InCases cases frame port ⊎ IsFoundIn found frame port

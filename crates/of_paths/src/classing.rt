@@ -1,5 +1,5 @@
 //! Paths are put into classes.
-ghost use Rattle.std.specs.Prelude.{◌≡◌, ◌≤◌, ◌++◌, ◌∷◌, [], OnOk, length};
+ghost use Rattle.std.specs.Prelude.{◌≡◌, ◌≤◌, ◌++◌, ◌∷◌, [], ℕ, OnOk, length};
 ghost use Rattle.of_rewrite.specs.Frames.{IsFrame};
 ghost use Rattle.of_datapath.specs.Datapath.{world_of};
 ghost use Rattle.of_datapath.specs.Numbers.{forwarding_of};
@@ -40,7 +40,7 @@ fn push_class<L: Lookup>(
     requires frame_is { IsFrame frame.items }
     requires short { length frame.items ≤ 9216 }
     requires within { InFrames path.frames frame.items in_port }
-    ensures { OnOk result (PutsAlone (world_of (forwarding_of datapath.now)) path found.old found.new) }
+    ensures { OnOk result ((steps : ℕ) → PutsAlone (world_of (forwarding_of datapath.now)) steps path found.old found.new) }
 {
     if !receiving_port(datapath.port_list(), in_port) {
         return push_unfound(path.frames, found);
@@ -65,7 +65,7 @@ fn put_alone<L: Lookup>(
     steps: usize,
     found: &mut Paths,
 ) -> Result<(), AllocError>
-    ensures { OnOk result (PutsAlone (world_of (forwarding_of datapath.now)) path found.old found.new) }
+    ensures { OnOk result (PutsAlone (world_of (forwarding_of datapath.now)) steps path found.old found.new) }
 {
     match path.frames.find(alloc, steps)? {
         FrameFound::Frame { frame, in_port } => {
@@ -84,7 +84,7 @@ fn put_merged<L: Lookup>(
     steps: usize,
     found: &mut Paths,
 ) -> Result<(), AllocError>
-    ensures { OnOk result (PutsPath SameWay (world_of (forwarding_of datapath.now)) path found.old found.new) }
+    ensures { OnOk result (PutsPath SameWay (world_of (forwarding_of datapath.now)) steps path found.old found.new) }
 {
     match place_of_way(&found.classes, &path.steps) {
         Some(place) => {
@@ -105,7 +105,7 @@ pub fn put_path<L: Lookup>(
     steps: usize,
     found: &mut Paths,
 ) -> Result<(), AllocError>
-    ensures { OnOk result (PutsPath merging (world_of (forwarding_of datapath.now)) path found.old found.new) }
+    ensures { OnOk result (PutsPath merging (world_of (forwarding_of datapath.now)) steps path found.old found.new) }
 {
     match merging {
         Merging::SameWay => put_merged(alloc, datapath, path, steps, found),

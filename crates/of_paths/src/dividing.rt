@@ -1,5 +1,5 @@
 //! The paths of all frames that a switch receives.
-ghost use Rattle.std.specs.Prelude.{◌≡◌, ◌++◌, ◌∷◌, [], ℕ, List, IfOk, OnOk, true};
+ghost use Rattle.std.specs.Prelude.{◌≡◌, ◌≤◌, ◌+◌, ◌++◌, ◌∷◌, [], ℕ, List, IfOk, OnOk, true};
 ghost use Rattle.of_datapath.specs.Datapath.{world_of};
 ghost use Rattle.of_datapath.specs.Numbers.{forwarding_of};
 ghost use Rattle.of_oxm.specs.declared.match_field.MatchField.{MatchField as AMatchField};
@@ -11,8 +11,9 @@ ghost use Rattle.of_symbolic_run.specs.FrameSets.{InFrames};
 ghost use Rattle.of_symbolic_run.specs.declared.dividing.Case.{Case as ACase};
 ghost use Rattle.of_symbolic_switch.specs.Received.{IsReceivedAt};
 ghost use Rattle.of_paths.specs.declared.path.Merging.{Merging as AMerging};
-ghost use Rattle.of_paths.specs.Paths.{ArePaths, AreMatched};
-ghost use Rattle.of_paths.specs.SoFar.{ArePathsSoFar, IsStateOfRuns, IsNextOf};
+ghost use Rattle.of_paths.specs.Paths.{ArePaths};
+ghost use Rattle.of_paths.specs.Reasons.{AreLeftAfter, AreMatched, IsStateOfRuns};
+ghost use Rattle.of_paths.specs.SoFar.{ArePathsSoFar, IsNextOf};
 
 use crate::classing::put_path;
 use crate::path::{Merging, Paths, UndecidedFrames, WhyUndecided};
@@ -34,9 +35,14 @@ fn put_next<'a, L: Lookup>(
     cases: &mut Vec<Case<'a>>,
     found: &mut Paths,
 ) -> Result<(), AllocError>
-    ensures { OnOk result ((within : List AMatchField) (old : ACase) → IsNextOf (world_of (forwarding_of datapath.now)) old next.entry →
-        ArePathsSoFar merging (world_of (forwarding_of datapath.now)) within (cases.old.items ++ old ∷ []) found.old →
-        ArePathsSoFar merging (world_of (forwarding_of datapath.now)) within cases.new.items found.new) }
+    ensures taken { OnOk result ((within : List AMatchField) (taken : ℕ) (old : ACase) → IsNextOf (world_of (forwarding_of datapath.now)) old next.entry →
+        AreLeftAfter (world_of (forwarding_of datapath.now)) within taken (cases.old.items ++ old ∷ []) →
+        AreLeftAfter (world_of (forwarding_of datapath.now)) within (taken + 1) cases.new.items) }
+    ensures so_far { OnOk result ((within : List AMatchField) (taken : ℕ) (old : ACase) → taken ≤ steps →
+        IsNextOf (world_of (forwarding_of datapath.now)) old next.entry →
+        AreLeftAfter (world_of (forwarding_of datapath.now)) within taken (cases.old.items ++ old ∷ []) →
+        ArePathsSoFar merging (world_of (forwarding_of datapath.now)) within steps (cases.old.items ++ old ∷ []) found.old →
+        ArePathsSoFar merging (world_of (forwarding_of datapath.now)) within steps cases.new.items found.new) }
 {
     match next {
         Next::Cases(more) => {
@@ -55,8 +61,8 @@ fn put_next<'a, L: Lookup>(
 
 // The runs took as many steps as they may.
 fn leave_undecided<'a>(cases: Vec<Case<'a>>, found: &mut Paths) -> Result<(), AllocError>
-    ensures { OnOk result ((merging : AMerging) (w : TheWorld) (within : List AMatchField) →
-        ArePathsSoFar merging w within cases.entry.items found.old → ArePaths merging w within found.new) }
+    ensures { OnOk result ((merging : AMerging) (w : TheWorld) (within : List AMatchField) (steps : ℕ) → AreLeftAfter w within steps cases.entry.items →
+        ArePathsSoFar merging w within steps cases.entry.items found.old → ArePaths merging w within steps found.new) }
 {
     let mut cases = cases;
     while let Some(case) = cases.pop() {
@@ -76,6 +82,7 @@ fn first_case<'a, L: Lookup>(
 ) -> Result<Case<'a>, AllocError>
     requires { AreConditions within.now }
     ensures holds { IfOk result (IsStateOfRuns (world_of (forwarding_of datapath.now))) }
+    ensures none { IfOk result (λ case. case.state.steps.items ≡ []) }
     ensures within { IfOk result (λ case. AreMatched within.now case.frames) }
     ensures all { IfOk result (λ case. (frame : List ℕ) (port : ℕ) → IsReceivedAt (world_of (forwarding_of datapath.now)) frame port →
         matches_map within.now (received_fields frame port) ≡ true → InFrames case.frames frame port) }
@@ -90,7 +97,8 @@ fn first_case<'a, L: Lookup>(
 /// The paths of all frames that a switch receives and that conditions match, in classes (OpenFlow 1.3.5, 5.1): those whose steps differ only in which
 /// entries are hit together, or each alone.
 ///
-/// The runs of all frames take at most so many steps together, and each search for a frame as many.
+/// The runs of all frames take at most so many steps together, and each search for a frame as many. A set of frames is undecided only if all these steps
+/// were taken, or if it is not known what its lookup finds, or if no frame of it was found.
 pub fn paths<L: Lookup>(
     alloc: Global,
     datapath: &Datapath<L>,
@@ -99,7 +107,7 @@ pub fn paths<L: Lookup>(
     steps: usize,
 ) -> Result<Paths, AllocError>
     requires { AreConditions within.now }
-    ensures { IfOk result (ArePaths merging (world_of (forwarding_of datapath.now)) within.now) }
+    ensures { IfOk result (ArePaths merging (world_of (forwarding_of datapath.now)) within.now steps) }
 {
     let mut found = Paths {
         classes: Vec::new(alloc),

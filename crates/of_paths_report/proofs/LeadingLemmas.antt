@@ -252,9 +252,9 @@ class_leads (places.Port n) c p there way leads = first_leads (places.Port n) c.
 class_leads places.Controller c p there way leads = first_leads places.Controller c.paths.items p there way leads
 class_leads places.Nothing c p there way leads = absurd (never_both _ leads (no_step p.steps.items))
 
-pub all_that_leaves : (m : Merging) (w : TheWorld) (within : List MatchField) (found : Paths) → ArePaths m w within found → (to : Destination) (frame : List ℕ) (port : ℕ) → IsReceivedAt w frame port → matches_map within (received_fields frame port) ≡ true
+pub all_that_leaves : (m : Merging) (w : TheWorld) (within : List MatchField) (steps : ℕ) (found : Paths) → ArePaths m w within steps found → (to : Destination) (frame : List ℕ) (port : ℕ) → IsReceivedAt w frame port → matches_map within (received_fields frame port) ≡ true
     → list_any (leaves_to to) (items_at w frame port) ≡ true → InClassLeadingTo to found.classes.items frame port ⊎ InUndecidedFrames found.undecided.items frame port
-all_that_leaves m w within found are to frame port received matched leaves = elim (are.all frame port received matched) as (λ u. InClassLeadingTo to found.classes.items frame port ⊎ InUndecidedFrames found.undecided.items frame port) [
+all_that_leaves m w within steps found are to frame port received matched leaves = elim (are.all frame port received matched) as (λ u. InClassLeadingTo to found.classes.items frame port ⊎ InUndecidedFrames found.undecided.items frame port) [
   | inl in_class ↦
       let c = in_class.0 in
       let p = in_class.2.0 in

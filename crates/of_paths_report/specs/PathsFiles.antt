@@ -29,7 +29,8 @@ abbrev pub IsPathsResult : Result PathsVerdict Ended → PathsVerdict → Type 0
 IsPathsResult (Ok verdict) is = verdict ≡ is
 IsPathsResult (Err ended) is = ended ≢ Done
 
--- THE TEXT of the paths of a switch, for the frames that conditions match, merged or each alone: those that lead to a place, if one is asked for
-abbrev pub IsPathsReport : Result PathsVerdict Ended → PathsForm → List MatchField → Merging → Option Destination → Forwarding → List ℕ → Type 0
-IsPathsReport result form within merging to f text =
-    (found : Paths) × ArePaths merging (world_of f) within found × (text ≡ paths_text form f to found) × IsPathsResult result (paths_verdict found)
+-- THE TEXT of the paths of a switch, for the frames that conditions match, merged or each alone: those that lead to a place, if one is asked for. The
+-- runs of all frames take at most so many steps together, and each search for a frame as many.
+abbrev pub IsPathsReport : Result PathsVerdict Ended → PathsForm → List MatchField → Merging → Option Destination → ℕ → Forwarding → List ℕ → Type 0
+IsPathsReport result form within merging to steps f text =
+    (found : Paths) × ArePaths merging (world_of f) within steps found × (text ≡ paths_text form f to found) × IsPathsResult result (paths_verdict found)

@@ -15,7 +15,7 @@ ghost use Rattle.of_paths_report.specs.declared.destination.Destination.{Destina
 /// Each frame of which something leaves by a port, or goes to the controller, is in a class that leads there, or is undecided: the classes that are left
 /// out if that place is asked for have no such frame (OpenFlow 1.3.5, 5.1 and 5.12).
 pub fn what_leaves_is_in_leading_classes()
-    ensures { (merging : Merging) (w : TheWorld) (within : List MatchField) (found : Paths) → ArePaths merging w within found →
+    ensures { (merging : Merging) (w : TheWorld) (within : List MatchField) (steps : ℕ) (found : Paths) → ArePaths merging w within steps found →
         (to : Place) (frame : List ℕ) (port : ℕ) → IsReceivedAt w frame port → matches_map within (received_fields frame port) ≡ true →
         list_any (leaves_to to) (items_at w frame port) ≡ true →
         InClassLeadingTo to found.classes.items frame port ⊎ InUndecidedFrames found.undecided.items frame port }

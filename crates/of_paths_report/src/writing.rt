@@ -45,7 +45,7 @@ fn find_paths<L: Lookup>(
     steps: usize,
 ) -> Result<Paths, AllocError>
     requires { AreConditions within.now }
-    ensures { IfOk result (ArePaths merging (world_of switch.now.core.forwarding) within.now) }
+    ensures { IfOk result (ArePaths merging (world_of switch.now.core.forwarding) within.now steps) }
 {
     paths(alloc, switch.datapath(), within, merging, steps)
 }
@@ -110,7 +110,7 @@ pub fn write_paths<L: Lookup, W: Sink>(
 ) -> Result<PathsVerdict, Ended>
     requires conditions { AreConditions within.now }
     requires well { W.failures writer.old ≡ 0 }
-    ensures output { Writes (IsPathsReport result form within.now merging to switch.now.core.forwarding) (ended_as result)
+    ensures output { Writes (IsPathsReport result form within.now merging to steps switch.now.core.forwarding) (ended_as result)
         (W.taken writer.old) (W.taken writer.new) }
     ensures write_fault { (ended_as result ≡ Ended.WriteFault) ↔ (0 < W.failures writer.new) }
 {

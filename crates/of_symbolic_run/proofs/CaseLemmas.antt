@@ -34,6 +34,7 @@ use Rattle.of_symbolic_run.specs.declared.state.SymbolicTask.{SymbolicTask}
 use Rattle.of_symbolic_run.specs.declared.state.Work.{Work}
 use Rattle.of_symbolic_run.specs.declared.state.Work.TheVariants.{Do, Lookup, RunSet}
 use Rattle.of_symbolic_run.specs.Cases.{AreCases, AreCasesOf, AsksUnknownOf, IsAtEntry, IsCaseOf, IsEntered, IsTableOf, first_key, flow_found, flow_named, goes_to_table, lookup_line, flow_with_number}
+use Rattle.of_symbolic_run.specs.Later.{AreOneLater, IsOneLater}
 use Rattle.of_symbolic_run.specs.States.{IsStateCopy, answer_to_tasks, items_for, packet_for, row_for, task_for, work_for}
 use Rattle.of_symbolic_run.proofs.FirstLemmas.{copy_stepped, first_item, firsts, is_lookup, some_lookup}
 
@@ -139,11 +140,12 @@ named_past listed place k is le = rw is (sym (ap (flow_with_number k) (past_flow
 -- ---- the case of a branch
 
 pub case_is : (table : ℕ) (flows : List FlowEntry) (frames : FrameSet) (state : SymbolicState) (b : Branch) (c : Case) (found : Option (ℕ × Flow)) → ((fields : Field → Option ℕ) → InPart b.part fields → InPart frames.part fields) →
-    c.frames.part ≡ b.part → c.frames.ttl_from ≡ frames.ttl_from → c.frames.ttl_to ≡ frames.ttl_to → found ≡ flow_named flows b.entry → IsEntered table found state c.state → IsCaseOf table flows frames state b c
-case_is table flows frames state b c found inside part least most is entered = record {
+    c.frames.part ≡ b.part → c.frames.ttl_from ≡ frames.ttl_from → c.frames.ttl_to ≡ frames.ttl_to → found ≡ flow_named flows b.entry → IsEntered table found state c.state → IsOneLater state c.state → IsCaseOf table flows frames state b c
+case_is table flows frames state b c found inside part least most is entered later = record {
   within = λ frame port h. (let own : InPart b.part (received_fields frame port) = rw (sym part) h.part in (record { part = inside (received_fields frame port) own; ttl = rw (sym least, sym most) h.ttl }, own));
   all = λ frame port h own. record { part = rw part own; ttl = rw (least, most) h.ttl };
   entered = subst (λ (o : Option (ℕ × Flow)). IsEntered table o state c.state) is entered;
+  later = later;
 }
 
 module _ (table : ℕ) (flows : List FlowEntry) (frames : FrameSet) (state : SymbolicState) where
@@ -181,6 +183,9 @@ module _ (table : ℕ) (flows : List FlowEntry) (frames : FrameSet) (state : Sym
   of_branch (x ∷ branches) (y ∷ cases) are (suc k) b lt at =
       let o = of_branch branches cases are.1 k b (omega (arith, lt)) at in
       record { c = o.c; there = (suc o.there.0, omega (arith, o.there.1), o.there.2); own = o.own }
+
+  pub cases_later : (branches : List Branch) (cases : List Case) → AreCasesOf table flows frames state branches cases → AreOneLater state cases
+  cases_later branches cases made c there = let o = of_case branches cases made there.0 c there.1 there.2 in o.own.later
 
   found_named : (w : TheWorld) → IsTableOf w table flows → (o : Option ℕ) → flow_found w table o ≡ flow_named flows o
   found_named w is None = refl

@@ -30,6 +30,7 @@ use Rattle.of_symbolic_run.specs.declared.state.Work.TheVariants.{Act}
 use Rattle.of_symbolic_run.specs.Cases.{AreCases}
 use Rattle.of_symbolic_run.specs.Decrementing.{AddsExpired, IsDecremented, IsExpiredCase, IsLimit, IsOneMoreRewrite, first_ttl}
 use Rattle.of_symbolic_run.specs.FrameSets.{AreFramesOrNone, AreFramesThat, InFrames}
+use Rattle.of_symbolic_run.specs.Later.{AreOneLater, IsOneLater}
 use Rattle.of_symbolic_run.specs.States.{IsAt, IsStateCopy, answer_to_tasks, items_for, packet_for, row_for, task_for, work_for}
 use Rattle.of_symbolic_run.specs.TimesToLive.{expires, is_last, known_ttl, ttl_limit_of}
 use Rattle.of_symbolic_run.proofs.FirstLemmas.{copy_stepped, first_item, firsts, is_decrement, some_decrement}
@@ -160,3 +161,21 @@ module _ (w : TheWorld) (frames : FrameSet) (state : SymbolicState) (limit : Opt
   pub divided : (mid cases : List Case) → cases ≡ mid ++ alive ∷ [] → AddsExpired (expires limit) frames state [] mid → AreCases w frames state cases
   divided mid cases are (inl none) = only_alive cases (are ∙ ap (λ (l : List Case). l ++ alive ∷ []) none.0) none.1
   divided mid cases are (inr more) = both more.0 cases (are ∙ ap (λ (l : List Case). l ++ alive ∷ []) more.1) more.2
+
+-- ---- one step later
+
+no_case : (c : Case) → Contains [] c → ⊥
+no_case c h = absurd (omega (arith, h.1))
+
+expired_later : (test : List ℕ → Bool) (frames : FrameSet) (state : SymbolicState) (mid : List Case) → AddsExpired test frames state [] mid → AreOneLater state mid
+expired_later test frames state mid (inl none) c there = absurd (no_case c (subst (λ (l : List Case). Contains l c) none.0 there))
+expired_later test frames state mid (inr more) c there = elim (Contains-push_cases [] more.0 c (subst (λ (l : List Case). Contains l c) more.1 there)) as (λ x. IsOneLater state c.state) [
+  | inl before ↦ absurd (no_case c before)
+  | inr same ↦ subst (λ (x : Case). IsOneLater state x.state) same more.2.later
+]
+
+pub divided_later : (state : SymbolicState) (test : List ℕ → Bool) (frames : FrameSet) (alive : Case) (mid cases : List Case) → IsOneLater state alive.state → cases ≡ mid ++ alive ∷ [] → AddsExpired test frames state [] mid → AreOneLater state cases
+divided_later state test frames alive mid cases later are added c there = elim (Contains-push_cases mid alive c (subst (λ (l : List Case). Contains l c) are there)) as (λ x. IsOneLater state c.state) [
+  | inl before ↦ expired_later test frames state mid added c before
+  | inr same ↦ subst (λ (x : Case). IsOneLater state x.state) same later
+]

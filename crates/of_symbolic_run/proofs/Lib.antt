@@ -2,6 +2,7 @@ pub mod StepLemmas
 pub mod RunLemmas
 pub mod FrameLemmas
 pub mod FirstLemmas
+pub mod LaterLemmas
 pub mod TtlLemmas
 pub mod HeaderLemmas
 pub mod TtlFrameLemmas

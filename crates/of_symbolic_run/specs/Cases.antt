@@ -25,6 +25,7 @@ use Rattle.of_symbolic_run.specs.declared.frame_set.FrameSet.{FrameSet}
 use Rattle.of_symbolic_run.specs.declared.state.SymbolicState.{SymbolicState}
 use Rattle.of_symbolic_run.specs.declared.state.SymbolicTask.{SymbolicTask}
 use Rattle.of_symbolic_run.specs.FrameSets.{InFrames}
+use Rattle.of_symbolic_run.specs.Later.{IsOneLater}
 use Rattle.of_symbolic_run.specs.States.{IsAt, packet_for, work_for}
 
 -- THE CASES of a state for some frames: no case has other frames, each frame is in a case, and the state of a case is one of the run of each of its frames
@@ -95,6 +96,7 @@ pub record IsCaseOf (table : ℕ) (flows : List FlowEntry) (frames : FrameSet) (
   pub within : (frame : List ℕ) (port : ℕ) → InFrames c.frames frame port → InFrames frames frame port × InPart b.part (received_fields frame port)
   pub all : (frame : List ℕ) (port : ℕ) → InFrames frames frame port → InPart b.part (received_fields frame port) → InFrames c.frames frame port
   pub entered : IsEntered table (flow_named flows b.entry) state c.state
+  pub later : IsOneLater state c.state
 
 -- those of branches, one after the other
 abbrev pub AreCasesOf : ℕ → List FlowEntry → FrameSet → SymbolicState → List Branch → List Case → Type 0

@@ -11,6 +11,7 @@ use Rattle.of_symbolic_run.specs.declared.frame_set.FrameSet.{FrameSet}
 use Rattle.of_symbolic_run.specs.declared.state.SymbolicState.{SymbolicState}
 use Rattle.of_symbolic_run.specs.declared.state.SymbolicTask.{SymbolicTask}
 use Rattle.of_symbolic_run.specs.FrameSets.{AreFramesOrNone, AreFramesThat}
+use Rattle.of_symbolic_run.specs.Later.{IsOneLater}
 use Rattle.of_symbolic_run.specs.States.{IsAt}
 use Rattle.of_symbolic_run.specs.TimesToLive.{expires, is_last}
 
@@ -37,6 +38,7 @@ IsOneMoreRewrite a old new = (new.packet ≡ record old.packet { rewrites = old.
 pub record IsExpiredCase (test : List ℕ → Bool) (frames : FrameSet) (state : SymbolicState) (c : Case) : Type 0 where
   pub frames_are : AreFramesThat test frames c.frames
   pub state_is : IsDecremented true state c.state
+  pub later : IsOneLater state c.state
 
 abbrev pub AddsExpired : (List ℕ → Bool) → FrameSet → SymbolicState → List Case → List Case → Type 0
 AddsExpired test frames state old new =

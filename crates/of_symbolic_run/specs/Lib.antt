@@ -2,6 +2,7 @@ pub mod Rewriting
 pub mod States
 pub mod FrameParts
 pub mod FrameSets
+pub mod Later
 pub mod Cases
 pub mod TimesToLive
 pub mod Decrementing

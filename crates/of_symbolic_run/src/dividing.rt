@@ -7,6 +7,7 @@ ghost use Rattle.of_symbolic.specs.Branches.{flows_listed};
 ghost use Rattle.of_symbolic.specs.declared.branching.Branch.{Branch as ABranch};
 ghost use Rattle.of_symbolic_run.specs.declared.advance.Advance.TheVariants.{Lookup};
 ghost use Rattle.of_symbolic_run.specs.Cases.{AreCases, AreCasesOf, AsksUnknownOf, IsBranchOf, IsCaseOf, IsTableOf, flow_named, found_flow};
+ghost use Rattle.of_symbolic_run.specs.Later.{AreOneLater};
 ghost use Rattle.of_symbolic_run.specs.States.{answer_to_tasks};
 
 use crate::frame_set::FrameSet;
@@ -97,6 +98,7 @@ fn cases_by_entry<'a>(
     requires first { answer_to_tasks state.now.tasks.items ≡ Lookup table }
     ensures some { IfOk result (λ found. IfSome found (λ cases. (w : TheWorld) → IsTableOf w table (flows_of entries.entry) →
         AreCases w frames.now state.now cases.items)) }
+    ensures later { IfOk result (λ found. IfSome found (λ cases. AreOneLater state.now cases.items)) }
     ensures none { IfOk result (λ found. IfNone found (AsksUnknownOf state.now.tasks.items (flows_of entries.entry))) }
 {
     let listed = listed_entries(alloc, entries)?;
@@ -125,6 +127,7 @@ pub fn look_up<'a>(
     requires first { answer_to_tasks state.now.tasks.items ≡ Lookup table }
     ensures some { IfOk result (λ found. IfSome found (λ cases. (w : TheWorld) → IsTableOf w table (flows_of entries.entry) →
         AreCases w frames.now state.now cases.items)) }
+    ensures later { IfOk result (λ found. IfSome found (λ cases. AreOneLater state.now cases.items)) }
     ensures none { IfOk result (λ found. IfNone found (AsksUnknownOf state.now.tasks.items (flows_of entries.entry))) }
 {
     let found = cases_by_entry(alloc, entries, state, frames, table)?;

@@ -1,5 +1,5 @@
 -- Frames that come in by a port that is there.
-use Rattle.std.proofs.Common.{◌≡◌, ℕ, suc, ◌≤◌, eqb, cond, Bool, true, false, List, [], ◌∷◌, length, Some, refl, sym, ap, subst, arith}
+use Rattle.std.proofs.Common.{◌≡◌, ℕ, suc, ◌≤◌, eqb, cond, Bool, true, false, List, [], ◌∷◌, length, Some, refl, sym, ap, subst, arith, inr}
 use Rattle.std.specs.List.{Contains}
 use Rattle.std.proofs.lemmas.Bool.{eqb-true}
 use Rattle.of_oxm.specs.declared.match_field.MatchField.{MatchField}
@@ -12,6 +12,7 @@ use Rattle.of_symbolic_run.specs.declared.frame_set.FrameSet.{FrameSet}
 use Rattle.of_symbolic_run.specs.FrameSets.{AreFramesWithout, InFrames}
 use Rattle.of_symbolic_switch.specs.Received.{IsReceivedAt}
 use Rattle.of_symbolic_switch.specs.PortNumbers.{IsAbsence, IsReceivingPort}
+use Rattle.of_symbolic_switch.specs.Unfound.{FindsNone}
 
 record IsThere (ports : List Port) (n : ℕ) (p : Port) : Type 0 where
   pub listed : Contains ports p
@@ -36,3 +37,12 @@ still_received w m old new absence less h frame port received =
 
 pub is_received : (w : TheWorld) (frame : List ℕ) (port : ℕ) → IsFrame frame → length frame ≤ 9216 → IsReceivingPort w.ports port → IsReceivedAt w frame port
 is_received w frame port is short receives = record { frame_is = is; short = short; ingress = receives.port; there = receives.there; receives = receives.receives }
+
+-- ---- a frame that is not received
+
+pub silent_port : (ports listed : List Port) (port : ℕ) (b : Bool) → listed ≡ ports → (IsReceivingPort listed port → b ≡ true) → b ≡ false → IsReceivingPort ports port → ⊥
+silent_port ports listed port true same tells is_not receives = absurd cc
+silent_port ports listed port false same tells is_not receives = let h : false ≡ true = tells (subst (λ (l : List Port). IsReceivingPort l port) (sym same) receives) in absurd cc
+
+pub unreceived_frame : (w : TheWorld) (steps : ℕ) (frames : FrameSet) (frame : List ℕ) (port : ℕ) → IsFrame frame → InFrames frames frame port → (IsReceivingPort w.ports port → ⊥) → FindsNone w steps frames
+unreceived_frame w steps frames frame port is inside silent = inr (frame, port, is, inside, silent)

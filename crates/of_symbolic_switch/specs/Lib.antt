@@ -1,3 +1,4 @@
 pub mod Received
 pub mod PortNumbers
 pub mod Sides
+pub mod Unfound

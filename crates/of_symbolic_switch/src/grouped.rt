@@ -5,6 +5,7 @@ ghost use Rattle.of_datapath.specs.Numbers.{forwarding_of};
 ghost use Rattle.of_machine.specs.Sound.{AllBuckets};
 ghost use Rattle.of_symbolic_run.specs.declared.advance.Advance.TheVariants.{Group as WantsGroup};
 ghost use Rattle.of_symbolic_run.specs.Groups.{AreServedLists, lists_of};
+ghost use Rattle.of_symbolic_run.specs.Later.{IsOneLater};
 ghost use Rattle.of_symbolic_run.specs.States.{IsAt, answer_to_tasks};
 
 use of_actions::Action;
@@ -40,8 +41,9 @@ pub fn step_group<'a, L: Lookup>(
     group: u32,
 ) -> Result<(), AllocError>
     requires { answer_to_tasks state.now.tasks.items ≡ WantsGroup group }
-    ensures { OnOk result ((frame : List ℕ) (port : ℕ) →
+    ensures at { OnOk result ((frame : List ℕ) (port : ℕ) →
         IsAt (world_of (forwarding_of datapath.now)) frame port state.old → IsAt (world_of (forwarding_of datapath.now)) frame port state.new) }
+    ensures later { OnOk result (IsOneLater state.old state.new) }
 {
     datapath.known_world();
     match datapath.buckets_for(group) {

@@ -13,7 +13,7 @@ returns-in_ok-push-in-Some g c =
     let x = c.index_mut.result.now in
     let way = rw (c.deref.ensures.value, c.deref-2.ensures.value) at c.in-Some.ensures.some in
     let lt = is_inside classes c.in-Some.place _ way in
-    puts_joined (world_of (forwarding_of c.args.datapath.now)) c.args.path c.args.found.now _ c.in-Some.place x _ c.index_mut.ensures.value lt c.in_ok-push-in-Some.ensures.items refl refl refl refl refl (is_at_place classes c.in-Some.place x _ c.index_mut.ensures.value lt way)
+    puts_joined (world_of (forwarding_of c.args.datapath.now)) c.args.steps c.args.path c.args.found.now _ c.in-Some.place x _ c.index_mut.ensures.value lt c.in_ok-push-in-Some.ensures.items refl refl refl refl refl (is_at_place classes c.in-Some.place x _ c.index_mut.ensures.value lt way)
 
 pub returns-in-None : goal.returns-in-None
 returns-in-None g c =

@@ -1,12 +1,14 @@
-use Rattle.std.proofs.Common.{List, length}
+use Rattle.std.proofs.Common.{ℕ, List, length}
 use Rattle.of_oxm.specs.declared.match_field.MatchField.{MatchField}
 use Rattle.of_machine.specs.TheWorld.{TheWorld}
 use Rattle.of_paths.specs.declared.path.Merging.{Merging}
+use Rattle.of_paths.specs.Reasons.{AreLeftAfter}
 use Rattle.of_paths.specs.SoFar.{ArePathsSoFar}
+use Rattle.of_paths.proofs.SoFarLemmas.{AreLeaving}
 use Rattle.of_paths.proofs.dividing.leave_undecided.Given as goal
 
 abbrev pub invariant-loop-case : goal.invariant-loop-case
-invariant-loop-case l = (m : Merging) (w : TheWorld) (within : List MatchField) → ArePathsSoFar m w within l.fn.cases.items l.fn.found → ArePathsSoFar m w within l.cases.items l.found
+invariant-loop-case l = (m : Merging) (w : TheWorld) (within : List MatchField) (steps : ℕ) → AreLeftAfter w within steps l.fn.cases.items → ArePathsSoFar m w within steps l.fn.cases.items l.fn.found → AreLeaving m w within steps l.cases.items l.found
 
 abbrev pub decreases-loop-case : goal.decreases-loop-case
 decreases-loop-case l = length l.cases.items

@@ -6,7 +6,7 @@ use Rattle.of_table.specs.Table.{FlowEntry}
 use Rattle.of_symbolic.specs.declared.branching.Branch.{Branch}
 use Rattle.of_symbolic.specs.Branches.{AreBranches, AsksUnknown, flows_listed}
 use Rattle.of_symbolic_run.specs.Cases.{AreCasesOf}
-use Rattle.of_symbolic_run.proofs.CaseLemmas.{cases_are, key_is, own_branches, unknown_first}
+use Rattle.of_symbolic_run.proofs.CaseLemmas.{cases_are, cases_later, key_is, own_branches, unknown_first}
 use Rattle.of_symbolic_run.proofs.dividing.cases_by_entry.Goals as goal
 
 pub returns-in-None-clause-none : goal.returns-in-None-clause-none
@@ -38,3 +38,7 @@ returns-clause-some c w is =
     let are : AreBranches (flows_of c.args.entries) packet.rewrites packet.metadata frames.part made.items = subst (λ (fs : List FlowEntry). AreBranches fs packet.rewrites packet.metadata frames.part made.items) flows all in
     let own : AreCasesOf c.args.table (flows_of c.args.entries) frames state made.items cases = subst (λ (fs : List FlowEntry). AreCasesOf c.args.table fs frames state made.items cases) flows-2 c.in_ok-cases-in-Some.ensures in
     cases_are c.args.table (flows_of c.args.entries) frames state w packet.rewrites packet.metadata made.items cases is (key_is state.tasks.items c.index.result.now c.args.table c.requires.first c.index.ensures) are own
+
+pub returns-clause-later : goal.returns-clause-later
+returns-clause-later c =
+    cases_later c.args.table (flows_listed c.deref-in-Some.result.now) c.args.frames.now c.args.state.now c.in-Some.branches.items c.in_ok-cases-in-Some.cases.items c.in_ok-cases-in-Some.ensures

@@ -7,7 +7,7 @@ use Rattle.of_symbolic.specs.declared.branching.Branch.{Branch}
 use Rattle.of_symbolic.specs.Branches.{AreBranches, AsksUnknown, flows_listed}
 use Rattle.of_symbolic_run.specs.Cases.{AreCasesOf}
 use Rattle.of_symbolic_run.specs.JointCases.{first_cases, second_cases}
-use Rattle.of_symbolic_run.proofs.CaseLemmas.{cases_are, key_is, own_branches, unknown_first}
+use Rattle.of_symbolic_run.proofs.CaseLemmas.{cases_are, cases_later, key_is, own_branches, unknown_first}
 use Rattle.of_symbolic_run.proofs.CopyLemmas.{same_answer, same_key}
 use Rattle.of_symbolic_run.proofs.joint.look_up_both.Goals as goal
 
@@ -58,3 +58,11 @@ returns-in-None-clause-none c =
     let flows : flows_listed c.deref.result.now ≡ flows_of c.args.entries = ap flows_listed c.deref.ensures.value ∙ c.in_ok-listed.ensures in
     unknown_first c.args.first.now.tasks.items c.index.result.now c.args.table o (flows_of c.args.entries) c.requires.lookup c.index.ensures c.in_ok-overlay.ensures
     (subst (AsksUnknown o) flows (subst (λ (found : Option (Vec Branch)). IfNone found (AsksUnknown o (flows_listed c.deref.result.now))) c.in-None.is c.in_ok-branches.ensures.none))
+
+pub returns-clause-later_first : goal.returns-clause-later_first
+returns-clause-later_first c =
+    cases_later c.args.table (flows_listed c.deref-in-Some.result.now) c.args.frames.now c.args.first.now c.in-Some.branches.items (first_cases c.in_ok-cases-in-Some.cases.items) c.in_ok-cases-in-Some.ensures.first
+
+pub returns-clause-later_second : goal.returns-clause-later_second
+returns-clause-later_second c =
+    cases_later c.args.table (flows_listed c.deref-in-Some.result.now) c.args.frames.now c.args.second.now c.in-Some.branches.items (second_cases c.in_ok-cases-in-Some.cases.items) c.in_ok-cases-in-Some.ensures.second

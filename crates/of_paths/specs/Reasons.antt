@@ -1,0 +1,75 @@
+-- WHY FRAMES ARE UNDECIDED: the runs of all frames take steps together, and a set of frames may be left (OpenFlow 1.3.5, 5.1).
+use Rattle.std.specs.Prelude.{◌≡◌, ◌≤◌, ◌++◌, ℕ, zero, suc, List, [], ◌∷◌, true}
+use Rattle.std.specs.List.{Contains}
+use Rattle.of_rewrite.specs.Frames.{IsFrame}
+use Rattle.of_oxm.specs.declared.match_field.MatchField.{MatchField}
+use Rattle.of_oxm.specs.Relations.{matches_map}
+use Rattle.of_machine.specs.TheWorld.{TheWorld}
+use Rattle.of_symbolic.specs.Parts.{received_fields}
+use Rattle.of_symbolic_run.specs.declared.dividing.Case.{Case}
+use Rattle.of_symbolic_run.specs.declared.frame_set.FrameSet.{FrameSet}
+use Rattle.of_symbolic_run.specs.Cases.{AreCases}
+use Rattle.of_symbolic_run.specs.FrameSets.{InFrames}
+use Rattle.of_symbolic_run.specs.Later.{AreOneLater}
+use Rattle.of_symbolic_run.specs.States.{IsAt}
+use Rattle.of_symbolic_switch.specs.Received.{IsReceivedAt}
+use Rattle.of_symbolic_switch.specs.Sides.{IsUnknownLookup}
+use Rattle.of_symbolic_switch.specs.Unfound.{FindsNone}
+use Rattle.of_paths.specs.declared.path.UndecidedFrames.{UndecidedFrames}
+use Rattle.of_paths.specs.declared.path.WhyUndecided.{WhyUndecided}
+use Rattle.of_paths.specs.declared.path.WhyUndecided.TheVariants as why
+
+-- each frame of the set is one that conditions match
+abbrev pub AreMatched : List MatchField → FrameSet → Type 0
+AreMatched within frames = (frame : List ℕ) (port : ℕ) → InFrames frames frame port → matches_map within (received_fields frame port) ≡ true
+
+-- the state is that of the run of each frame
+abbrev pub IsStateOfRuns : TheWorld → Case → Type 0
+IsStateOfRuns w c = (frame : List ℕ) (port : ℕ) → IsFrame frame → InFrames c.frames frame port → IsAt w frame port c.state
+
+-- ---- steps of all runs together
+
+-- the beginning: one set of all frames that are received and that conditions match, with a state that took no step
+pub record IsFirstCase (w : TheWorld) (within : List MatchField) (c : Case) : Type 0 where
+  pub runs : IsStateOfRuns w c
+  pub none : c.state.steps.items ≡ []
+  pub matched : AreMatched within c.frames
+  pub all : (frame : List ℕ) (port : ℕ) → IsReceivedAt w frame port → matches_map within (received_fields frame port) ≡ true → InFrames c.frames frame port
+
+-- ONE STEP: the run of the last set of frames takes one step, which may divide the set; or the set is done with, since its run is at its end, or since
+-- it is not known what its lookup finds
+pub data IsCaseStep (w : TheWorld) (old new : List Case) : Type 0 where
+  moved : (others : List Case) (c : Case) (cases : List Case) → old ≡ others ++ c ∷ [] → new ≡ others ++ cases → AreCases w c.frames c.state cases → AreOneLater c.state cases → IsCaseStep w old new
+  ended : (c : Case) → old ≡ new ++ c ∷ [] → c.state.tasks.items ≡ [] → IsCaseStep w old new
+  unknown : (c : Case) → old ≡ new ++ c ∷ [] → IsUnknownLookup w c.state → IsCaseStep w old new
+
+-- so many steps lead from one set to these
+abbrev pub AreCaseSteps : TheWorld → Case → ℕ → List Case → Type 0
+AreCaseSteps w first zero end = end ≡ first ∷ []
+AreCaseSteps w first (suc n) end = (before : List Case) × AreCaseSteps w first n before × IsCaseStep w before end
+
+-- after so many steps from the beginning, these sets are left
+pub record AreLeftAfter (w : TheWorld) (within : List MatchField) (taken : ℕ) (cases : List Case) : Type 0 where
+  pub first : Case
+  pub begins : IsFirstCase w within first
+  pub steps : AreCaseSteps w first taken cases
+
+-- ---- reasons
+
+-- it is not known what the lookup of the set finds; or all the steps were taken; or its run is at its end, and no frame of it was found
+abbrev pub IsReason : TheWorld → ℕ → ℕ → Case → WhyUndecided → Type 0
+IsReason w steps taken c why.UnknownTag = IsUnknownLookup w c.state
+IsReason w steps taken c why.Steps = taken ≡ steps
+IsReason w steps taken c why.Search = (c.state.tasks.items ≡ []) × FindsNone w steps c.frames
+
+-- AN UNDECIDED SET is one of those that are left after some of the steps that the runs may take together, and there is a reason
+pub record AreUndecided (w : TheWorld) (within : List MatchField) (steps : ℕ) (u : UndecidedFrames) : Type 0 where
+  pub matched : AreMatched within u.frames
+  pub taken : ℕ
+  pub most : taken ≤ steps
+  pub cases : List Case
+  pub left : AreLeftAfter w within taken cases
+  pub c : Case
+  pub there : Contains cases c
+  pub own : c.frames ≡ u.frames
+  pub reason : IsReason w steps taken c u.why
