@@ -38,6 +38,7 @@ pub const HALF: Word = Word::Decimal(0xffff);
 
 pub const NUMBER: Word = Word::Decimal(0xffff_ffff);
 
+/// The rows of event files.
 pub const EVENT_ROWS: [Form; 8] = [
     Form {
         name: b"connect",
@@ -81,7 +82,7 @@ pub const EVENT_ROWS: [Form; 8] = [
     },
 ];
 
-/// The lines other than those of actions.
+/// The lines of flow texts other than those of actions.
 pub const FLOW_LINES: [Form; 9] = [
     Form {
         name: b"group",
