@@ -95,35 +95,53 @@ fn is_refused(
     Ok(())
 }
 
-/// Asserts that the line of a form is read, and is not with one word more or with a wrong word; the hint then names the word.
-fn is_of_form(rt: &impl Abort, alloc: Global, text: Text, form: &Form) -> Result<(), Fail> {
+/// Asserts that the line of a form is read.
+fn is_known(rt: &impl Abort, alloc: Global, text: Text, form: &Form) -> Result<(), Fail> {
+    let line = line_of(alloc, form, None)?;
+    let usage = form.usage;
+    assert!(rt; line.starts_with(form.name) && is_read(alloc, text, &line)?, "{usage}");
+    Ok(())
+}
+
+/// Asserts that it is not with a wrong word at that place, which the hint names.
+fn is_wrong_word(
+    rt: &impl Abort,
+    alloc: Global,
+    text: Text,
+    form: &Form,
+    place: usize,
+) -> Result<(), Fail> {
+    let line = line_of(alloc, form, Some(place))?;
+    let hint = format!(in alloc; "word {}: ", place.saturating_add(1))?;
+    is_refused(rt, alloc, text, &line, hint.as_str())
+}
+
+/// Asserts that it is not with another word behind the last one.
+fn is_extra_word(rt: &impl Abort, alloc: Global, text: Text, form: &Form) -> Result<(), Fail> {
     let mut line = line_of(alloc, form, None)?;
-    assert!(rt; line.starts_with(form.name), "{}", form.usage);
-    assert!(rt; is_read(alloc, text, &line)?, "{}", form.usage);
-    for place in 0..count_of(&line) {
-        if kind_at(form, place).is_some() {
-            let wrong = line_of(alloc, form, Some(place))?;
-            let hint = format!(in alloc; "word {}: ", place.saturating_add(1))?;
-            is_refused(rt, alloc, text, &wrong, hint.as_str())?;
-        }
-    }
     line.extend_from_slice(b" 0")?;
     let hint = format!(in alloc; "a missing or extra word: write {}", form.usage)?;
     is_refused(rt, alloc, text, &line, hint.as_str())
 }
 
-#[test]
-fn hints_have_the_rows_of_event_files(rt: HostRuntime) -> Result<(), Fail> {
-    for form in &EVENT_ROWS {
-        is_of_form(&rt, rt.alloc(), Text::EventFile, form)?;
+fn are_lines(rt: &impl Abort, alloc: Global, text: Text, forms: &[Form]) -> Result<(), Fail> {
+    for form in forms {
+        is_known(rt, alloc, text, form)?;
+        is_extra_word(rt, alloc, text, form)?;
+        let first = count_of(form.name);
+        for (behind, _) in form.words.iter().enumerate() {
+            is_wrong_word(rt, alloc, text, form, first.saturating_add(behind))?;
+        }
     }
     Ok(())
 }
 
 #[test]
+fn hints_have_the_rows_of_event_files(rt: HostRuntime) -> Result<(), Fail> {
+    are_lines(&rt, rt.alloc(), Text::EventFile, &EVENT_ROWS)
+}
+
+#[test]
 fn hints_have_the_lines_of_flow_texts(rt: HostRuntime) -> Result<(), Fail> {
-    for form in &FLOW_LINES {
-        is_of_form(&rt, rt.alloc(), Text::FlowText, form)?;
-    }
-    Ok(())
+    are_lines(&rt, rt.alloc(), Text::FlowText, &FLOW_LINES)
 }
