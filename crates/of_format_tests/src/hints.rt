@@ -99,7 +99,10 @@ fn is_refused(
 fn is_known(rt: &impl Abort, alloc: Global, text: Text, form: &Form) -> Result<(), Fail> {
     let line = line_of(alloc, form, None)?;
     let usage = form.usage;
-    assert!(rt; line.starts_with(form.name) && is_read(alloc, text, &line)?, "{usage}");
+    assert!(rt;
+        line.starts_with(form.name) && is_read(alloc, text, &line)?,
+        "{usage}"
+    );
     Ok(())
 }
 
