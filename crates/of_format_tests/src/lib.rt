@@ -1,6 +1,6 @@
 //! Tests of what is read and written: actions, action sets, messages, and requests of a controller as bytes; flow text (docs/FLOWTEXT.md) and the
-//! names of errors; the import of tables of Open vSwitch (docs/IMPORT.md); configurations as messages; frames in words. Each public call with
-//! ample memory, and vectors from outside.
+//! names of errors; the import of tables of Open vSwitch (docs/IMPORT.md); configurations as messages; frames in words; hints about bad lines. Each
+//! public call with ample memory, and vectors from outside.
 //!
 //! They are in a separate crate, since a crate that has tests is proved twice.
 #![tactic(auto)]
@@ -19,6 +19,8 @@ mod config;
 mod frames;
 #[cfg(test)]
 mod groups_and_ports;
+#[cfg(test)]
+mod hints;
 #[cfg(test)]
 mod import;
 #[cfg(test)]

@@ -1,17 +1,9 @@
 //! The lines of actions in flow text, by the rows of the table of actions.
 
-use crate::forms::{BYTE, HALF, NUMBER, Word, behind};
+use crate::forms::{BYTE, HALF, NUMBER, Word, behind, write_letters};
 use of_actions::{ACTIONS, ActionRow, Form};
 use of_wire::keyword;
 use std::fmt::{self, Display, Formatter, Write};
-
-// The letters of a row's word.
-fn write_word<W: Write>(f: &mut Formatter<W>, word: &[u8]) -> fmt::Result {
-    for letter in keyword(word) {
-        f.write_char(char::from(*letter))?;
-    }
-    Ok(())
-}
 
 /// The words of all actions, each after a comma.
 #[derive(Clone, Copy, Debug)]
@@ -21,7 +13,7 @@ impl Display for ActionWords {
     fn fmt<W: Write>(&self, f: &mut Formatter<W>) -> fmt::Result {
         for row in &ACTIONS {
             f.write_str(", ")?;
-            write_word(f, &row.word)?;
+            write_letters(f, keyword(&row.word))?;
         }
         Ok(())
     }
@@ -36,7 +28,7 @@ pub struct ActionUsage {
 
 impl Display for ActionUsage {
     fn fmt<W: Write>(&self, f: &mut Formatter<W>) -> fmt::Result {
-        write_word(f, &self.word)?;
+        write_letters(f, keyword(&self.word))?;
         f.write_str(self.others)
     }
 }

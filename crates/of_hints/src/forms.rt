@@ -1,5 +1,7 @@
 //! The rows of event files and the lines of flow texts, each by the words that it has.
 
+use std::fmt::{self, Display, Formatter, Write};
+
 /// What a word has to be.
 #[derive(Clone, Copy, Debug, PartialEq, Eq)]
 pub enum Word {
@@ -38,6 +40,7 @@ pub const HALF: Word = Word::Decimal(0xffff);
 
 pub const NUMBER: Word = Word::Decimal(0xffff_ffff);
 
+/// The rows of event files.
 pub const EVENT_ROWS: [Form; 8] = [
     Form {
         name: b"connect",
@@ -81,7 +84,7 @@ pub const EVENT_ROWS: [Form; 8] = [
     },
 ];
 
-/// The lines other than those of actions.
+/// The lines of flow texts other than those of actions.
 pub const FLOW_LINES: [Form; 9] = [
     Form {
         name: b"group",
@@ -129,6 +132,45 @@ pub const FLOW_LINES: [Form; 9] = [
         usage: "goto TABLE",
     },
 ];
+
+/// Writes letters.
+pub fn write_letters<W: Write>(f: &mut Formatter<W>, letters: &[u8]) -> fmt::Result {
+    for letter in letters {
+        f.write_char(char::from(*letter))?;
+    }
+    Ok(())
+}
+
+// Writes the names of forms, with commas between them.
+fn write_names<W: Write>(f: &mut Formatter<W>, forms: &[Form]) -> fmt::Result {
+    let mut comma = "";
+    for form in forms {
+        f.write_str(comma)?;
+        write_letters(f, form.name)?;
+        comma = ", ";
+    }
+    Ok(())
+}
+
+/// The names of all rows of event files.
+#[derive(Clone, Copy, Debug)]
+pub struct RowNames;
+
+impl Display for RowNames {
+    fn fmt<W: Write>(&self, f: &mut Formatter<W>) -> fmt::Result {
+        write_names(f, &EVENT_ROWS)
+    }
+}
+
+/// The names of all lines of flow texts, except for those of actions.
+#[derive(Clone, Copy, Debug)]
+pub struct LineNames;
+
+impl Display for LineNames {
+    fn fmt<W: Write>(&self, f: &mut Formatter<W>) -> fmt::Result {
+        write_names(f, &FLOW_LINES)
+    }
+}
 
 /// The words after a name, where a line begins with it.
 pub fn behind<'a>(line: &'a [u8], name: &[u8]) -> Option<Option<&'a [u8]>> {

@@ -3,7 +3,7 @@ ghost use Rattle.of_hints.specs.Layout.{IsSo};
 ghost use Rattle.std.specs.Prelude.{IfSome};
 
 use crate::action_lines::{ActionWords, action_of};
-use crate::forms::{EVENT_ROWS, FLOW_LINES, Form, form_of};
+use crate::forms::{EVENT_ROWS, FLOW_LINES, Form, LineNames, RowNames, form_of};
 use crate::layout::{LayoutFault, layout_fault, text_fault};
 use crate::words::{WordFault, action_fault, words_fault};
 use of_text::is_passed_over;
@@ -14,10 +14,10 @@ use thiserror::Error;
 pub enum Hint {
     #[error("{0}")]
     Layout(LayoutFault),
-    #[error("unknown row; rows are connect, lost, c, f, t, port add, port remove, port link")]
-    UnknownRow,
-    #[error("unknown line; lines are group, bucket, flow, match, apply, clear, write, metadata, goto{0}")]
-    UnknownLine(ActionWords),
+    #[error("unknown row; rows are {0}")]
+    UnknownRow(RowNames),
+    #[error("unknown line; lines are {0}{1}")]
+    UnknownLine(LineNames, ActionWords),
     #[error("this is a line of flow text, which asm, and trace and check with --flows, read")]
     FlowText,
     #[error("this is a row of an event file, which replay, dis, and trace and check with --events, read")]
@@ -54,7 +54,7 @@ fn other_than_row(line: &[u8]) -> Hint
     } else if is_ovs_line(line) {
         Hint::OpenVswitch
     } else {
-        Hint::UnknownRow
+        Hint::UnknownRow(RowNames)
     }
 }
 
@@ -67,7 +67,7 @@ fn other_than_flow(line: &[u8]) -> Hint
     } else if is_ovs_line(line) {
         Hint::OpenVswitch
     } else {
-        Hint::UnknownLine(ActionWords)
+        Hint::UnknownLine(LineNames, ActionWords)
     }
 }
 

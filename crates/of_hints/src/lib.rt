@@ -10,6 +10,7 @@ mod sentences;
 mod values;
 mod words;
 
+pub use forms::{EVENT_ROWS, FLOW_LINES, Form, Word};
 pub use hint::{Hint, event_row_hint, flow_line_hint, import_hint};
 pub use laws::refusals_have_sentences;
 pub use sentences::refusal_sentence;
