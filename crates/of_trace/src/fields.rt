@@ -20,9 +20,7 @@ use std::alloc::AllocError;
 fn has(fields: &[MatchField], field: Field) -> bool
     ensures { result ≡ has_field field fields.now }
 {
-    fields
-        .iter()
-        .any(|e| e.field.number() == field.number())
+    fields.iter().any(|e| e.field.number() == field.number())
 }
 
 // Whether the match of some entry has the field.
