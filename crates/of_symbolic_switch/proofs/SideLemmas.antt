@@ -1,6 +1,5 @@
 -- A step of one run.
-use Rattle.std.proofs.Common.{◌≡◌, ◌<◌, ◌≤◌, ◌+◌, ℕ, List, [], ◌∷◌, length, Result, Ok, Err, refl, sym, ap, subst, ◌∙◌, ◌⊎◌, inl, inr, arith}
-use Rattle.std.specs.Prelude.{IfOk}
+use Rattle.std.proofs.Common.{◌≡◌, ◌<◌, ◌≤◌, ◌+◌, ℕ, List, [], ◌∷◌, length, refl, sym, ap, subst, ◌∙◌, ◌⊎◌, inl, inr, arith}
 use Rattle.std.specs.List.{Contains}
 use Rattle.std.proofs.lemmas.List.{length_push}
 use Rattle.of_wire.specs.declared.limits.TheConstants.{TABLES}
@@ -20,10 +19,6 @@ use Rattle.of_symbolic_run.specs.States.{IsAt, TellsAdvance, answer_to_tasks, ro
 use Rattle.of_symbolic_switch.specs.declared.side.Side.{Side}
 use Rattle.of_symbolic_switch.specs.declared.side.Side.TheVariants.{Advanced, Divided, Unknown}
 use Rattle.of_symbolic_switch.specs.Sides.{IsUnknownLookup, SideIs}
-
-pub if_ok_value : {X E : Type 0} (r : Result X E) (P Q : X → Type 0) → ((x : X) → P x → Q x) → IfOk r P → IfOk r Q
-if_ok_value (Ok x) P Q f h = f x h
-if_ok_value (Err e) P Q f h = h
 
 -- ---- one more line
 

@@ -9,4 +9,4 @@ use Rattle.of_symbolic_switch.specs.PortNumbers.{IsReceivingPort}
 
 -- it took so many steps, or found only frames that no switch receives; or it found one by a port by which this switch receives none
 abbrev pub FindsNone : TheWorld → ℕ → FrameSet → Type 0
-FindsNone w steps frames = FindsFrame frames steps Undecided ⊎ ((frame : List ℕ) × (port : ℕ) × IsFrame frame × InFrames frames frame port × ¬ IsReceivingPort w.ports port)
+FindsNone w steps frames = FindsFrame frames steps Undecided ⊎ ((frame : List ℕ) × (port : ℕ) × IsFrame frame × InFrames frames frame port × (¬ IsReceivingPort w.ports port))

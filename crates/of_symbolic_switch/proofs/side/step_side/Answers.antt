@@ -1,6 +1,7 @@
+use Rattle.std.proofs.lemmas.Result.{IfOk-weaker}
 use Rattle.of_datapath.specs.Datapath.{world_of}
 use Rattle.of_datapath.specs.Numbers.{forwarding_of}
-use Rattle.of_symbolic_switch.proofs.SideLemmas.{after_same, cases_from, if_ok_value, later_from, side_from, told_one}
+use Rattle.of_symbolic_switch.proofs.SideLemmas.{after_same, cases_from, later_from, side_from, told_one}
 use Rattle.of_symbolic_switch.proofs.side.step_side.Goals as goal
 
 pub returns-in-Done : goal.returns-in-Done
@@ -30,4 +31,4 @@ returns-in-Lookup g c =
     let w = world_of (forwarding_of c.args.datapath.now) in
     let same = rw c.in-Lookup.is at c.in_ok-advance_state.ensures.lines in
     let tasks = (rw c.in-Lookup.is at c.in_ok-advance_state.ensures.step).0 in
-    if_ok_value c.step_lookup.result _ _ (λ side. side_from w c.args.frames.now c.args.state.now c.advance_state.new.state side (λ frame port. c.in_ok-advance_state.ensures.at w frame port) tasks same) c.step_lookup.ensures
+    IfOk-weaker c.step_lookup.result _ _ (λ side. side_from w c.args.frames.now c.args.state.now c.advance_state.new.state side (λ frame port. c.in_ok-advance_state.ensures.at w frame port) tasks same) c.step_lookup.ensures
