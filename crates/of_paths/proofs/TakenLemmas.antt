@@ -1,5 +1,5 @@
 -- The steps that the runs of all frames took together.
-use Rattle.std.proofs.Common.{◌≡◌, ◌+◌, ℕ, suc, List, [], ◌∷◌, ◌++◌, refl, subst, arith}
+use Rattle.std.proofs.Common.{◌≡◌, ◌≤◌, ◌+◌, ℕ, suc, List, [], ◌∷◌, ◌++◌, refl, subst, arith}
 use Rattle.of_oxm.specs.declared.match_field.MatchField.{MatchField}
 use Rattle.of_machine.specs.TheWorld.{TheWorld}
 use Rattle.of_symbolic_run.specs.declared.dividing.Case.{Case}
@@ -7,6 +7,12 @@ use Rattle.of_symbolic_run.specs.Cases.{AreCases}
 use Rattle.of_symbolic_run.specs.Later.{AreOneLater}
 use Rattle.of_symbolic_switch.specs.Sides.{IsUnknownLookup}
 use Rattle.of_paths.specs.Reasons.{AreCaseSteps, AreLeftAfter, IsCaseStep}
+
+pub at_most : (taken left steps : ℕ) → taken + left ≡ steps → taken ≤ steps
+at_most taken left steps counted = omega (arith, counted)
+
+pub all_taken : (taken left steps : ℕ) → taken + left ≡ steps → left ≤ 0 → taken ≡ steps
+all_taken taken left steps counted none = omega (arith, counted, none)
 
 module _ (w : TheWorld) (within : List MatchField) (taken : ℕ) where
   one_more : (before after : List Case) → AreLeftAfter w within taken before → IsCaseStep w before after → AreLeftAfter w within (taken + 1) after
@@ -18,7 +24,7 @@ module _ (w : TheWorld) (within : List MatchField) (taken : ℕ) where
 
   module _ (cases : List Case) (old : Case) (left : AreLeftAfter w within taken (cases ++ old ∷ [])) where
     pub step_taken : (more : List Case) → AreCases w old.frames old.state more → AreOneLater old.state more → AreLeftAfter w within (taken + 1) (cases ++ more)
-    step_taken more are later = one_more (cases ++ old ∷ []) (cases ++ more) left (IsCaseStep.taken cases old more refl refl are later)
+    step_taken more are later = one_more (cases ++ old ∷ []) (cases ++ more) left (IsCaseStep.moved cases old more refl refl are later)
 
     pub step_ended : old.state.tasks.items ≡ [] → AreLeftAfter w within (taken + 1) cases
     step_ended done = one_more (cases ++ old ∷ []) cases left (IsCaseStep.ended old refl done)

@@ -39,7 +39,7 @@ pub record IsFirstCase (w : TheWorld) (within : List MatchField) (c : Case) : Ty
 -- ONE STEP: the run of the last set of frames takes one step, which may divide the set; or the set is done with, since its run is at its end, or since
 -- it is not known what its lookup finds
 pub data IsCaseStep (w : TheWorld) (old new : List Case) : Type 0 where
-  taken : (others : List Case) (c : Case) (cases : List Case) → old ≡ others ++ c ∷ [] → new ≡ others ++ cases → AreCases w c.frames c.state cases → AreOneLater c.state cases → IsCaseStep w old new
+  moved : (others : List Case) (c : Case) (cases : List Case) → old ≡ others ++ c ∷ [] → new ≡ others ++ cases → AreCases w c.frames c.state cases → AreOneLater c.state cases → IsCaseStep w old new
   ended : (c : Case) → old ≡ new ++ c ∷ [] → c.state.tasks.items ≡ [] → IsCaseStep w old new
   unknown : (c : Case) → old ≡ new ++ c ∷ [] → IsUnknownLookup w c.state → IsCaseStep w old new
 

@@ -41,8 +41,8 @@ is_received w frame port is short receives = record { frame_is = is; short = sho
 -- ---- a frame that is not received
 
 pub silent_port : (ports listed : List Port) (port : ℕ) (b : Bool) → listed ≡ ports → (IsReceivingPort listed port → b ≡ true) → b ≡ false → IsReceivingPort ports port → ⊥
-silent_port ports listed port true same yes no receives = absurd cc
-silent_port ports listed port false same yes no receives = let h : false ≡ true = yes (subst (λ (l : List Port). IsReceivingPort l port) (sym same) receives) in absurd cc
+silent_port ports listed port true same tells is_not receives = absurd cc
+silent_port ports listed port false same tells is_not receives = let h : false ≡ true = tells (subst (λ (l : List Port). IsReceivingPort l port) (sym same) receives) in absurd cc
 
 pub unreceived_frame : (w : TheWorld) (steps : ℕ) (frames : FrameSet) (frame : List ℕ) (port : ℕ) → IsFrame frame → InFrames frames frame port → (IsReceivingPort w.ports port → ⊥) → FindsNone w steps frames
 unreceived_frame w steps frames frame port is inside silent = inr (frame, port, is, inside, silent)

@@ -1,6 +1,5 @@
 -- A step of one run.
 use Rattle.std.proofs.Common.{◌≡◌, ◌<◌, ◌≤◌, ◌+◌, ℕ, List, [], ◌∷◌, length, refl, sym, ap, subst, ◌∙◌, ◌⊎◌, inl, inr, arith}
-use Rattle.std.specs.List.{Contains}
 use Rattle.std.proofs.lemmas.List.{length_push}
 use Rattle.of_wire.specs.declared.limits.TheConstants.{TABLES}
 use Rattle.of_table.specs.Table.{FlowEntry}

@@ -13,7 +13,7 @@ returns-then-not-receiving_port g c =
     let silent = silent_port w.ports c.port_list.result.now c.args.in_port c.receiving_port.result c.port_list.ensures c.receiving_port.ensures.1 c.if-not-receiving_port.true in
     if_ok c.push_unfound.result _ _
     (λ undecided steps.
-      puts_unfound w steps c.args.path c.args.found.now c.push_unfound.new.found (unreceived_frame w steps c.args.path.frames c.args.frame.items c.args.in_port c.requires.frame_is c.requires.within silent) c.push_unfound.ensures.classes undecided)
+    puts_unfound w steps c.args.path c.args.found.now c.push_unfound.new.found (unreceived_frame w steps c.args.path.frames c.args.frame.items c.args.in_port c.requires.frame_is c.requires.within silent) c.push_unfound.ensures.classes undecided)
     c.push_unfound.ensures.undecided
 
 pub returns : goal.returns

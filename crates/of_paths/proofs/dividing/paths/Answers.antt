@@ -1,8 +1,9 @@
-use Rattle.std.proofs.Common.{◌≡◌, ℕ, subst, arith}
+use Rattle.std.proofs.Common.{◌≡◌, ℕ, subst}
 use Rattle.of_datapath.specs.Datapath.{world_of}
 use Rattle.of_datapath.specs.Numbers.{forwarding_of}
 use Rattle.of_paths.specs.Reasons.{AreLeftAfter}
 use Rattle.of_paths.proofs.SoFarLemmas.{ends, first_of_none, no_length, running_begins, running_more}
+use Rattle.of_paths.proofs.TakenLemmas.{all_taken, at_most}
 use Rattle.of_paths.proofs.dividing.paths.Goals as goal
 
 pub loop-left-init : goal.loop-left-init
@@ -26,12 +27,12 @@ loop-left-preserved g c =
     let run = rw c.in-Some.ensures.items at c.loop-left.invariant in
     running_more c.args.merging w within c.args.steps c.loop-left.left _ c.put_next.new.cases.items c.loop-left.found _ c.loop-left-test.true run
     (c.in_ok-put_next.ensures.taken within run.taken old c.in_ok-next.ensures run.after)
-    (c.in_ok-put_next.ensures.so_far within run.taken old (omega (arith, run.counted)) c.in_ok-next.ensures run.after run.so_far)
+    (c.in_ok-put_next.ensures.so_far within run.taken old (at_most run.taken c.loop-left.left c.args.steps run.counted) c.in_ok-next.ensures run.after run.so_far)
 
 pub returns : goal.returns
 returns g c =
     let w = (world_of (forwarding_of c.args.datapath.now)) in
     let within = c.args.within.now in
     let run = c.loop-left.invariant in
-    let all : run.taken ≡ c.args.steps = omega (arith, run.counted, c.loop-left-test.false) in
+    let all : run.taken ≡ c.args.steps = all_taken run.taken c.loop-left.left c.args.steps run.counted c.loop-left-test.false in
     c.in_ok-leave_undecided.ensures c.args.merging w within c.args.steps (subst (λ (n : ℕ). AreLeftAfter w within n c.loop-left.cases.items) all run.after) run.so_far

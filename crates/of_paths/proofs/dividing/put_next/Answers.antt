@@ -13,8 +13,8 @@ returns-in-Cases-clause-taken g c =
     let more = c.reverse.new.self.items in
     on_appended c.append.result c.append.new.self.items c.args.cases.now.items more _ c.append.ensures.items
     (λ is within taken old next left.
-      let own = rw c.in-Cases.is at next in
-      rw is (step_taken w within taken c.args.cases.now.items old left more (reversed_cases w old c.in-Cases.more.items more c.reverse.ensures.items own.0) (reversed_later old.state c.in-Cases.more.items more c.reverse.ensures.items own.1)))
+    let own = rw c.in-Cases.is at next in
+    rw is (step_taken w within taken c.args.cases.now.items old left more (reversed_cases w old c.in-Cases.more.items more c.reverse.ensures.items own.0) (reversed_later old.state c.in-Cases.more.items more c.reverse.ensures.items own.1)))
 
 pub returns-in-Cases-clause-so_far : goal.returns-in-Cases-clause-so_far
 returns-in-Cases-clause-so_far g c =
@@ -22,8 +22,8 @@ returns-in-Cases-clause-so_far g c =
     let more = c.reverse.new.self.items in
     on_appended c.append.result c.append.new.self.items c.args.cases.now.items more _ c.append.ensures.items
     (λ is within taken old most next left so_far.
-      let own = rw c.in-Cases.is at next in
-      rw is (put_cases c.args.merging w within c.args.steps c.args.cases.now.items old c.args.found.now so_far more (reversed_cases w old c.in-Cases.more.items more c.reverse.ensures.items own.0)))
+    let own = rw c.in-Cases.is at next in
+    rw is (put_cases c.args.merging w within c.args.steps c.args.cases.now.items old c.args.found.now so_far more (reversed_cases w old c.in-Cases.more.items more c.reverse.ensures.items own.0)))
 
 pub returns-in-Ended-clause-taken : goal.returns-in-Ended-clause-taken
 returns-in-Ended-clause-taken g c =
@@ -35,7 +35,7 @@ returns-in-Ended-clause-so_far g c =
     let w = world_of (forwarding_of c.args.datapath.now) in
     if_ok c.put_path.result _ _
     (λ puts within taken old most next left so_far.
-      (let own = rw c.in-Ended.is at next in put_ended c.args.merging w within c.args.steps c.args.cases.now.items old c.args.found.now so_far taken c.in-Ended.path _ most left own.0 own.1 own.2 puts))
+    (let own = rw c.in-Ended.is at next in put_ended c.args.merging w within c.args.steps c.args.cases.now.items old c.args.found.now so_far taken c.in-Ended.path _ most left own.0 own.1 own.2 puts))
     c.put_path.ensures
 
 pub returns-in_ok-push-in-Undecided-clause-taken : goal.returns-in_ok-push-in-Undecided-clause-taken

@@ -12,5 +12,5 @@ returns-in-Advanced g c =
     let some : 0 < length c.args.case.state.tasks.items = grind (arith, common_steps) in
     rw c.in_ok-one_case-in-Advanced.ensures (one_case w c.args.case _ refl side.0, one_later c.args.case.state _ (side.1 some))
 
-pub returns-in-Unknown : goal.returns-in-Unknown
-returns-in-Unknown g c = (refl, refl, rw c.in-Unknown.is at c.in_ok-step_side.ensures)
+pub returns : goal.returns
+returns g c = (refl, refl, rw c.in-Unknown.is at c.in_ok-step_side.ensures)
