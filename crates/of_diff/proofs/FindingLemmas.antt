@@ -39,6 +39,12 @@ always_ok (Err e) Q h = tt
 pub first_of_none : {X : Type 0} (none new : List X) (x : X) → none ≡ [] → new ≡ none ++ x ∷ [] → new ≡ x ∷ []
 first_of_none none new x is more = rw is at more
 
+pub at_most : (taken left steps : ℕ) → taken + left ≡ steps → taken ≤ steps
+at_most taken left steps counted = omega (arith, counted)
+
+pub all_taken : (taken left steps : ℕ) → taken + left ≡ steps → left ≤ 0 → taken ≡ steps
+all_taken taken left steps counted none = omega (arith, counted, none)
+
 -- the frames of a pair, if all steps were taken
 abbrev pub left_over : Pair → Undecided
 left_over p = record { frames = p.frames; why = Steps }
@@ -170,7 +176,7 @@ module _ (c : Compared) (w v : TheWorld) (steps : ℕ) where
 
   module _ (taken : ℕ) (pairs : List Pair) (pair : Pair) (left : ArePairsAfter c w v steps taken (pairs ++ pair ∷ [])) where
     pub step_taken : (more : List Pair) → ArePairs c w v pair more → AreLaterPairs pair more → ArePairsAfter c w v steps (taken + 1) (pairs ++ more)
-    step_taken more are later = one_more taken (pairs ++ pair ∷ []) (pairs ++ more) left (IsPairStep.taken pairs pair more refl refl are later)
+    step_taken more are later = one_more taken (pairs ++ pair ∷ []) (pairs ++ more) left (IsPairStep.moved pairs pair more refl refl are later)
 
     pub step_alike : ((frame : List ℕ) (port : ℕ) → IsReceivedAt w frame port → InFrames pair.frames frame port → IsTreatedAlike c w v frame port) → ArePairsAfter c w v steps (taken + 1) pairs
     step_alike alike = one_more taken (pairs ++ pair ∷ []) pairs left (IsPairStep.alike pair refl alike)

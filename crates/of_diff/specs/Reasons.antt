@@ -65,7 +65,7 @@ AreLaterPairs old pairs = (p : Pair) → Contains pairs p → steps_of_both old 
 -- ONE STEP: a run of the last pair takes a step, or both do, which may divide its frames, and frames that are treated alike may be left out; or the pair is
 -- done with: all its frames are treated alike, or one of them shows a difference, or they are undecided for a reason
 pub data IsPairStep (c : Compared) (w v : TheWorld) (steps : ℕ) (old new : List Pair) : Type 0 where
-  taken : (others : List Pair) (p : Pair) (pairs : List Pair) → old ≡ others ++ p ∷ [] → new ≡ others ++ pairs → ArePairs c w v p pairs → AreLaterPairs p pairs → IsPairStep c w v steps old new
+  moved : (others : List Pair) (p : Pair) (pairs : List Pair) → old ≡ others ++ p ∷ [] → new ≡ others ++ pairs → ArePairs c w v p pairs → AreLaterPairs p pairs → IsPairStep c w v steps old new
   alike : (p : Pair) → old ≡ new ++ p ∷ [] → ((frame : List ℕ) (port : ℕ) → IsReceivedAt w frame port → InFrames p.frames frame port → IsTreatedAlike c w v frame port) → IsPairStep c w v steps old new
   differs : (p : Pair) (d : Difference) → old ≡ new ++ p ∷ [] → IsDifference c w v d → d.sets.items ≡ p.frames ∷ [] → IsPairStep c w v steps old new
   undecided : (p : Pair) (u : Undecided) → old ≡ new ++ p ∷ [] → u.frames ≡ p.frames → ((taken : ℕ) → IsReasonOfPair c w v steps taken p u.why) → IsPairStep c w v steps old new

@@ -1,9 +1,9 @@
-use Rattle.std.proofs.Common.{◌≡◌, ℕ, sym, subst, arith}
+use Rattle.std.proofs.Common.{◌≡◌, ℕ, sym, subst}
 use Rattle.std.proofs.lemmas.List.Elements.{Contains-push}
 use Rattle.of_datapath.specs.Datapath.{world_of}
 use Rattle.of_datapath.specs.Numbers.{forwarding_of}
 use Rattle.of_diff.specs.Reasons.{ArePairsAfter}
-use Rattle.of_diff.proofs.FindingLemmas.{ends, first_of_none, no_length, running_begins, running_more}
+use Rattle.of_diff.proofs.FindingLemmas.{all_taken, at_most, ends, first_of_none, no_length, running_begins, running_more}
 use Rattle.of_diff.proofs.differing.differences.Goals as goal
 
 pub loop-left-init : goal.loop-left-init
@@ -35,7 +35,7 @@ loop-left-preserved g c =
     let holds = run.so_far.hold pair (Contains-push c.pop.new.self.items pair) in
     running_more k w v steps c.loop-left.left _ c.put.new.pairs.items c.loop-left.so_far _ c.loop-left-test.true run
     (c.in_ok-put.ensures.taken k w v steps run.taken pair c.in_ok-next.ensures holds run.after)
-    (c.in_ok-put.ensures.so_far k w v steps run.taken pair (omega (arith, run.counted)) c.in_ok-next.ensures run.after run.so_far)
+    (c.in_ok-put.ensures.so_far k w v steps run.taken pair (at_most run.taken c.loop-left.left steps run.counted) c.in_ok-next.ensures run.after run.so_far)
 
 pub returns-clause-some : goal.returns-clause-some
 returns-clause-some g c =
@@ -44,6 +44,6 @@ returns-clause-some g c =
     let v = world_of (forwarding_of c.args.second.now) in
     let steps = c.args.steps in
     let run = c.loop-left.invariant in
-    let all : run.taken ≡ steps = omega (arith, run.counted, c.loop-left-test.false) in
+    let all : run.taken ≡ steps = all_taken run.taken c.loop-left.left steps run.counted c.loop-left-test.false in
     c.in_ok-give_up.ensures k w v steps (rw (sym c.port_list.ensures, sym c.port_list-2.ensures) (c.have_same_ports.ensures.0 c.if-not-have_same_ports.false))
     (subst (λ (n : ℕ). ArePairsAfter k w v steps n c.loop-left.pairs.items) all run.after) run.so_far
