@@ -1,5 +1,5 @@
 -- Why frames are undecided.
-use Rattle.std.proofs.Common.{ℕ, List, [], ◌∷◌, ◌≡◌, ◌<◌, length, inl, inr}
+use Rattle.std.proofs.Common.{ℕ, [], ◌≡◌, inl, inr}
 use Rattle.of_machine.specs.TheWorld.{TheWorld}
 use Rattle.of_diff.specs.declared.alike.Compared.{Compared}
 use Rattle.of_diff.specs.declared.difference.Why.{Why}

@@ -28,7 +28,7 @@ pub returns-in-Differs-clause-so_far : goal.returns-in-Differs-clause-so_far
 returns-in-Differs-clause-so_far c =
     if_ok c.put_difference.result _ _
     (λ puts k w v steps taken pair most next left so_far.
-      (let is = rw c.in-Differs.is at next in put_found k w v steps c.args.pairs.now.items pair c.args.so_far.now _ c.in-Differs.difference puts refl is.0 is.1 so_far))
+    (let is = rw c.in-Differs.is at next in put_found k w v steps c.args.pairs.now.items pair c.args.so_far.now _ c.in-Differs.difference puts refl is.0 is.1 so_far))
     c.put_difference.ensures
 
 pub returns-in_ok-push-in-Undecided-clause-taken : goal.returns-in_ok-push-in-Undecided-clause-taken

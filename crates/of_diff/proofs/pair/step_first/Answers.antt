@@ -1,13 +1,15 @@
 use Rattle.std.proofs.Common.{refl, inl}
 use Rattle.of_datapath.specs.Datapath.{world_of}
 use Rattle.of_datapath.specs.Numbers.{forwarding_of}
+use Rattle.of_diff.specs.declared.pair.Pair.{Pair}
 use Rattle.of_diff.proofs.PairLemmas.{first_advanced, first_divided, first_later, later_by_first, one_later}
 use Rattle.of_diff.proofs.pair.step_first.Goals as goal
 
 pub returns-in-Advanced : goal.returns-in-Advanced
 returns-in-Advanced g c = λ k v steps.
     let side = rw c.in-Advanced.is at c.in_ok-step_side.ensures in
-    rw c.in_ok-one_pair-in-Advanced.ensures (first_advanced k (world_of (forwarding_of c.args.datapath.now)) v c.args.pair _ refl refl side.0, one_later c.args.pair _ (later_by_first c.args.pair _ (side.1 c.requires) refl))
+    let new : Pair = record { frames = c.args.pair.frames; first = c.step_side.new.state; second = c.args.pair.second } in
+    rw c.in_ok-one_pair-in-Advanced.ensures (first_advanced k (world_of (forwarding_of c.args.datapath.now)) v c.args.pair _ refl refl side.0, one_later c.args.pair new (later_by_first c.args.pair new (side.1 c.requires) refl))
 
 pub returns-in-Divided : goal.returns-in-Divided
 returns-in-Divided g c = λ k v steps.
