@@ -41,13 +41,14 @@ use Rattle.of_diff.specs.Changing.{AddsPairs, AddsSet, AreAtTableBefore, AreMark
 use Rattle.of_diff.specs.Differences.{InSets, IsTreatedAlike}
 use Rattle.of_diff.specs.Emitting.{LeaveAlike}
 use Rattle.of_diff.specs.Pairs.{ArePairs, AreStatesOfRuns, InPairs}
+use Rattle.of_diff.specs.Reasons.{steps_of_both}
 use Rattle.of_diff.specs.SamePorts.{SamePorts}
 use Rattle.of_diff.specs.SameTables.{AreChanged, AreSameHits, EntrySays, IsUnmarkedHit, SayTheSame}
 use Rattle.of_diff.proofs.Agreeing.{all_both, works_from}
 use Rattle.of_diff.proofs.AgreeingRuns.{all_from, rests_agree}
 use Rattle.of_diff.proofs.CutLemmas.{rests_alike}
 use Rattle.of_diff.proofs.EmissionLemmas.{receives_at}
-use Rattle.of_diff.proofs.PairLemmas.{copy_at, same_tasks}
+use Rattle.of_diff.proofs.PairLemmas.{copy_at, first_later, same_tasks}
 use Rattle.of_diff.proofs.HitLemmas.{IsWinner, unchanged_hits, winner_is}
 
 -- ---- some list of conditions matches, or none does
@@ -177,6 +178,7 @@ module _ (w v : TheWorld) (old : Pair) where
   no_pairs_of sets pairs none empty = record {
     hold = λ h within p c. absurd (let d = subst (λ (l : List Pair). Contains l p) empty c in let lt = d.1 in omega (arith, lt));
     all = λ s c. absurd (let d = subst (λ (l : List FrameSet). Contains l s) none c in let lt = d.1 in omega (arith, lt));
+    later = λ p c. absurd (let d = subst (λ (l : List Pair). Contains l p) empty c in let lt = d.1 in omega (arith, lt));
   }
 
   pub pairs_of_more : (sets sets' : List FrameSet) (frames : FrameSet) (pairs pairs' : List Pair) → sets' ≡ sets ++ frames ∷ [] → AddsPairs w frames old.first old.second pairs pairs' → ArePairsOf w v old sets pairs → ArePairsOf w v old sets' pairs'
@@ -194,6 +196,10 @@ module _ (w v : TheWorld) (old : Pair) where
       | inr same ↦ (let c = adds.are.all frame port is_frame (subst (λ (x : FrameSet). InFrames x frame port) (sym same) inside) in
           let p = adds.by.all c.0 c.1 in
           (p.0, subst (λ (l : List Pair). Contains l p.0) (sym adds.added) (Contains-append_right pairs adds.more p.0 p.1), subst (λ (f : FrameSet). InFrames f frame port) (sym p.2) c.2))
+    ];
+    later = λ p c. elim (Contains-append_cases pairs adds.more p (subst (λ (l : List Pair). Contains l p) adds.added c)) as (λ x. steps_of_both old < steps_of_both p) [
+      | inl before ↦ h.later p before
+      | inr one ↦ first_later old adds.cases adds.more adds.later adds.by p one
     ];
   }
 

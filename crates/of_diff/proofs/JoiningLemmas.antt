@@ -1,5 +1,5 @@
 -- A lookup in tables that say the same.
-use Rattle.std.proofs.Common.{◌≡◌, ℕ, zero, suc, eqb, cond, Bool, true, false, List, [], ◌∷◌, map, Option, Some, None, refl, sym, ap, subst, inl, arith}
+use Rattle.std.proofs.Common.{◌≡◌, ◌<◌, ℕ, zero, suc, eqb, cond, Bool, true, false, List, [], ◌∷◌, map, Option, Some, None, refl, sym, ap, subst, inl, arith}
 use Rattle.std.specs.Prelude.{slice_get}
 use Rattle.std.specs.Option.{option_map}
 use Rattle.std.specs.List.{Contains}
@@ -14,6 +14,7 @@ use Rattle.of_symbolic_run.specs.declared.dividing.Case.{Case}
 use Rattle.of_symbolic_run.specs.declared.joint.JointCase.{JointCase}
 use Rattle.of_symbolic_run.specs.Cases.{AreCases, IsTableOf}
 use Rattle.of_symbolic_run.specs.FrameSets.{InFrames}
+use Rattle.of_symbolic_run.specs.Later.{AreOneLater}
 use Rattle.of_symbolic_run.specs.States.{IsAt}
 use Rattle.of_symbolic_run.specs.JointCases.{first_case, first_cases, second_case, second_cases}
 use Rattle.of_diff.specs.declared.alike.Compared.{Compared}
@@ -21,6 +22,7 @@ use Rattle.of_diff.specs.declared.pair.Pair.{Pair}
 use Rattle.of_diff.specs.Agreeing.{AgreeFrom, AreSameFlows}
 use Rattle.of_diff.specs.Changing.{entries_in}
 use Rattle.of_diff.specs.Pairs.{ArePairs, pair_of_case}
+use Rattle.of_diff.specs.Reasons.{AreLaterPairs, steps_of_both}
 use Rattle.of_diff.specs.SameTables.{EntrySays, SameTables, says_of}
 use Rattle.of_diff.proofs.HitLemmas.{same_at, same_winner}
 use Rattle.of_diff.proofs.SameRunLemmas.{at_one, at_other}
@@ -120,3 +122,11 @@ joint_are_pairs c f g table sound same old cases first second =
           let i = image_of first_case cases a.0 a.1 in
           inl (pair_of_case i.x, in_image pair_of_case cases i.x i.there, subst (λ (q : Case). InFrames q.frames frame port) (sym i.is) a.2);
     }
+
+pub joint_later : (old : Pair) (cases : List JointCase) → AreOneLater old.first (first_cases cases) → AreOneLater old.second (second_cases cases) → AreLaterPairs old (map pair_of_case cases)
+joint_later old cases first second p there =
+    let i = image_of pair_of_case cases p there in
+    let one = first (first_case i.x) (in_image first_case cases i.x i.there) in
+    let two = second (second_case i.x) (in_image second_case cases i.x i.there) in
+    let both : steps_of_both old < steps_of_both (pair_of_case i.x) = omega (arith, one, two) in
+    subst (λ (q : Pair). steps_of_both old < steps_of_both q) i.is both

@@ -19,3 +19,4 @@ pub mod JoiningLemmas
 pub mod AgreementLemmas
 pub mod CutLemmas
 pub mod ChangingLemmas
+pub mod ReasonLemmas

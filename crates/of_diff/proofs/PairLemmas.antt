@@ -1,5 +1,5 @@
 -- Pairs of states after a step of one of the two runs.
-use Rattle.std.proofs.Common.{arith, ◌≡◌, ℕ, ◌⊎◌, List, [], ◌∷◌, ◌++◌, refl, sym, ap, ◌∙◌, subst, inl, inr}
+use Rattle.std.proofs.Common.{arith, ◌≡◌, ◌<◌, ℕ, ◌⊎◌, List, [], ◌∷◌, ◌++◌, length, refl, sym, ap, ◌∙◌, subst, inl, inr}
 use Rattle.std.specs.Prelude.{map}
 use Rattle.std.specs.List.{Contains}
 use Rattle.std.proofs.lemmas.List.Elements.{Contains-append_left, Contains-push, Contains-push_cases}
@@ -9,10 +9,12 @@ use Rattle.of_symbolic_run.specs.declared.state.SymbolicState.{SymbolicState}
 use Rattle.of_symbolic_run.specs.declared.state.SymbolicTask.{SymbolicTask}
 use Rattle.of_symbolic_run.specs.Cases.{AreCases}
 use Rattle.of_symbolic_run.specs.FrameSets.{InFrames}
+use Rattle.of_symbolic_run.specs.Later.{AreOneLater, IsOneLater}
 use Rattle.of_symbolic_run.specs.States.{AreTaskCopies, IsAt, IsStateCopy, task_for}
 use Rattle.of_diff.specs.declared.alike.Compared.{Compared}
 use Rattle.of_diff.specs.declared.pair.Pair.{Pair}
 use Rattle.of_diff.specs.Pairs.{AreByFirst, AreBySecond, ArePairs, AreStatesOfRuns}
+use Rattle.of_diff.specs.Reasons.{AreLaterPairs, steps_of_both}
 
 pub same_tasks : (frame : List ℕ) (port : ℕ) (ts cs : List SymbolicTask) → AreTaskCopies ts cs → map (task_for frame port) cs ≡ map (task_for frame port) ts
 same_tasks frame port [] [] h = refl
@@ -107,3 +109,28 @@ module _ (c : Compared) (w v : TheWorld) where
         let b = by.all a.0 a.1 in
         inl (b.0, b.1, rw b.2 a.2);
   }
+
+-- ---- later pairs
+
+pub later_by_first : (old new : Pair) → IsOneLater old.first new.first → new.second.steps.items ≡ old.second.steps.items → steps_of_both old < steps_of_both new
+later_by_first old new later same = let as_many : length new.second.steps.items ≡ length old.second.steps.items = ap length same in omega (arith, later, as_many)
+
+pub later_by_second : (old new : Pair) → new.first.steps.items ≡ old.first.steps.items → IsOneLater old.second new.second → steps_of_both old < steps_of_both new
+later_by_second old new same later = let as_many : length new.first.steps.items ≡ length old.first.steps.items = ap length same in omega (arith, later, as_many)
+
+pub one_later : (old new : Pair) → steps_of_both old < steps_of_both new → AreLaterPairs old (new ∷ [])
+one_later old new later p there = by_place (Contains-push_cases [] new p there)
+  where
+    by_place : Contains [] p ⊎ (new ≡ p) → steps_of_both old < steps_of_both p
+    by_place (inl before) = absurd (none_contained p before)
+    by_place (inr same) = subst (λ (q : Pair). steps_of_both old < steps_of_both q) same later
+
+pub first_later : (old : Pair) (cases : List Case) (pairs : List Pair) → AreOneLater old.first cases → AreByFirst cases old.second pairs → AreLaterPairs old pairs
+first_later old cases pairs later by p there =
+    let e = by.each p there in
+    later_by_first old p (subst (λ (s : SymbolicState). IsOneLater old.first s) (sym e.3) (later e.0 e.1)) e.4.2
+
+pub second_later : (old : Pair) (cases : List Case) (pairs : List Pair) → AreOneLater old.second cases → AreBySecond old.first cases pairs → AreLaterPairs old pairs
+second_later old cases pairs later by p there =
+    let e = by.each p there in
+    later_by_second old p e.4.2 (subst (λ (s : SymbolicState). IsOneLater old.second s) (sym e.3) (later e.0 e.1))

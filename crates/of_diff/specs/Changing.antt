@@ -20,11 +20,13 @@ use Rattle.of_symbolic_run.specs.declared.state.SymbolicState.{SymbolicState}
 use Rattle.of_symbolic_run.specs.declared.state.SymbolicTask.{SymbolicTask}
 use Rattle.of_symbolic_run.specs.Cases.{AreCases}
 use Rattle.of_symbolic_run.specs.FrameSets.{InFrames}
+use Rattle.of_symbolic_run.specs.Later.{AreOneLater}
 use Rattle.of_symbolic_run.specs.States.{AreTaskCopies, answer_to_tasks}
 use Rattle.of_symbolic_run.specs.declared.advance.Advance.TheVariants.{Lookup}
 use Rattle.of_diff.specs.declared.agreement.Agreement.{Agreement}
 use Rattle.of_diff.specs.Agreeing.{AgreeFrom, AreNoTable, StayFrom}
 use Rattle.of_diff.specs.Pairs.{AreByFirst, AreStatesOfRuns, InPairs}
+use Rattle.of_diff.specs.Reasons.{AreLaterPairs}
 use Rattle.of_diff.specs.SameTables.{AreChanged}
 use Rattle.of_diff.specs.declared.pair.Pair.{Pair}
 
@@ -85,6 +87,7 @@ pub record AddsPairs (w : TheWorld) (frames : FrameSet) (first second : Symbolic
   pub cases : List Case
   pub more : List Pair
   pub are : AreCases w frames first cases
+  pub later : AreOneLater first cases
   pub by : AreByFirst cases second more
   pub added : new ≡ old ++ more
 
@@ -93,3 +96,4 @@ pub record ArePairsOf (w v : TheWorld) (old : Pair) (sets : List FrameSet) (pair
   pub hold : AreStatesOfRuns w v old → ((s : FrameSet) → Contains sets s → (frame : List ℕ) (port : ℕ) → InFrames s frame port → InFrames old.frames frame port) →
       (p : Pair) → Contains pairs p → AreStatesOfRuns w v p
   pub all : (s : FrameSet) → Contains sets s → (frame : List ℕ) (port : ℕ) → IsFrame frame → InFrames s frame port → InPairs pairs frame port
+  pub later : AreLaterPairs old pairs

@@ -1,16 +1,14 @@
--- WHICH FRAMES TWO SWITCHES TREAT OTHERWISE, and that they treat all others alike (OpenFlow 1.3.5, 5.1).
-use Rattle.std.specs.Prelude.{◌≡◌, ℕ, ◌⊎◌, List}
+-- FRAMES THAT TWO SWITCHES TREAT ALIKE, and differences (OpenFlow 1.3.5, 5.1).
+use Rattle.std.specs.Prelude.{◌≡◌, ℕ, List}
 use Rattle.std.specs.List.{Contains}
 use Rattle.of_machine.specs.TheWorld.{TheWorld}
 use Rattle.of_symbolic_run.specs.declared.frame_set.FrameSet.{FrameSet}
 use Rattle.of_symbolic_run.specs.FrameSets.{InFrames}
 use Rattle.of_symbolic_switch.specs.Received.{IsReceivedAt, items_at}
 use Rattle.of_diff.specs.Alike.{DiffersAt, LeavesAlike}
-use Rattle.of_diff.specs.SamePorts.{SamePorts}
 use Rattle.of_diff.specs.declared.alike.Compared.{Compared}
 use Rattle.of_diff.specs.declared.alike.Where.{Where}
 use Rattle.of_diff.specs.declared.difference.Difference.{Difference}
-use Rattle.of_diff.specs.declared.difference.Differences.{Differences}
 use Rattle.of_diff.specs.declared.difference.Undecided.{Undecided}
 
 -- both switches treat a frame alike
@@ -43,9 +41,3 @@ InDifferences found frame port = (d : Difference) × Contains found d × InSets 
 -- it is not known whether the frame is treated alike
 abbrev pub InUndecided : List Undecided → List ℕ → ℕ → Type 0
 InUndecided undecided frame port = (u : Undecided) × Contains undecided u × InFrames u.frames frame port
-
--- the ports are the same; each difference is one; and each frame that is received is treated alike, unless it is one of those of a difference or it is not known
-pub record AreDifferences (c : Compared) (w v : TheWorld) (ds : Differences) : Type 0 where
-  pub ports : SamePorts w.ports v.ports
-  pub real : (d : Difference) → Contains ds.found.items d → IsDifference c w v d
-  pub all : (frame : List ℕ) (port : ℕ) → IsReceivedAt w frame port → InDifferences ds.found.items frame port ⊎ (InUndecided ds.undecided.items frame port ⊎ IsTreatedAlike c w v frame port)

@@ -7,5 +7,8 @@ pub mod Emitting
 pub mod IngressPorts
 pub mod Differences
 pub mod Pairs
+pub mod Reasons
+pub mod Comparing
+pub mod SoFar
 pub mod Shown
 pub mod Changing

@@ -1,5 +1,5 @@
 -- For contracts inside this crate: the states of both runs for some frames.
-use Rattle.std.specs.Prelude.{◌≡◌, ℕ, ◌⊎◌, List, [], ◌∷◌}
+use Rattle.std.specs.Prelude.{◌≡◌, ℕ, ◌⊎◌, List}
 use Rattle.std.specs.List.{Contains}
 use Rattle.of_rewrite.specs.Frames.{IsFrame}
 use Rattle.of_machine.specs.TheWorld.{TheWorld}
@@ -9,14 +9,11 @@ use Rattle.of_symbolic_run.specs.declared.state.SymbolicState.{SymbolicState}
 use Rattle.of_symbolic_run.specs.FrameSets.{InFrames}
 use Rattle.of_symbolic_run.specs.States.{IsAt, IsStateCopy}
 use Rattle.of_symbolic_switch.specs.Received.{IsReceivedAt}
-use Rattle.of_diff.specs.Differences.{InDifferences, InSets, InUndecided, IsTreatedAlike, IsDifference}
+use Rattle.of_diff.specs.Differences.{InDifferences, InSets, IsTreatedAlike, IsDifference}
 use Rattle.of_diff.specs.declared.alike.Compared.{Compared}
 use Rattle.of_diff.specs.declared.alike.Where.{Where}
 use Rattle.of_diff.specs.declared.difference.Difference.{Difference}
-use Rattle.of_diff.specs.declared.difference.Differences.{Differences}
 use Rattle.of_diff.specs.declared.pair.Pair.{Pair}
-use Rattle.of_diff.specs.declared.pair.Next.{Next}
-use Rattle.of_diff.specs.declared.pair.Next.TheVariants as next
 
 -- both states are those of the runs of each frame
 abbrev pub AreStatesOfRuns : TheWorld → TheWorld → Pair → Type 0
@@ -44,13 +41,6 @@ pub record ArePairs (c : Compared) (w v : TheWorld) (old : Pair) (pairs : List P
 abbrev pub pair_of_case : JointCase → Pair
 pair_of_case c = record { frames = c.frames; first = c.first; second = c.second }
 
--- what comes of a pair
-abbrev pub NextIs : Compared → TheWorld → TheWorld → Pair → Next → Type 0
-NextIs c w v old (next.Pairs pairs) = ArePairs c w v old pairs.items
-NextIs c w v old next.Alike = AreStatesOfRuns w v old → (frame : List ℕ) (port : ℕ) → IsReceivedAt w frame port → InFrames old.frames frame port → IsTreatedAlike c w v frame port
-NextIs c w v old (next.Differs d) = IsDifference c w v d × (d.sets.items ≡ old.frames ∷ [])
-NextIs c w v old (next.Undecided u) = u.frames ≡ old.frames
-
 abbrev pub place_of_difference : Difference → Where
 place_of_difference d = d.at
 
@@ -59,10 +49,3 @@ pub record PutsDifference (d : Difference) (old new : List Difference) : Type 0 
   pub real : (c : Compared) (w v : TheWorld) → IsDifference c w v d → ((x : Difference) → Contains old x → IsDifference c w v x) → (x : Difference) → Contains new x → IsDifference c w v x
   pub own : (frame : List ℕ) (port : ℕ) → InSets d.sets.items frame port → InDifferences new frame port
   pub kept : (frame : List ℕ) (port : ℕ) → InDifferences old frame port → InDifferences new frame port
-
--- all that is known while pairs are left
-pub record IsSoFar (c : Compared) (w v : TheWorld) (pairs : List Pair) (ds : Differences) : Type 0 where
-  pub hold : (p : Pair) → Contains pairs p → AreStatesOfRuns w v p
-  pub real : (d : Difference) → Contains ds.found.items d → IsDifference c w v d
-  pub all : (frame : List ℕ) (port : ℕ) → IsReceivedAt w frame port →
-      InPairs pairs frame port ⊎ (InDifferences ds.found.items frame port ⊎ (InUndecided ds.undecided.items frame port ⊎ IsTreatedAlike c w v frame port))

@@ -1,11 +1,12 @@
 -- For contracts inside this crate: a frame of a set that shows that two switches treat it otherwise.
-use Rattle.std.specs.Prelude.{◌≡◌, ℕ, List, ⊤}
+use Rattle.std.specs.Prelude.{◌≡◌, ℕ, List}
 use Rattle.of_rewrite.specs.Frames.{IsFrame}
 use Rattle.of_machine.specs.TheWorld.{TheWorld}
 use Rattle.of_symbolic_run.specs.declared.frame_set.FrameSet.{FrameSet}
 use Rattle.of_symbolic_run.specs.FrameSets.{InFrames}
 use Rattle.of_symbolic_switch.specs.Received.{IsReceivedAt, items_at}
 use Rattle.of_diff.specs.Alike.{DiffersAt}
+use Rattle.of_diff.specs.Reasons.{IsTriedReason}
 use Rattle.of_diff.specs.declared.alike.Compared.{Compared}
 use Rattle.of_diff.specs.declared.ending.FrameShown.{FrameShown}
 use Rattle.of_diff.specs.declared.ending.Tried.{Tried}
@@ -20,8 +21,8 @@ pub record IsShown (c : Compared) (w v : TheWorld) (s : FrameSet) (x : FrameShow
   pub second : x.second.items ≡ items_at v x.frame.items x.in_port
   pub differs : DiffersAt c x.at x.first.items x.second.items
 
--- such a frame, or the set has none, or it is not known
-abbrev pub TriedIs : Compared → TheWorld → TheWorld → FrameSet → Tried → Type 0
-TriedIs c w v s (tried.Shown x) = IsShown c w v s x
-TriedIs c w v s tried.Empty = (frame : List ℕ) (port : ℕ) → IsFrame frame → InFrames s frame port → ⊥
-TriedIs c w v s (tried.Undecided why) = ⊤
+-- such a frame, or the set has none, or it is not known for a reason
+abbrev pub TriedIs : Compared → TheWorld → TheWorld → ℕ → FrameSet → Tried → Type 0
+TriedIs c w v steps s (tried.Shown x) = IsShown c w v s x
+TriedIs c w v steps s tried.Empty = (frame : List ℕ) (port : ℕ) → IsFrame frame → InFrames s frame port → ⊥
+TriedIs c w v steps s (tried.Undecided why) = IsTriedReason c w v steps s why

@@ -18,6 +18,7 @@ ghost use Rattle.of_diff.specs.declared.alike.Compared.{Compared};
 ghost use Rattle.of_diff.specs.Changing.{AddsPairs, AddsSet, AreAtTableBefore, AreMarkedAskedIn, AreMatchedSets, ArePairsOf, IsAgreement, IsAskedIn, entries_in};
 ghost use Rattle.of_diff.specs.Emitting.{LeaveAlike};
 ghost use Rattle.of_diff.specs.Pairs.{ArePairs};
+ghost use Rattle.of_diff.specs.Reasons.{AreLaterPairs};
 ghost use Rattle.of_diff.specs.SamePorts.{SamePorts};
 
 use crate::agreement::Agreement;
@@ -232,9 +233,10 @@ pub fn changed_pairs<'a, L: Lookup>(
     requires ports { SamePorts first.now.ports second.now.ports }
     requires agreement { IsAgreement (forwarding_of first.now) (forwarding_of second.now) agreement.now }
     requires here { AreAtTableBefore agreement.now.from pair.now.first pair.now.second }
-    ensures { IfOk result (λ found. IfSome found (λ pairs. (c : Compared) →
+    ensures pairs { IfOk result (λ found. IfSome found (λ pairs. (c : Compared) →
         LeaveAlike c (world_of (forwarding_of first.now)).ports pair.now.frames pair.now.first.emitted.items pair.now.second.emitted.items →
         ArePairs c (world_of (forwarding_of first.now)) (world_of (forwarding_of second.now)) pair.now pairs.items)) }
+    ensures later { IfOk result (λ found. IfSome found (λ pairs. AreLaterPairs pair.now pairs.items)) }
 {
     first.known_world();
     second.known_world();

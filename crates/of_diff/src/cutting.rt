@@ -5,8 +5,9 @@ ghost use Rattle.of_datapath.specs.Numbers.{forwarding_of};
 ghost use Rattle.of_diff.specs.declared.pair.Next.TheVariants.{Alike as AllAlike};
 ghost use Rattle.of_diff.specs.Agreeing.{AgreeFrom, GoOnAlike};
 ghost use Rattle.of_diff.specs.Emitting.{LeaveAlike};
-ghost use Rattle.of_diff.specs.Pairs.{NextIs};
+ghost use Rattle.of_diff.specs.Reasons.{AreSettled};
 ghost use Rattle.of_diff.specs.SamePorts.{SamePorts};
+ghost use Rattle.of_diff.specs.SoFar.{NextIs};
 
 use crate::alike::Compared;
 use crate::ending::try_pair;
@@ -26,9 +27,10 @@ fn compare_sent<'a, L: Lookup>(
     pair: Pair<'a>,
     steps: usize,
 ) -> Result<Next<'a>, AllocError>
-    requires { LeaveAlike compared (world_of (forwarding_of first.now)).ports pair.frames pair.first.emitted.items pair.second.emitted.items →
-        NextIs compared (world_of (forwarding_of first.now)) (world_of (forwarding_of second.now)) pair AllAlike }
-    ensures { IfOk result (NextIs compared (world_of (forwarding_of first.now)) (world_of (forwarding_of second.now)) pair.entry) }
+    requires settled { AreSettled (world_of (forwarding_of first.now)) (world_of (forwarding_of second.now)) pair }
+    requires alike { LeaveAlike compared (world_of (forwarding_of first.now)).ports pair.frames pair.first.emitted.items pair.second.emitted.items →
+        NextIs compared (world_of (forwarding_of first.now)) (world_of (forwarding_of second.now)) steps pair AllAlike }
+    ensures { IfOk result (NextIs compared (world_of (forwarding_of first.now)) (world_of (forwarding_of second.now)) steps pair.entry) }
 {
     first.known_world();
     let ports = first.port_list();
@@ -57,7 +59,7 @@ pub fn compare_rests<'a, L: Lookup>(
     requires ports { SamePorts first.now.ports second.now.ports }
     requires agree { AgreeFrom table (world_of (forwarding_of first.now)) (world_of (forwarding_of second.now)) }
     requires alike { GoOnAlike table pair.first pair.second }
-    ensures { IfOk result (NextIs compared (world_of (forwarding_of first.now)) (world_of (forwarding_of second.now)) pair.entry) }
+    ensures { IfOk result (NextIs compared (world_of (forwarding_of first.now)) (world_of (forwarding_of second.now)) steps pair.entry) }
 {
     first.known_world();
     second.known_world();
@@ -76,7 +78,7 @@ pub fn compare_ended<'a, L: Lookup>(
     requires ports { SamePorts first.now.ports second.now.ports }
     requires first { pair.first.tasks.items ≡ [] }
     requires second { pair.second.tasks.items ≡ [] }
-    ensures { IfOk result (NextIs compared (world_of (forwarding_of first.now)) (world_of (forwarding_of second.now)) pair.entry) }
+    ensures { IfOk result (NextIs compared (world_of (forwarding_of first.now)) (world_of (forwarding_of second.now)) steps pair.entry) }
 {
     first.known_world();
     second.known_world();

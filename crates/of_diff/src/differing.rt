@@ -1,14 +1,16 @@
 //! Which frames two switches treat differently.
-ghost use Rattle.std.specs.Prelude.{◌≡◌, ◌++◌, ◌∷◌, [], ℕ, List, IfOk, IfNone, IfSome, OnOk};
+ghost use Rattle.std.specs.Prelude.{◌≡◌, ◌≤◌, ◌+◌, ◌++◌, ◌∷◌, [], ℕ, List, IfOk, IfNone, IfSome, OnOk};
 ghost use Rattle.of_datapath.specs.Datapath.{world_of};
 ghost use Rattle.of_datapath.specs.Numbers.{forwarding_of};
 ghost use Rattle.of_machine.specs.TheWorld.{TheWorld};
 ghost use Rattle.of_symbolic_run.specs.FrameSets.{InFrames};
 ghost use Rattle.of_diff.specs.declared.alike.Compared.{Compared as WhatIsCompared};
 ghost use Rattle.of_diff.specs.declared.pair.Pair.{Pair as ThePair};
-ghost use Rattle.of_diff.specs.Differences.{AreDifferences};
-ghost use Rattle.of_diff.specs.Pairs.{AreStatesOfRuns, IsSoFar, NextIs};
+ghost use Rattle.of_diff.specs.Comparing.{AreDifferences};
+ghost use Rattle.of_diff.specs.Pairs.{AreStatesOfRuns};
+ghost use Rattle.of_diff.specs.Reasons.{ArePairsAfter};
 ghost use Rattle.of_diff.specs.SamePorts.{SamePorts};
+ghost use Rattle.of_diff.specs.SoFar.{IsSoFar, NextIs};
 ghost use Rattle.of_symbolic_switch.specs.Received.{IsReceivedAt};
 
 use crate::agreement::agreement_of;
@@ -30,8 +32,11 @@ fn put<'a>(
     pairs: &mut Vec<Pair<'a>>,
     so_far: &mut Differences,
 ) -> Result<(), AllocError>
-    ensures { OnOk result ((c : WhatIsCompared) (w v : TheWorld) (pair : ThePair) → NextIs c w v pair next.entry →
-        IsSoFar c w v (pairs.old.items ++ pair ∷ []) so_far.old → IsSoFar c w v pairs.new.items so_far.new) }
+    ensures taken { OnOk result ((c : WhatIsCompared) (w v : TheWorld) (steps taken : ℕ) (pair : ThePair) → NextIs c w v steps pair next.entry →
+        AreStatesOfRuns w v pair → ArePairsAfter c w v steps taken (pairs.old.items ++ pair ∷ []) → ArePairsAfter c w v steps (taken + 1) pairs.new.items) }
+    ensures so_far { OnOk result ((c : WhatIsCompared) (w v : TheWorld) (steps taken : ℕ) (pair : ThePair) → taken ≤ steps →
+        NextIs c w v steps pair next.entry → ArePairsAfter c w v steps taken (pairs.old.items ++ pair ∷ []) →
+        IsSoFar c w v steps (pairs.old.items ++ pair ∷ []) so_far.old → IsSoFar c w v steps pairs.new.items so_far.new) }
 {
     match next {
         Next::Pairs(more) => {
@@ -49,8 +54,8 @@ fn put<'a>(
 
 // The runs took as many steps as they may.
 fn give_up<'a>(pairs: Vec<Pair<'a>>, so_far: &mut Differences) -> Result<(), AllocError>
-    ensures { OnOk result ((c : WhatIsCompared) (w v : TheWorld) → SamePorts w.ports v.ports →
-        IsSoFar c w v pairs.entry.items so_far.old → AreDifferences c w v so_far.new) }
+    ensures { OnOk result ((c : WhatIsCompared) (w v : TheWorld) (steps : ℕ) → SamePorts w.ports v.ports →
+        ArePairsAfter c w v steps steps pairs.entry.items → IsSoFar c w v steps pairs.entry.items so_far.old → AreDifferences c w v steps so_far.new) }
 {
     let mut pairs = pairs;
     while let Some(pair) = pairs.pop() {
@@ -65,6 +70,8 @@ fn give_up<'a>(pairs: Vec<Pair<'a>>, so_far: &mut Differences) -> Result<(), All
 // The pair before any step.
 fn first_pair<'a, L: Lookup>(alloc: Global, datapath: &Datapath<L>) -> Result<Pair<'a>, AllocError>
     ensures holds { IfOk result (λ pair. (w v : TheWorld) → AreStatesOfRuns w v pair) }
+    ensures first { IfOk result (λ pair. pair.first.steps.items ≡ []) }
+    ensures second { IfOk result (λ pair. pair.second.steps.items ≡ []) }
     ensures all { IfOk result (λ pair. (frame : List ℕ) (port : ℕ) →
         IsReceivedAt (world_of (forwarding_of datapath.now)) frame port → InFrames pair.frames frame port) }
 {
@@ -77,7 +84,8 @@ fn first_pair<'a, L: Lookup>(alloc: Global, datapath: &Datapath<L>) -> Result<Pa
 
 /// Which frames two switches treat differently (OpenFlow 1.3.5, 5.1).
 ///
-/// None if they do not have the same ports. The runs of all frames take at most so many steps together, and each search for a frame as many.
+/// None if they do not have the same ports. The runs of all frames take at most so many steps together, and each search for a frame as many. A set of
+/// frames is undecided only for a reason: all these steps were taken, or it is not known what a lookup finds, or a search found no frame that differs.
 pub fn differences<L: Lookup>(
     alloc: Global,
     first: &Datapath<L>,
@@ -85,7 +93,8 @@ pub fn differences<L: Lookup>(
     compared: Compared,
     steps: usize,
 ) -> Result<Option<Differences>, AllocError>
-    ensures some { IfOk result (λ found. IfSome found (AreDifferences compared (world_of (forwarding_of first.now)) (world_of (forwarding_of second.now)))) }
+    ensures some { IfOk result (λ found. IfSome found (
+        AreDifferences compared (world_of (forwarding_of first.now)) (world_of (forwarding_of second.now)) steps)) }
     ensures none { IfOk result (λ found. IfNone found (SamePorts first.now.ports second.now.ports → ⊥)) }
 {
     if !have_same_ports(first.port_list(), second.port_list()) {

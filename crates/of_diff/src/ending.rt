@@ -1,5 +1,5 @@
 //! What comes of a pair of states if both runs are done, or go on alike.
-ghost use Rattle.std.specs.Prelude.{◌≡◌, ◌≤◌, [], ◌∷◌, IfOk, length};
+ghost use Rattle.std.specs.Prelude.{◌≡◌, ◌≤◌, [], ◌∷◌, ℕ, IfOk, length};
 ghost use Rattle.of_rewrite.specs.Frames.{IsFrame};
 ghost use Rattle.of_datapath.specs.Datapath.{world_of};
 ghost use Rattle.of_datapath.specs.Numbers.{forwarding_of};
@@ -7,8 +7,9 @@ ghost use Rattle.of_machine.specs.TheWorld.{TheWorld};
 ghost use Rattle.of_symbolic_run.specs.FrameSets.{InFrames};
 ghost use Rattle.of_diff.specs.declared.alike.Compared.{Compared as WhatIsCompared};
 ghost use Rattle.of_diff.specs.declared.pair.Pair.{Pair as ThePair};
-ghost use Rattle.of_diff.specs.Pairs.{NextIs};
+ghost use Rattle.of_diff.specs.Reasons.{AreSettled, IsReasonOfPair, SomeIsAlike};
 ghost use Rattle.of_diff.specs.Shown.{IsShown, TriedIs};
+ghost use Rattle.of_diff.specs.SoFar.{NextIs};
 
 use crate::alike::{Compared, Where, first_difference};
 use crate::difference::{Difference, EmittedByBoth, Undecided, Why};
@@ -45,7 +46,8 @@ pub enum Tried {
 
 /// It is not known whether these frames are treated alike.
 pub fn not_decided<'a>(frames: FrameSet, why: Why) -> Next<'a>
-    ensures { (c : WhatIsCompared) (w v : TheWorld) (old : ThePair) → old.frames ≡ frames → NextIs c w v old result }
+    ensures { (c : WhatIsCompared) (w v : TheWorld) (steps : ℕ) (old : ThePair) → old.frames ≡ frames →
+        ((taken : ℕ) → IsReasonOfPair c w v steps taken old why) → NextIs c w v steps old result }
 {
     Next::Undecided(Undecided { frames, why })
 }
@@ -61,7 +63,8 @@ fn one_set(alloc: Global, frames: FrameSet) -> Result<Vec<FrameSet>, AllocError>
 
 // Something else leaves for a frame of the pair.
 fn differs<'a>(alloc: Global, pair: Pair<'a>, shown: FrameShown) -> Result<Next<'a>, AllocError>
-    ensures { IfOk result (λ next. (c : WhatIsCompared) (w v : TheWorld) → IsShown c w v pair.entry.frames shown → NextIs c w v pair.entry next) }
+    ensures { IfOk result (λ next. (c : WhatIsCompared) (w v : TheWorld) (steps : ℕ) → IsShown c w v pair.entry.frames shown →
+        NextIs c w v steps pair.entry next) }
 {
     let Pair {
         frames,
@@ -102,9 +105,13 @@ fn run_both<L: Lookup>(
     requires frame_is { IsFrame frame.items }
     requires short { length frame.items ≤ 9216 }
     requires within { InFrames frames.now frame.items in_port }
-    ensures { IfOk result (TriedIs compared (world_of (forwarding_of first.now)) (world_of (forwarding_of second.now)) frames.now) }
+    ensures { IfOk result (λ tried. (steps : ℕ) →
+        TriedIs compared (world_of (forwarding_of first.now)) (world_of (forwarding_of second.now)) steps frames.now tried) }
 {
-    if !receiving_port(first.port_list(), in_port) || !receiving_port(second.port_list(), in_port) {
+    if !receiving_port(first.port_list(), in_port) {
+        return Ok(Tried::Undecided(Why::Search));
+    }
+    if !receiving_port(second.port_list(), in_port) {
         return Ok(Tried::Undecided(Why::Search));
     }
     let left = first.received_items(alloc, in_port, &frame)?;
@@ -130,7 +137,7 @@ fn try_frame<L: Lookup>(
     frames: &FrameSet,
     steps: usize,
 ) -> Result<Tried, AllocError>
-    ensures { IfOk result (TriedIs compared (world_of (forwarding_of first.now)) (world_of (forwarding_of second.now)) frames.now) }
+    ensures { IfOk result (TriedIs compared (world_of (forwarding_of first.now)) (world_of (forwarding_of second.now)) steps frames.now) }
 {
     match frames.find(alloc, steps)? {
         FrameFound::Frame { frame, in_port } => {
@@ -151,7 +158,8 @@ fn try_frame_from<L: Lookup>(
     ingress: u32,
     steps: usize,
 ) -> Result<Tried, AllocError>
-    ensures { IfOk result (TriedIs compared (world_of (forwarding_of first.now)) (world_of (forwarding_of second.now)) frames.now) }
+    requires { SomeIsAlike compared (world_of (forwarding_of first.now)) (world_of (forwarding_of second.now)) frames.now }
+    ensures { IfOk result (TriedIs compared (world_of (forwarding_of first.now)) (world_of (forwarding_of second.now)) steps frames.now) }
 {
     let from = frames.matching(alloc, &[ingress_condition(ingress)])?;
     match try_frame(alloc, first, second, compared, &from, steps)? {
@@ -170,7 +178,7 @@ fn try_frames<L: Lookup>(
     ingress: u32,
     steps: usize,
 ) -> Result<Tried, AllocError>
-    ensures { IfOk result (TriedIs compared (world_of (forwarding_of first.now)) (world_of (forwarding_of second.now)) frames.now) }
+    ensures { IfOk result (TriedIs compared (world_of (forwarding_of first.now)) (world_of (forwarding_of second.now)) steps frames.now) }
 {
     match try_frame(alloc, first, second, compared, frames, steps)? {
         Tried::Undecided(Why::OtherActions) => {
@@ -191,7 +199,8 @@ pub fn try_pair<'a, L: Lookup>(
     ingress: u32,
     steps: usize,
 ) -> Result<Next<'a>, AllocError>
-    ensures { IfOk result (NextIs compared (world_of (forwarding_of first.now)) (world_of (forwarding_of second.now)) pair.entry) }
+    requires { AreSettled (world_of (forwarding_of first.now)) (world_of (forwarding_of second.now)) pair }
+    ensures { IfOk result (NextIs compared (world_of (forwarding_of first.now)) (world_of (forwarding_of second.now)) steps pair.entry) }
 {
     match try_frames(alloc, first, second, compared, &pair.frames, ingress, steps)? {
         Tried::Shown(shown) => differs(alloc, pair, shown),

@@ -1,9 +1,10 @@
 //! The states of both runs for some frames, and their steps.
-ghost use Rattle.std.specs.Prelude.{◌≡◌, ◌∷◌, [], IfOk};
+ghost use Rattle.std.specs.Prelude.{◌≡◌, ◌<◌, ◌∷◌, ℕ, [], IfOk, length};
 ghost use Rattle.of_datapath.specs.Datapath.{world_of};
 ghost use Rattle.of_datapath.specs.Numbers.{forwarding_of};
 ghost use Rattle.of_diff.specs.declared.alike.Compared.{Compared};
-ghost use Rattle.of_diff.specs.Pairs.{AreByFirst, AreBySecond, NextIs};
+ghost use Rattle.of_diff.specs.Pairs.{AreByFirst, AreBySecond};
+ghost use Rattle.of_diff.specs.SoFar.{NextIs};
 ghost use Rattle.of_machine.specs.TheWorld.{TheWorld};
 
 use crate::difference::{Difference, Undecided, Why};
@@ -85,7 +86,8 @@ pub fn step_first<'a, L: Lookup>(
     datapath: &'a Datapath<L>,
     pair: Pair<'a>,
 ) -> Result<Next<'a>, AllocError>
-    ensures { IfOk result (λ next. (c : Compared) (v : TheWorld) → NextIs c (world_of (forwarding_of datapath.now)) v pair.entry next) }
+    requires { 0 < length pair.first.tasks.items }
+    ensures { IfOk result (λ next. (c : Compared) (v : TheWorld) (steps : ℕ) → NextIs c (world_of (forwarding_of datapath.now)) v steps pair.entry next) }
 {
     let Pair {
         frames,
@@ -112,7 +114,8 @@ pub fn step_second<'a, L: Lookup>(
     datapath: &'a Datapath<L>,
     pair: Pair<'a>,
 ) -> Result<Next<'a>, AllocError>
-    ensures { IfOk result (λ next. (c : Compared) (w : TheWorld) → NextIs c w (world_of (forwarding_of datapath.now)) pair.entry next) }
+    requires { 0 < length pair.second.tasks.items }
+    ensures { IfOk result (λ next. (c : Compared) (w : TheWorld) (steps : ℕ) → NextIs c w (world_of (forwarding_of datapath.now)) steps pair.entry next) }
 {
     let Pair {
         frames,

@@ -1,10 +1,10 @@
 //! The steps of a pair of states.
-ghost use Rattle.std.specs.Prelude.{◌≡◌, IfOk, IfSome};
+ghost use Rattle.std.specs.Prelude.{◌≡◌, ℕ, IfOk, IfSome};
 ghost use Rattle.of_datapath.specs.Datapath.{world_of};
 ghost use Rattle.of_datapath.specs.Numbers.{forwarding_of};
 ghost use Rattle.of_diff.specs.Changing.{IsAgreement};
-ghost use Rattle.of_diff.specs.Pairs.{NextIs};
 ghost use Rattle.of_diff.specs.SamePorts.{SamePorts};
+ghost use Rattle.of_diff.specs.SoFar.{NextIs};
 ghost use Rattle.of_diff.specs.declared.alike.Compared.{Compared as WhatIsCompared};
 ghost use Rattle.of_symbolic_run.specs.States.{answer_to_tasks};
 ghost use Rattle.of_symbolic_run.specs.declared.advance.Advance.TheVariants.{Lookup as WantsLookup};
@@ -33,7 +33,8 @@ fn look_up_jointly<'a, L: Lookup>(
     table: u8,
 ) -> Result<Next<'a>, AllocError>
     requires { answer_to_tasks pair.first.tasks.items ≡ WantsLookup table }
-    ensures { IfOk result (λ next. (c : WhatIsCompared) → NextIs c (world_of (forwarding_of first.now)) (world_of (forwarding_of second.now)) pair.entry next) }
+    ensures { IfOk result (λ next. (c : WhatIsCompared) (steps : ℕ) →
+        NextIs c (world_of (forwarding_of first.now)) (world_of (forwarding_of second.now)) steps pair.entry next) }
 {
     if table < TABLES
         && have_equal_tasks(&pair.first.tasks, &pair.second.tasks)
@@ -59,7 +60,8 @@ fn look_up_in_both<'a, L: Lookup>(
     requires ports { SamePorts first.now.ports second.now.ports }
     requires agreement { IsAgreement (forwarding_of first.now) (forwarding_of second.now) agreement.now }
     requires lookup { answer_to_tasks pair.first.tasks.items ≡ WantsLookup table }
-    ensures { IfOk result (NextIs compared (world_of (forwarding_of first.now)) (world_of (forwarding_of second.now)) pair.entry) }
+    ensures { IfOk result (λ next. (steps : ℕ) →
+        NextIs compared (world_of (forwarding_of first.now)) (world_of (forwarding_of second.now)) steps pair.entry next) }
 {
     first.known_world();
     if agreement.changed.are_few()
@@ -89,7 +91,7 @@ fn step_one<'a, L: Lookup>(
     steps: usize,
 ) -> Result<Next<'a>, AllocError>
     requires { SamePorts first.now.ports second.now.ports }
-    ensures { IfOk result (NextIs compared (world_of (forwarding_of first.now)) (world_of (forwarding_of second.now)) pair.entry) }
+    ensures { IfOk result (NextIs compared (world_of (forwarding_of first.now)) (world_of (forwarding_of second.now)) steps pair.entry) }
 {
     match next_turn(&pair.first.tasks, &pair.second.tasks) {
         Turn::Ended => compare_ended(alloc, first, second, compared, pair, steps),
@@ -110,7 +112,7 @@ pub fn step_pair<'a, L: Lookup>(
 ) -> Result<Next<'a>, AllocError>
     requires ports { SamePorts first.now.ports second.now.ports }
     requires agreement { IfSome agreement.now (IsAgreement (forwarding_of first.now) (forwarding_of second.now)) }
-    ensures { IfOk result (NextIs compared (world_of (forwarding_of first.now)) (world_of (forwarding_of second.now)) pair.entry) }
+    ensures { IfOk result (NextIs compared (world_of (forwarding_of first.now)) (world_of (forwarding_of second.now)) steps pair.entry) }
 {
     let Some(agreement) = agreement else {
         return step_one(alloc, first, second, compared, pair, steps);

@@ -1,7 +1,7 @@
 //! Which of two runs takes the next step.
-ghost use Rattle.std.specs.Prelude.{◌≡◌, ◌≢◌, ℕ, [], true};
+ghost use Rattle.std.specs.Prelude.{◌≡◌, ◌≢◌, ◌<◌, ℕ, [], length, true};
 ghost use Rattle.of_diff.specs.declared.turns.Place.TheVariants.{Ended as AtEnd, Table as AtTable};
-ghost use Rattle.of_diff.specs.declared.turns.Turn.TheVariants.{Both as BothAt, Ended as AllEnded};
+ghost use Rattle.of_diff.specs.declared.turns.Turn.TheVariants.{Both as BothAt, Ended as AllEnded, First as FirstTurn, Second as SecondTurn};
 ghost use Rattle.of_diff.specs.Changing.{AreAtTableBefore};
 ghost use Rattle.of_symbolic_run.specs.States.{answer_to, answer_to_tasks, answer_to_works};
 ghost use Rattle.of_symbolic_run.specs.declared.advance.Advance.TheVariants.{Lookup as WantsLookup};
@@ -42,6 +42,7 @@ fn place_of_works(works: &[Work<'_>]) -> Place
 
 fn place_of(tasks: &[SymbolicTask<'_>]) -> Place
     ensures ended { result ≡ AtEnd → tasks.now ≡ [] }
+    ensures left { result ≢ AtEnd → 0 < length tasks.now }
     ensures table { (t : ℕ) → result ≡ AtTable t → answer_to_tasks tasks.now ≡ WantsLookup t }
 {
     match tasks {
@@ -66,6 +67,8 @@ pub fn next_turn(first: &[SymbolicTask<'_>], second: &[SymbolicTask<'_>]) -> Tur
     ensures first { result ≡ AllEnded → first.now ≡ [] }
     ensures second { result ≡ AllEnded → second.now ≡ [] }
     ensures both { (t : ℕ) → result ≡ BothAt t → answer_to_tasks first.now ≡ WantsLookup t }
+    ensures some_first { result ≡ FirstTurn → 0 < length first.now }
+    ensures some_second { result ≡ SecondTurn → 0 < length second.now }
 {
     match (place_of(first), place_of(second)) {
         (Place::Ended, Place::Ended) => Turn::Ended,

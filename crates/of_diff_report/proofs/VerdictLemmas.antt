@@ -4,7 +4,8 @@ use Rattle.std.proofs.lemmas.Bool.Decides.{nat_tests}
 use Rattle.std.specs.Prelude.{Option, Some, None}
 use Rattle.std.specs.List.{Contains}
 use Rattle.of_datapath.specs.Datapath.{Forwarding, world_of}
-use Rattle.of_diff.specs.Differences.{AreDifferences, InDifferences, InUndecided, IsTreatedAlike}
+use Rattle.of_diff.specs.Comparing.{AreDifferences}
+use Rattle.of_diff.specs.Differences.{InDifferences, InUndecided, IsTreatedAlike}
 use Rattle.of_diff.specs.declared.alike.Compared.{Compared}
 use Rattle.of_diff.specs.declared.difference.Difference.{Difference}
 use Rattle.of_diff.specs.declared.difference.Differences.{Differences}
@@ -24,12 +25,12 @@ alike found undecided frame port f u (inl h) = absurd (nothing_in h.0 (subst (λ
 alike found undecided frame port f u (inr (inl h)) = absurd (nothing_in h.0 (subst (λ (l : List Undecided). Contains l h.0) u h.1))
 alike found undecided frame port f u (inr (inr h)) = h
 
-by_lists : (c : Compared) (f g : Forwarding) (ds : Differences) (found : List Difference) (undecided : List Undecided) → ds.found.items ≡ found → ds.undecided.items ≡ undecided
-    → AreDifferences c (world_of f) (world_of g) ds → IsVerdict c f g (verdict_on ds)
-by_lists c f g ds [] [] a b h = rw (a, b) (λ frame port received. alike ds.found.items ds.undecided.items frame port a b (h.all frame port received))
-by_lists c f g ds [] (u ∷ us) a b h = rw (a, b, some_more (length us)) tt
-by_lists c f g ds (d ∷ others) undecided a b h = rw (a, some_more (length others)) (d, h.real d (rw a (0, omega arith, refl)))
+by_lists : (c : Compared) (steps : ℕ) (f g : Forwarding) (ds : Differences) (found : List Difference) (undecided : List Undecided) → ds.found.items ≡ found → ds.undecided.items ≡ undecided
+    → AreDifferences c (world_of f) (world_of g) steps ds → IsVerdict c f g (verdict_on ds)
+by_lists c steps f g ds [] [] a b h = rw (a, b) (λ frame port received. alike ds.found.items ds.undecided.items frame port a b (h.all frame port received))
+by_lists c steps f g ds [] (u ∷ us) a b h = rw (a, b, some_more (length us)) tt
+by_lists c steps f g ds (d ∷ others) undecided a b h = rw (a, some_more (length others)) (d, h.real d (rw a (0, omega arith, refl)))
 
-pub verdict_means : (c : Compared) (f g : Forwarding) (found : Option Differences) → AreFoundBetween c f g found → IsVerdict c f g (diff_verdict found)
-verdict_means c f g None h = h
-verdict_means c f g (Some ds) h = by_lists c f g ds ds.found.items ds.undecided.items refl refl h
+pub verdict_means : (c : Compared) (steps : ℕ) (f g : Forwarding) (found : Option Differences) → AreFoundBetween c steps f g found → IsVerdict c f g (diff_verdict found)
+verdict_means c steps f g None h = h
+verdict_means c steps f g (Some ds) h = by_lists c steps f g ds ds.found.items ds.undecided.items refl refl h

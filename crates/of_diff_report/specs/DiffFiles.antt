@@ -4,7 +4,8 @@ use Rattle.of_datapath.specs.Datapath.{Forwarding, world_of}
 use Rattle.of_replay.specs.declared.event_file.Ended.{Ended}
 use Rattle.of_replay.specs.declared.event_file.Ended.TheVariants.{Done}
 use Rattle.of_symbolic_switch.specs.Received.{IsReceivedAt}
-use Rattle.of_diff.specs.Differences.{AreDifferences, IsDifference, IsTreatedAlike}
+use Rattle.of_diff.specs.Comparing.{AreDifferences}
+use Rattle.of_diff.specs.Differences.{IsDifference, IsTreatedAlike}
 use Rattle.of_diff.specs.SamePorts.{SamePorts}
 use Rattle.of_diff.specs.declared.alike.Compared.{Compared}
 use Rattle.of_diff.specs.declared.difference.Difference.{Difference}
@@ -17,9 +18,9 @@ use Rattle.of_diff_report.specs.DiffWords.{are_same, diff_words, other_ports_wor
 use Rattle.of_diff_report.specs.DiffJson.{diff_json, other_ports_json}
 
 -- what is found about two switches: nothing if their ports differ, else the differences, and for all other frames that they are treated alike or undecided
-abbrev pub AreFoundBetween : Compared → Forwarding → Forwarding → Option Differences → Type 0
-AreFoundBetween c f g None = SamePorts f.ports g.ports → ⊥
-AreFoundBetween c f g (Some ds) = AreDifferences c (world_of f) (world_of g) ds
+abbrev pub AreFoundBetween : Compared → ℕ → Forwarding → Forwarding → Option Differences → Type 0
+AreFoundBetween c steps f g None = SamePorts f.ports g.ports → ⊥
+AreFoundBetween c steps f g (Some ds) = AreDifferences c (world_of f) (world_of g) steps ds
 
 -- in words or as JSON
 abbrev pub diff_text : DiffForm → Forwarding → Option Differences → List ℕ
@@ -40,9 +41,9 @@ abbrev pub IsVerdictResult : Result DiffVerdict Ended → DiffVerdict → Type 0
 IsVerdictResult (Ok verdict) is = verdict ≡ is
 IsVerdictResult (Err ended) is = ended ≢ Done
 
--- THE TEXT of what is found about two switches
-abbrev pub IsDiffReport : Result DiffVerdict Ended → DiffForm → Compared → Forwarding → Forwarding → List ℕ → Type 0
-IsDiffReport result form c f g text = (found : Option Differences) × AreFoundBetween c f g found × (text ≡ diff_text form f found) × IsVerdictResult result (diff_verdict found)
+-- THE TEXT of what is found about two switches. The runs of all frames take at most so many steps together, and each search for a frame as many.
+abbrev pub IsDiffReport : Result DiffVerdict Ended → DiffForm → Compared → ℕ → Forwarding → Forwarding → List ℕ → Type 0
+IsDiffReport result form c steps f g text = (found : Option Differences) × AreFoundBetween c steps f g found × (text ≡ diff_text form f found) × IsVerdictResult result (diff_verdict found)
 
 -- WHAT THE VERDICT MEANS: each frame that is received is treated alike; or some frame is not, which both ran; or the ports differ
 abbrev pub IsVerdict : Compared → Forwarding → Forwarding → DiffVerdict → Type 0

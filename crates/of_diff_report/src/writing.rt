@@ -46,7 +46,7 @@ fn find_differences<L: Lookup>(
     compared: Compared,
     steps: usize,
 ) -> Result<Option<Differences>, AllocError>
-    ensures { IfOk result (λ found. AreFoundBetween compared first.now.core.forwarding second.now.core.forwarding found) }
+    ensures { IfOk result (λ found. AreFoundBetween compared steps first.now.core.forwarding second.now.core.forwarding found) }
 {
     differences(alloc, first.datapath(), second.datapath(), compared, steps)
 }
@@ -106,7 +106,7 @@ fn verdict_among(found: &Differences) -> DiffVerdict
 // Whether two switches treat all frames alike, of which this is found.
 fn verdict_of(found: &Option<Differences>) -> DiffVerdict
     ensures is { result ≡ diff_verdict found.now }
-    ensures means { (c : WhatIsCompared) (f g : Forwarding) → AreFoundBetween c f g found.now → IsVerdict c f g result }
+    ensures means { (c : WhatIsCompared) (steps : ℕ) (f g : Forwarding) → AreFoundBetween c steps f g found.now → IsVerdict c f g result }
 {
     match found {
         None => DiffVerdict::OtherPorts,
@@ -128,7 +128,7 @@ pub fn write_differences<L: Lookup, W: Sink>(
     writer: &mut W,
 ) -> Result<DiffVerdict, Ended>
     requires { W.failures writer.old ≡ 0 }
-    ensures output { Writes (IsDiffReport result form compared first.now.core.forwarding second.now.core.forwarding) (ended_as result)
+    ensures output { Writes (IsDiffReport result form compared steps first.now.core.forwarding second.now.core.forwarding) (ended_as result)
         (W.taken writer.old) (W.taken writer.new) }
     ensures verdict { IfOk result (IsVerdict compared first.now.core.forwarding second.now.core.forwarding) }
     ensures same { result ≡ Ok DiffVerdict.Same → (frame : List ℕ) (port : ℕ) → IsReceivedAt (world_of first.now.core.forwarding) frame port

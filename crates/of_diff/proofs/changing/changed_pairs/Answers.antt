@@ -12,8 +12,8 @@ use Rattle.of_diff.proofs.changing.changed_pairs.Goals as goal
 pub matched_sets-requires : goal.matched_sets-requires
 matched_sets-requires g c = λ m there. (rw c.in-Some.is at c.in_ok-asked.ensures.conditions) m (subst (λ (l : List (Vec MatchField)). Contains l m) c.deref.ensures.value there)
 
-pub returns : goal.returns
-returns g c =
+pub returns-clause-pairs : goal.returns-clause-pairs
+returns-clause-pairs g c =
     let f = forwarding_of c.args.first.now in
     let s = forwarding_of c.args.second.now in
     let pair = c.args.pair.now in
@@ -27,3 +27,6 @@ returns g c =
     c.in_ok-frames.frames c.in_ok-sets.sets.items pairs.items c.in_ok-frames.ensures matched
     (subst (λ (l : List FrameSet). ArePairsOf (world_of f) (world_of s) pair l pairs.items) c.deref-2.ensures.value (of (world_of s))))
     c.pairs_of_sets.result c.pairs_of_sets.ensures
+
+pub returns-clause-later : goal.returns-clause-later
+returns-clause-later g c = weaker_found _ _ (λ pairs of. (of (world_of (forwarding_of c.args.second.now))).later) c.pairs_of_sets.result c.pairs_of_sets.ensures

@@ -1,8 +1,24 @@
-use Rattle.of_symbolic_run.specs.declared.finding.FrameFound.TheVariants.{Empty}
+use Rattle.std.proofs.Common.{ℕ, inl}
+use Rattle.std.proofs.lemmas.Result.{IfOk-weaker}
+use Rattle.of_datapath.specs.Datapath.{world_of}
+use Rattle.of_datapath.specs.Numbers.{forwarding_of}
+use Rattle.of_symbolic_run.specs.declared.finding.FrameFound.TheVariants.{Empty, Undecided}
 use Rattle.of_symbolic_run.specs.FrameSets.{FindsFrame}
+use Rattle.of_diff.specs.Shown.{TriedIs}
 use Rattle.of_diff.proofs.ending.try_frame.Goals as goal
+
+pub returns-in-Frame : goal.returns-in-Frame
+returns-in-Frame g c =
+    let w = world_of (forwarding_of c.args.first.now) in
+    let v = world_of (forwarding_of c.args.second.now) in
+    IfOk-weaker c.run_both.result (λ tried. (steps : ℕ) → TriedIs c.args.compared w v steps c.args.frames.now tried) (TriedIs c.args.compared w v c.args.steps c.args.frames.now) (λ tried h. h c.args.steps) c.run_both.ensures
 
 pub returns-in-Empty : goal.returns-in-Empty
 returns-in-Empty g c =
     let empty : FindsFrame c.args.frames.now c.args.steps Empty = rw c.in-Empty.is at c.in_ok-frame.ensures in
     empty
+
+pub returns-in-Undecided : goal.returns-in-Undecided
+returns-in-Undecided g c =
+    let none : FindsFrame c.args.frames.now c.args.steps Undecided = rw c.in-Undecided.is at c.in_ok-frame.ensures in
+    inl (inl none)

@@ -1,0 +1,21 @@
+-- Why frames are undecided.
+use Rattle.std.proofs.Common.{ℕ, [], ◌≡◌, inl, inr}
+use Rattle.of_machine.specs.TheWorld.{TheWorld}
+use Rattle.of_diff.specs.declared.alike.Compared.{Compared}
+use Rattle.of_diff.specs.declared.difference.Why.{Why}
+use Rattle.of_diff.specs.declared.difference.Why.TheVariants.{OtherActions, Search, Steps, UnknownTag}
+use Rattle.of_diff.specs.declared.pair.Pair.{Pair}
+use Rattle.of_diff.specs.Agreeing.{AgreeFrom, GoOnAlike}
+use Rattle.of_diff.specs.Reasons.{AreSettled, IsReasonOfPair, IsTriedReason}
+
+pub settled_reason : (c : Compared) (w v : TheWorld) (steps : ℕ) (p : Pair) → AreSettled w v p → (why : Why) → IsTriedReason c w v steps p.frames why → (taken : ℕ) → IsReasonOfPair c w v steps taken p why
+settled_reason c w v steps p settled UnknownTag tried taken = absurd tried
+settled_reason c w v steps p settled Steps tried taken = absurd tried
+settled_reason c w v steps p settled Search tried taken = (settled, tried)
+settled_reason c w v steps p settled OtherActions tried taken = (settled, tried)
+
+pub both_done : (w v : TheWorld) (p : Pair) → p.first.tasks.items ≡ [] → p.second.tasks.items ≡ [] → AreSettled w v p
+both_done w v p first second = inl (first, second)
+
+pub both_go_on : (w v : TheWorld) (n : ℕ) (p : Pair) → AgreeFrom n w v → GoOnAlike n p.first p.second → AreSettled w v p
+both_go_on w v n p agree alike = inr (n, agree, alike)
