@@ -5,15 +5,15 @@ use Rattle.of_table.specs.Table.{Table, empty_table}
 use Rattle.of_table.specs.Entries.{table_of}
 use Rattle.of_table.specs.Tables.{NumberedTables, table_at, tables_of}
 use Rattle.of_datapath.specs.Datapath.{Forwarding, world_of}
-use Rattle.of_diff.specs.Agreeing.{AgreeFrom}
+use Rattle.of_alike.specs.Agreeing.{AgreeFrom}
 use Rattle.of_diff.specs.Changing.{entries_in}
-use Rattle.of_diff.specs.SameGroups.{SameGroups}
-use Rattle.of_diff.specs.SamePorts.{SamePorts}
-use Rattle.of_diff.specs.SameTables.{SameTables}
-use Rattle.of_diff.proofs.EmissionLemmas.{same_emission}
-use Rattle.of_diff.proofs.HitLemmas.{same_winner}
+use Rattle.of_alike.specs.SameGroups.{SameGroups}
+use Rattle.of_alike.specs.SamePorts.{SamePorts}
+use Rattle.of_alike.specs.SameTables.{SameTables}
+use Rattle.of_alike.proofs.EmissionLemmas.{same_emission}
+use Rattle.of_alike.proofs.HitLemmas.{same_winner}
 use Rattle.of_diff.proofs.JoiningLemmas.{same_flow_at}
-use Rattle.of_diff.proofs.SameGroupLemmas.{same_bucket, same_chosen}
+use Rattle.of_alike.proofs.SameGroupLemmas.{same_bucket, same_chosen}
 
 abbrev pub TablesSayTheSame : ℕ → Forwarding → Forwarding → Type 0
 TablesSayTheSame n f g = (t : ℕ) → n ≤ t → SameTables (entries_in f t) (entries_in g t)

@@ -34,22 +34,22 @@ use Rattle.of_symbolic_run.specs.declared.advance.Advance.TheVariants as advance
 use Rattle.of_symbolic_run.specs.States.{answer_to_tasks, items_for, packet_for, task_for, work_for}
 use Rattle.of_symbolic_run.proofs.FirstLemmas.{is_lookup}
 use Rattle.of_diff.specs.declared.agreement.Agreement.{Agreement}
-use Rattle.of_diff.specs.Agreeing.{AllFrom, AreNoTable, TaskFrom}
-use Rattle.of_diff.specs.declared.alike.Compared.{Compared}
+use Rattle.of_alike.specs.Agreeing.{AllFrom, AreNoTable, TaskFrom}
+use Rattle.of_alike.specs.declared.alike.Compared.{Compared}
 use Rattle.of_diff.specs.declared.pair.Pair.{Pair}
 use Rattle.of_diff.specs.Changing.{AddsPairs, AddsSet, AreAtTableBefore, AreMarkedAskedIn, AreMatchedSets, ArePairsOf, FirstSetIsOfPorts, IsAgreement, IsAskedIn, MatchedBySome, entries_in}
 use Rattle.of_diff.specs.Differences.{InSets, IsTreatedAlike}
-use Rattle.of_diff.specs.Emitting.{LeaveAlike}
+use Rattle.of_alike.specs.Emitting.{LeaveAlike}
 use Rattle.of_diff.specs.Pairs.{ArePairs, AreStatesOfRuns, InPairs}
 use Rattle.of_diff.specs.Reasons.{steps_of_both}
-use Rattle.of_diff.specs.SamePorts.{SamePorts}
-use Rattle.of_diff.specs.SameTables.{AreChanged, AreSameHits, EntrySays, IsUnmarkedHit, SayTheSame}
-use Rattle.of_diff.proofs.Agreeing.{all_both, works_from}
-use Rattle.of_diff.proofs.AgreeingRuns.{all_from, rests_agree}
+use Rattle.of_alike.specs.SamePorts.{SamePorts}
+use Rattle.of_alike.specs.SameTables.{AreChanged, AreSameHits, EntrySays, IsUnmarkedHit, SayTheSame}
+use Rattle.of_alike.proofs.Agreeing.{all_both, works_from}
+use Rattle.of_alike.proofs.AgreeingRuns.{all_from, rests_agree}
 use Rattle.of_diff.proofs.CutLemmas.{rests_alike}
-use Rattle.of_diff.proofs.EmissionLemmas.{receives_at}
+use Rattle.of_alike.proofs.EmissionLemmas.{receives_at}
 use Rattle.of_diff.proofs.PairLemmas.{copy_at, first_later, same_tasks}
-use Rattle.of_diff.proofs.HitLemmas.{IsWinner, unchanged_hits, winner_is}
+use Rattle.of_alike.proofs.HitLemmas.{IsWinner, unchanged_hits, winner_is}
 
 -- ---- some list of conditions matches, or none does
 

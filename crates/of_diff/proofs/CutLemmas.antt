@@ -7,17 +7,17 @@ use Rattle.of_machine.specs.Sound.{IsSound}
 use Rattle.of_symbolic_switch.specs.Received.{IsReceivedAt, items_at}
 use Rattle.of_symbolic_run.specs.FrameSets.{InFrames}
 use Rattle.of_symbolic_run.specs.States.{task_for}
-use Rattle.of_diff.specs.declared.alike.Compared.{Compared}
+use Rattle.of_alike.specs.declared.alike.Compared.{Compared}
 use Rattle.of_diff.specs.declared.pair.Pair.{Pair}
-use Rattle.of_diff.specs.Agreeing.{AgreeFrom, AllFrom, GoOnAlike}
-use Rattle.of_diff.specs.Alike.{LeavesAlike, sent_by, to_controller}
+use Rattle.of_alike.specs.Agreeing.{AgreeFrom, AllFrom, GoOnAlike}
+use Rattle.of_alike.specs.Alike.{LeavesAlike, sent_by, to_controller}
 use Rattle.of_diff.specs.Differences.{IsTreatedAlike}
-use Rattle.of_diff.specs.Emitting.{LeaveAlike}
+use Rattle.of_alike.specs.Emitting.{LeaveAlike}
 use Rattle.of_diff.specs.Pairs.{AreStatesOfRuns}
-use Rattle.of_diff.specs.SamePorts.{SamePorts}
-use Rattle.of_diff.proofs.AgreeingRuns.{RestsAgree, rests_agree}
-use Rattle.of_diff.proofs.AlikeLemmas.{sent_front, told_front}
-use Rattle.of_diff.proofs.EmissionLemmas.{receives_at}
+use Rattle.of_alike.specs.SamePorts.{SamePorts}
+use Rattle.of_alike.proofs.AgreeingRuns.{RestsAgree, rests_agree}
+use Rattle.of_alike.proofs.AlikeLemmas.{sent_front, told_front}
+use Rattle.of_alike.proofs.EmissionLemmas.{receives_at}
 use Rattle.of_diff.proofs.PairLemmas.{same_tasks}
 
 alike_before : (c : Compared) (a b x : List Item) → LeavesAlike c a b → LeavesAlike c (a ++ x) (b ++ x)

@@ -7,14 +7,14 @@ use Rattle.of_machine.specs.Sound.{IsSound}
 use Rattle.of_symbolic_run.specs.declared.state.SymbolicState.{SymbolicState}
 use Rattle.of_symbolic_run.specs.FrameSets.{InFrames}
 use Rattle.of_symbolic_run.specs.States.{IsAt, items_for}
-use Rattle.of_diff.specs.declared.alike.Compared.{Compared}
+use Rattle.of_alike.specs.declared.alike.Compared.{Compared}
 use Rattle.of_diff.specs.declared.pair.Pair.{Pair}
 use Rattle.of_symbolic_switch.specs.Received.{IsReceivedAt, items_at}
 use Rattle.of_diff.specs.Differences.{IsTreatedAlike}
-use Rattle.of_diff.specs.Emitting.{LeaveAlike}
+use Rattle.of_alike.specs.Emitting.{LeaveAlike}
 use Rattle.of_diff.specs.Pairs.{AreStatesOfRuns}
-use Rattle.of_diff.specs.SamePorts.{SamePorts}
-use Rattle.of_diff.proofs.EmissionLemmas.{receives_at}
+use Rattle.of_alike.specs.SamePorts.{SamePorts}
+use Rattle.of_alike.proofs.EmissionLemmas.{receives_at}
 
 -- a state without packets gives what the run of each of its frames gives
 abbrev pub GivesRuns : Type 0

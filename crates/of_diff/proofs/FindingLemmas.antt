@@ -7,7 +7,7 @@ use Rattle.std.proofs.lemmas.List.Elements.{Contains-append_left, Contains-appen
 use Rattle.of_machine.specs.TheWorld.{TheWorld}
 use Rattle.of_symbolic_run.specs.declared.frame_set.FrameSet.{FrameSet}
 use Rattle.of_symbolic_run.specs.FrameSets.{InFrames}
-use Rattle.of_diff.specs.declared.alike.Compared.{Compared}
+use Rattle.of_alike.specs.declared.alike.Compared.{Compared}
 use Rattle.of_diff.specs.declared.difference.Difference.{Difference}
 use Rattle.of_diff.specs.declared.difference.Differences.{Differences}
 use Rattle.of_diff.specs.declared.difference.Undecided.{Undecided}
@@ -15,7 +15,7 @@ use Rattle.of_diff.specs.declared.pair.Pair.{Pair}
 use Rattle.of_symbolic_switch.specs.Received.{IsReceivedAt}
 use Rattle.of_diff.specs.Comparing.{AreDifferences}
 use Rattle.of_diff.specs.Differences.{InDifferences, InUndecided, IsDifference, IsTreatedAlike}
-use Rattle.of_diff.specs.SamePorts.{SamePorts}
+use Rattle.of_alike.specs.SamePorts.{SamePorts}
 use Rattle.of_diff.specs.declared.difference.Why.TheVariants.{Steps}
 use Rattle.of_diff.specs.Pairs.{ArePairs, AreStatesOfRuns, InPairs, PutsDifference}
 use Rattle.of_diff.specs.Reasons.{AreLaterPairs, ArePairSteps, ArePairsAfter, IsFirstPair, IsPairStep, IsReasonOfPair, IsUndecidedSet}

@@ -8,11 +8,11 @@ use Rattle.of_symbolic_run.specs.declared.frame_set.FrameSet.{FrameSet}
 use Rattle.of_oxm.specs.declared.match_field.MatchField.{MatchField}
 use Rattle.of_symbolic_run.specs.FrameSets.{AreFramesMatching, InFrames}
 use Rattle.of_symbolic_switch.specs.Received.{IsReceivedAt, items_at}
-use Rattle.of_diff.specs.Alike.{DiffersAt}
+use Rattle.of_alike.specs.Alike.{DiffersAt}
 use Rattle.of_diff.specs.Differences.{InDifferences, InSets, IsDifference, SomeDiffers}
 use Rattle.of_diff.specs.Pairs.{PutsDifference, place_of_difference}
-use Rattle.of_diff.specs.declared.alike.Compared.{Compared}
-use Rattle.of_diff.specs.declared.alike.Where.{Where}
+use Rattle.of_alike.specs.declared.alike.Compared.{Compared}
+use Rattle.of_alike.specs.declared.alike.Where.{Where}
 use Rattle.of_diff.specs.declared.difference.Difference.{Difference}
 use Rattle.of_diff.specs.declared.ending.FrameShown.{FrameShown}
 use Rattle.of_diff.specs.Shown.{IsShown}

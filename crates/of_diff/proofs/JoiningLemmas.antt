@@ -17,15 +17,15 @@ use Rattle.of_symbolic_run.specs.FrameSets.{InFrames}
 use Rattle.of_symbolic_run.specs.Later.{AreOneLater}
 use Rattle.of_symbolic_run.specs.States.{IsAt}
 use Rattle.of_symbolic_run.specs.JointCases.{first_case, first_cases, second_case, second_cases}
-use Rattle.of_diff.specs.declared.alike.Compared.{Compared}
+use Rattle.of_alike.specs.declared.alike.Compared.{Compared}
 use Rattle.of_diff.specs.declared.pair.Pair.{Pair}
-use Rattle.of_diff.specs.Agreeing.{AgreeFrom, AreSameFlows}
+use Rattle.of_alike.specs.Agreeing.{AgreeFrom, AreSameFlows}
 use Rattle.of_diff.specs.Changing.{entries_in}
 use Rattle.of_diff.specs.Pairs.{ArePairs, pair_of_case}
 use Rattle.of_diff.specs.Reasons.{AreLaterPairs, steps_of_both}
-use Rattle.of_diff.specs.SameTables.{EntrySays, SameTables, says_of}
-use Rattle.of_diff.proofs.HitLemmas.{same_at, same_winner}
-use Rattle.of_diff.proofs.SameRunLemmas.{at_one, at_other}
+use Rattle.of_alike.specs.SameTables.{EntrySays, SameTables, says_of}
+use Rattle.of_alike.proofs.HitLemmas.{same_at, same_winner}
+use Rattle.of_alike.proofs.SameRunLemmas.{at_one, at_other}
 
 -- ---- entries that say the same
 

@@ -11,7 +11,7 @@ use Rattle.of_symbolic_run.specs.Cases.{AreCases}
 use Rattle.of_symbolic_run.specs.FrameSets.{InFrames}
 use Rattle.of_symbolic_run.specs.Later.{AreOneLater, IsOneLater}
 use Rattle.of_symbolic_run.specs.States.{AreTaskCopies, IsAt, IsStateCopy, task_for}
-use Rattle.of_diff.specs.declared.alike.Compared.{Compared}
+use Rattle.of_alike.specs.declared.alike.Compared.{Compared}
 use Rattle.of_diff.specs.declared.pair.Pair.{Pair}
 use Rattle.of_diff.specs.Pairs.{AreByFirst, AreBySecond, ArePairs, AreStatesOfRuns}
 use Rattle.of_diff.specs.Reasons.{AreLaterPairs, steps_of_both}

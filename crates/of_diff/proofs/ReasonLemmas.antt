@@ -1,11 +1,11 @@
 -- Why frames are undecided.
 use Rattle.std.proofs.Common.{ℕ, [], ◌≡◌, inl, inr}
 use Rattle.of_machine.specs.TheWorld.{TheWorld}
-use Rattle.of_diff.specs.declared.alike.Compared.{Compared}
+use Rattle.of_alike.specs.declared.alike.Compared.{Compared}
 use Rattle.of_diff.specs.declared.difference.Why.{Why}
 use Rattle.of_diff.specs.declared.difference.Why.TheVariants.{OtherActions, Search, Steps, UnknownTag}
 use Rattle.of_diff.specs.declared.pair.Pair.{Pair}
-use Rattle.of_diff.specs.Agreeing.{AgreeFrom, GoOnAlike}
+use Rattle.of_alike.specs.Agreeing.{AgreeFrom, GoOnAlike}
 use Rattle.of_diff.specs.Reasons.{AreSettled, IsReasonOfPair, IsTriedReason}
 
 pub settled_reason : (c : Compared) (w v : TheWorld) (steps : ℕ) (p : Pair) → AreSettled w v p → (why : Why) → IsTriedReason c w v steps p.frames why → (taken : ℕ) → IsReasonOfPair c w v steps taken p why

@@ -24,10 +24,10 @@ use Rattle.of_symbolic_run.specs.Later.{AreOneLater}
 use Rattle.of_symbolic_run.specs.States.{AreTaskCopies, answer_to_tasks}
 use Rattle.of_symbolic_run.specs.declared.advance.Advance.TheVariants.{Lookup}
 use Rattle.of_diff.specs.declared.agreement.Agreement.{Agreement}
-use Rattle.of_diff.specs.Agreeing.{AgreeFrom, AreNoTable, StayFrom}
+use Rattle.of_alike.specs.Agreeing.{AgreeFrom, AreNoTable, StayFrom}
 use Rattle.of_diff.specs.Pairs.{AreByFirst, AreStatesOfRuns, InPairs}
 use Rattle.of_diff.specs.Reasons.{AreLaterPairs}
-use Rattle.of_diff.specs.SameTables.{AreChanged}
+use Rattle.of_alike.specs.SameTables.{AreChanged}
 use Rattle.of_diff.specs.declared.pair.Pair.{Pair}
 
 abbrev pub entries_in : Forwarding → ℕ → List FlowEntry

@@ -5,8 +5,8 @@ use Rattle.of_machine.specs.TheWorld.{TheWorld}
 use Rattle.of_symbolic_switch.specs.Received.{IsReceivedAt}
 use Rattle.of_diff.specs.Differences.{InDifferences, InUndecided, IsDifference, IsTreatedAlike}
 use Rattle.of_diff.specs.Reasons.{IsUndecidedSet}
-use Rattle.of_diff.specs.SamePorts.{SamePorts}
-use Rattle.of_diff.specs.declared.alike.Compared.{Compared}
+use Rattle.of_alike.specs.SamePorts.{SamePorts}
+use Rattle.of_alike.specs.declared.alike.Compared.{Compared}
 use Rattle.of_diff.specs.declared.difference.Difference.{Difference}
 use Rattle.of_diff.specs.declared.difference.Differences.{Differences}
 use Rattle.of_diff.specs.declared.difference.Undecided.{Undecided}

@@ -1,10 +1,3 @@
-pub mod Alike
-pub mod SamePorts
-pub mod SameGroups
-pub mod SameTables
-pub mod Agreeing
-pub mod Emitting
-pub mod IngressPorts
 pub mod Differences
 pub mod Pairs
 pub mod Reasons

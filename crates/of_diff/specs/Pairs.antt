@@ -10,8 +10,8 @@ use Rattle.of_symbolic_run.specs.FrameSets.{InFrames}
 use Rattle.of_symbolic_run.specs.States.{IsAt, IsStateCopy}
 use Rattle.of_symbolic_switch.specs.Received.{IsReceivedAt}
 use Rattle.of_diff.specs.Differences.{InDifferences, InSets, IsTreatedAlike, IsDifference}
-use Rattle.of_diff.specs.declared.alike.Compared.{Compared}
-use Rattle.of_diff.specs.declared.alike.Where.{Where}
+use Rattle.of_alike.specs.declared.alike.Compared.{Compared}
+use Rattle.of_alike.specs.declared.alike.Where.{Where}
 use Rattle.of_diff.specs.declared.difference.Difference.{Difference}
 use Rattle.of_diff.specs.declared.pair.Pair.{Pair}
 

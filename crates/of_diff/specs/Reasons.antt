@@ -7,10 +7,10 @@ use Rattle.of_symbolic_run.specs.FrameSets.{InFrames}
 use Rattle.of_symbolic_switch.specs.Received.{IsReceivedAt}
 use Rattle.of_symbolic_switch.specs.Sides.{IsUnknownLookup}
 use Rattle.of_symbolic_switch.specs.Unfound.{FindsNone}
-use Rattle.of_diff.specs.Agreeing.{AgreeFrom, GoOnAlike}
+use Rattle.of_alike.specs.Agreeing.{AgreeFrom, GoOnAlike}
 use Rattle.of_diff.specs.Differences.{IsDifference, IsTreatedAlike}
 use Rattle.of_diff.specs.Pairs.{ArePairs, AreStatesOfRuns}
-use Rattle.of_diff.specs.declared.alike.Compared.{Compared}
+use Rattle.of_alike.specs.declared.alike.Compared.{Compared}
 use Rattle.of_diff.specs.declared.difference.Difference.{Difference}
 use Rattle.of_diff.specs.declared.difference.Undecided.{Undecided}
 use Rattle.of_diff.specs.declared.difference.Why.{Why}

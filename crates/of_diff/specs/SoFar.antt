@@ -7,7 +7,7 @@ use Rattle.of_symbolic_switch.specs.Received.{IsReceivedAt}
 use Rattle.of_diff.specs.Differences.{InDifferences, InUndecided, IsDifference, IsTreatedAlike}
 use Rattle.of_diff.specs.Pairs.{ArePairs, AreStatesOfRuns, InPairs}
 use Rattle.of_diff.specs.Reasons.{AreLaterPairs, IsReasonOfPair, IsUndecidedSet}
-use Rattle.of_diff.specs.declared.alike.Compared.{Compared}
+use Rattle.of_alike.specs.declared.alike.Compared.{Compared}
 use Rattle.of_diff.specs.declared.difference.Difference.{Difference}
 use Rattle.of_diff.specs.declared.difference.Differences.{Differences}
 use Rattle.of_diff.specs.declared.difference.Undecided.{Undecided}

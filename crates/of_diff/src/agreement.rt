@@ -1,59 +1,16 @@
 //! From which table on two switches do the same.
-ghost use Rattle.std.specs.Prelude.{◌≡◌, ◌≤◌, ◌↔◌, IfOk, IfSome, IsTrue, map};
+ghost use Rattle.std.specs.Prelude.{◌≤◌, IfOk, IfSome};
 ghost use Rattle.of_datapath.specs.Datapath.{world_of};
 ghost use Rattle.of_datapath.specs.Numbers.{forwarding_of};
-ghost use Rattle.of_diff.specs.Agreeing.{AgreeFrom};
+ghost use Rattle.of_alike.specs.Agreeing.{AgreeFrom};
 ghost use Rattle.of_diff.specs.Changing.{IsAgreement};
-ghost use Rattle.of_diff.specs.SameGroups.{SameGroups, bucket_key, group_key};
-ghost use Rattle.of_diff.specs.SamePorts.{SamePorts};
+ghost use Rattle.of_alike.specs.SamePorts.{SamePorts};
 
-use crate::tables::{Changed, are_same_actions, changed_entries, have_same_entries};
+use of_alike::{Changed, changed_entries, have_same_entries, have_same_groups};
 use of_classifier::Lookup;
 use of_datapath::Datapath;
-use of_groups::{Bucket, Group};
 use of_wire::limits::TABLES;
 use std::alloc::{AllocError, Global};
-
-fn is_same_bucket(a: &Bucket, b: &Bucket) -> bool
-    ensures { IsTrue result ↔ (bucket_key a.now ≡ bucket_key b.now) }
-{
-    a.watch_port == b.watch_port
-        && a.watch_group == b.watch_group
-        && are_same_actions(a.actions.as_slice(), b.actions.as_slice())
-}
-
-fn are_same_buckets(a: &[Bucket], b: &[Bucket]) -> bool
-    ensures { IsTrue result ↔ (map bucket_key a.now ≡ map bucket_key b.now) }
-{
-    let mut others = b.iter();
-    for bucket in a {
-        match others.next() {
-            Some(other) if is_same_bucket(bucket, other) => {}
-            _ => return false,
-        }
-    }
-    others.next().is_none()
-}
-
-fn is_same_group(a: &Group, b: &Group) -> bool
-    ensures { IsTrue result ↔ (group_key a.now ≡ group_key b.now) }
-{
-    a.id == b.id && a.kind == b.kind && are_same_buckets(a.buckets.as_slice(), b.buckets.as_slice())
-}
-
-/// Whether the groups have the same numbers, and each does the same with packets (OpenFlow 1.3.5, 5.6).
-pub fn have_same_groups(a: &[Group], b: &[Group]) -> bool
-    ensures { IsTrue result ↔ SameGroups a.now b.now }
-{
-    let mut others = b.iter();
-    for group in a {
-        match others.next() {
-            Some(other) if is_same_group(group, other) => {}
-            _ => return false,
-        }
-    }
-    others.next().is_none()
-}
 
 // The least table from which on two switches with the same ports do the same, 16 if their last tables differ. None if their groups differ.
 fn agreeing_from<L: Lookup>(first: &Datapath<L>, second: &Datapath<L>) -> Option<u8>

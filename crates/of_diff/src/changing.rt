@@ -14,12 +14,12 @@ ghost use Rattle.of_symbolic.specs.Parts.{AreListsOfConditions};
 ghost use Rattle.of_symbolic_run.specs.States.{answer_to_tasks};
 ghost use Rattle.of_symbolic_run.specs.declared.advance.Advance.TheVariants.{Lookup as WantsLookup};
 ghost use Rattle.of_table.specs.Entries.{entry_of, flows_of};
-ghost use Rattle.of_diff.specs.declared.alike.Compared.{Compared};
+ghost use Rattle.of_alike.specs.declared.alike.Compared.{Compared};
 ghost use Rattle.of_diff.specs.Changing.{AddsPairs, AddsSet, AreAtTableBefore, AreMarkedAskedIn, AreMatchedSets, ArePairsOf, IsAgreement, IsAskedIn, entries_in};
-ghost use Rattle.of_diff.specs.Emitting.{LeaveAlike};
+ghost use Rattle.of_alike.specs.Emitting.{LeaveAlike};
 ghost use Rattle.of_diff.specs.Pairs.{ArePairs};
 ghost use Rattle.of_diff.specs.Reasons.{AreLaterPairs};
-ghost use Rattle.of_diff.specs.SamePorts.{SamePorts};
+ghost use Rattle.of_alike.specs.SamePorts.{SamePorts};
 
 use crate::agreement::Agreement;
 use crate::pair::{Pair, pairs_by_first};

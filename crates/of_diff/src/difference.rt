@@ -1,6 +1,6 @@
 //! What is found about two switches.
 
-use crate::alike::Where;
+use of_alike::Where;
 use of_machine::Items;
 use of_symbolic_run::{Emission, FrameSet};
 

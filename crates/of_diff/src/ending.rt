@@ -5,16 +5,15 @@ ghost use Rattle.of_datapath.specs.Datapath.{world_of};
 ghost use Rattle.of_datapath.specs.Numbers.{forwarding_of};
 ghost use Rattle.of_machine.specs.TheWorld.{TheWorld};
 ghost use Rattle.of_symbolic_run.specs.FrameSets.{InFrames};
-ghost use Rattle.of_diff.specs.declared.alike.Compared.{Compared as WhatIsCompared};
+ghost use Rattle.of_alike.specs.declared.alike.Compared.{Compared as WhatIsCompared};
 ghost use Rattle.of_diff.specs.declared.pair.Pair.{Pair as ThePair};
 ghost use Rattle.of_diff.specs.Reasons.{AreSettled, IsReasonOfPair, SomeIsAlike};
 ghost use Rattle.of_diff.specs.Shown.{IsShown, TriedIs};
 ghost use Rattle.of_diff.specs.SoFar.{NextIs};
 
-use crate::alike::{Compared, Where, first_difference};
 use crate::difference::{Difference, EmittedByBoth, Undecided, Why};
-use crate::ingress::ingress_condition;
 use crate::pair::{Next, Pair};
+use of_alike::{Compared, Where, first_difference, ingress_condition};
 use of_classifier::Lookup;
 use of_datapath::Datapath;
 use of_machine::Items;

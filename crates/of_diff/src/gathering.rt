@@ -3,7 +3,7 @@ ghost use Rattle.std.specs.Prelude.{◌≡◌, IfSome, OnOk, Some, map, slice_ge
 ghost use Rattle.of_diff.specs.Pairs.{PutsDifference, place_of_difference};
 
 use crate::difference::Difference;
-use crate::emissions::is_same_emission;
+use of_alike::is_same_emission;
 use of_symbolic_run::Emission;
 use std::alloc::AllocError;
 

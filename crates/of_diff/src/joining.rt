@@ -2,12 +2,12 @@
 ghost use Rattle.std.specs.Prelude.{◌≡◌, ◌<◌, IfOk, IfSome, map};
 ghost use Rattle.of_datapath.specs.Datapath.{world_of};
 ghost use Rattle.of_datapath.specs.Numbers.{forwarding_of};
-ghost use Rattle.of_diff.specs.declared.alike.Compared.{Compared};
+ghost use Rattle.of_alike.specs.declared.alike.Compared.{Compared};
 ghost use Rattle.of_diff.specs.Changing.{entries_in};
 ghost use Rattle.of_diff.specs.Pairs.{ArePairs, pair_of_case};
 ghost use Rattle.of_diff.specs.Reasons.{AreLaterPairs};
-ghost use Rattle.of_diff.specs.SamePorts.{SamePorts};
-ghost use Rattle.of_diff.specs.SameTables.{SameTables};
+ghost use Rattle.of_alike.specs.SamePorts.{SamePorts};
+ghost use Rattle.of_alike.specs.SameTables.{SameTables};
 ghost use Rattle.of_symbolic_run.specs.States.{AreTaskCopies, answer_to_tasks};
 ghost use Rattle.of_symbolic_run.specs.declared.advance.Advance.TheVariants.{Lookup as WantsLookup};
 

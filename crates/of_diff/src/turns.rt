@@ -6,7 +6,7 @@ ghost use Rattle.of_diff.specs.Changing.{AreAtTableBefore};
 ghost use Rattle.of_symbolic_run.specs.States.{answer_to, answer_to_tasks, answer_to_works};
 ghost use Rattle.of_symbolic_run.specs.declared.advance.Advance.TheVariants.{Lookup as WantsLookup};
 
-use crate::continuing::{are_tasks_from, have_equal_tasks};
+use of_alike::{are_tasks_from, have_equal_tasks};
 use of_symbolic_run::{SymbolicState, SymbolicTask, Work};
 
 // What a state comes to next.

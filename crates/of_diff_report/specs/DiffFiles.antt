@@ -6,8 +6,8 @@ use Rattle.of_replay.specs.declared.event_file.Ended.TheVariants.{Done}
 use Rattle.of_symbolic_switch.specs.Received.{IsReceivedAt}
 use Rattle.of_diff.specs.Comparing.{AreDifferences}
 use Rattle.of_diff.specs.Differences.{IsDifference, IsTreatedAlike}
-use Rattle.of_diff.specs.SamePorts.{SamePorts}
-use Rattle.of_diff.specs.declared.alike.Compared.{Compared}
+use Rattle.of_alike.specs.SamePorts.{SamePorts}
+use Rattle.of_alike.specs.declared.alike.Compared.{Compared}
 use Rattle.of_diff.specs.declared.difference.Difference.{Difference}
 use Rattle.of_diff.specs.declared.difference.Differences.{Differences}
 use Rattle.of_diff_report.specs.declared.writing.DiffForm.{DiffForm}

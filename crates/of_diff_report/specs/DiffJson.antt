@@ -3,8 +3,8 @@ use Rattle.std.specs.Prelude.{ℕ, ◌==◌, Bool, true, false, List, [], ◌∷
 use Rattle.hex.specs.Hex.{encode_lower}
 use Rattle.of_json.specs.Parts.{key, listed, number_member, quoted, text_member, truth}
 use Rattle.of_json.specs.Strings.{array_member}
-use Rattle.of_diff.specs.declared.alike.Where.{Where}
-use Rattle.of_diff.specs.declared.alike.Where.TheVariants.{Controller, Port as ByPort}
+use Rattle.of_alike.specs.declared.alike.Where.{Where}
+use Rattle.of_alike.specs.declared.alike.Where.TheVariants.{Controller, Port as ByPort}
 use Rattle.of_diff.specs.declared.difference.Difference.{Difference}
 use Rattle.of_diff.specs.declared.difference.Differences.{Differences}
 use Rattle.of_diff.specs.declared.difference.Undecided.{Undecided}

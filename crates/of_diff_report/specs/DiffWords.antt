@@ -5,8 +5,8 @@ use Rattle.of_text.specs.Lines.{ended}
 use Rattle.of_datapath.specs.Datapath.{Forwarding}
 use Rattle.of_trace.specs.Words.{heading}
 use Rattle.of_leaving.specs.LeavingWords.{frame_line, side_words}
-use Rattle.of_diff.specs.declared.alike.Where.{Where}
-use Rattle.of_diff.specs.declared.alike.Where.TheVariants.{Controller, Port as ByPort}
+use Rattle.of_alike.specs.declared.alike.Where.{Where}
+use Rattle.of_alike.specs.declared.alike.Where.TheVariants.{Controller, Port as ByPort}
 use Rattle.of_diff.specs.declared.difference.Difference.{Difference}
 use Rattle.of_diff.specs.declared.difference.Differences.{Differences}
 use Rattle.of_diff.specs.declared.difference.Undecided.{Undecided}

@@ -3,7 +3,8 @@ ghost use Rattle.std.specs.Prelude.{◌≡◌, ◌++◌, IfOk, OnOk};
 ghost use Rattle.of_diff_report.specs.DiffJson.{at_member, diff_document, diff_head, diff_json, difference_members, difference_object, found_member, other_ports_json, same_in_json, undecided_member, undecided_string, why_name};
 
 use crate::words::is_same;
-use of_diff::{Difference, Differences, Undecided, Where, Why};
+use of_alike::Where;
+use of_diff::{Difference, Differences, Undecided, Why};
 use of_json::{
     push_array_member, push_bytes_member, push_key, push_number_member, push_quoted, push_truth,
 };

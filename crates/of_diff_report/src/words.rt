@@ -3,8 +3,9 @@ ghost use Rattle.std.specs.Prelude.{◌≡◌, ◌++◌, ◌∷◌, IfOk, OnOk};
 ghost use Rattle.std.specs.List.{flat_map};
 ghost use Rattle.of_diff_report.specs.DiffWords.{are_same, count_why, diff_summary, diff_words, difference_count, difference_words, is_why, set_words, sets_line, sets_words, undecided_count, undecided_line, undecided_sets, undecided_words, where_words, undecided_why};
 
+use of_alike::Where;
 use of_classifier::Lookup;
-use of_diff::{Difference, Differences, Undecided, Where, Why};
+use of_diff::{Difference, Differences, Undecided, Why};
 use of_leaving::{push_frame_line, push_side};
 use of_switch::Switch;
 use of_trace::push_heading;

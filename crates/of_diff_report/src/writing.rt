@@ -4,14 +4,15 @@ ghost use Rattle.of_datapath.specs.Datapath.{Forwarding, world_of};
 ghost use Rattle.of_replay.specs.FileRuns.{Writes, ended_as};
 ghost use Rattle.of_symbolic_switch.specs.Received.{IsReceivedAt};
 ghost use Rattle.of_diff.specs.Differences.{IsDifference, IsTreatedAlike};
-ghost use Rattle.of_diff.specs.declared.alike.Compared.{Compared as WhatIsCompared};
+ghost use Rattle.of_alike.specs.declared.alike.Compared.{Compared as WhatIsCompared};
 ghost use Rattle.of_diff.specs.declared.difference.Difference.{Difference};
 ghost use Rattle.of_diff_report.specs.DiffFiles.{AreFoundBetween, IsDiffReport, IsVerdict, diff_text, diff_verdict, verdict_on};
 
 use crate::json::{differences_as_json, other_ports_as_json};
 use crate::words::{differences_in_words, is_same};
+use of_alike::Compared;
 use of_classifier::Lookup;
-use of_diff::{Compared, Differences, differences};
+use of_diff::{Differences, differences};
 use of_replay::{Ended, Sink, write_all};
 use of_switch::Switch;
 use std::alloc::{AllocError, Global};

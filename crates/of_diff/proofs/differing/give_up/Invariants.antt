@@ -1,6 +1,6 @@
 use Rattle.std.proofs.Common.{ℕ, length}
 use Rattle.of_machine.specs.TheWorld.{TheWorld}
-use Rattle.of_diff.specs.declared.alike.Compared.{Compared}
+use Rattle.of_alike.specs.declared.alike.Compared.{Compared}
 use Rattle.of_diff.specs.Reasons.{ArePairsAfter}
 use Rattle.of_diff.specs.SoFar.{IsSoFar}
 use Rattle.of_diff.proofs.FindingLemmas.{AreLeaving}

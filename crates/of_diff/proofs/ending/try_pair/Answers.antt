@@ -6,7 +6,7 @@ use Rattle.of_machine.specs.TheWorld.{TheWorld}
 use Rattle.of_diff.specs.Shown.{IsShown, TriedIs}
 use Rattle.of_diff.specs.SoFar.{NextIs}
 use Rattle.of_diff.specs.declared.ending.Tried.TheVariants.{Empty, Undecided}
-use Rattle.of_diff.specs.declared.alike.Compared.{Compared}
+use Rattle.of_alike.specs.declared.alike.Compared.{Compared}
 use Rattle.of_diff.proofs.ReasonLemmas.{settled_reason}
 use Rattle.of_diff.proofs.ending.try_pair.Goals as goal
 

@@ -1,0 +1,7 @@
+use Rattle.std.proofs.Common.{drop}
+use Rattle.std.specs.Slice.Iter.{iter_rest}
+use Rattle.of_symbolic_switch.proofs.Pairing.{SameIfLeft}
+use Rattle.of_alike.proofs.continuing.are_equal_works.Given as goal
+
+abbrev pub invariant-loop-work : goal.invariant-loop-work
+invariant-loop-work l = SameIfLeft l.a l.b (drop l.work-index l.a) (iter_rest l.others)

@@ -1,8 +1,0 @@
-use Rattle.std.proofs.Common.{drop, map}
-use Rattle.std.specs.Slice.Iter.{iter_rest}
-use Rattle.of_diff.specs.SameGroups.{bucket_key}
-use Rattle.of_symbolic_switch.proofs.Pairing.{SameIfLeft}
-use Rattle.of_diff.proofs.agreement.are_same_buckets.Given as goal
-
-abbrev pub invariant-loop-bucket : goal.invariant-loop-bucket
-invariant-loop-bucket l = SameIfLeft (map bucket_key l.a) (map bucket_key l.b) (map bucket_key (drop l.bucket-index l.a)) (map bucket_key (iter_rest l.others))

@@ -1,8 +1,0 @@
-use Rattle.std.proofs.Common.{drop, map}
-use Rattle.std.specs.Slice.Iter.{iter_rest}
-use Rattle.of_diff.specs.SameGroups.{group_key}
-use Rattle.of_symbolic_switch.proofs.Pairing.{SameIfLeft}
-use Rattle.of_diff.proofs.agreement.have_same_groups.Given as goal
-
-abbrev pub invariant-loop-group : goal.invariant-loop-group
-invariant-loop-group l = SameIfLeft (map group_key l.a) (map group_key l.b) (map group_key (drop l.group-index l.a)) (map group_key (iter_rest l.others))

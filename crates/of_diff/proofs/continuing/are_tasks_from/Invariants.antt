@@ -1,6 +1,0 @@
-use Rattle.std.proofs.Common.{drop}
-use Rattle.of_diff.specs.Agreeing.{StayFrom}
-use Rattle.of_diff.proofs.continuing.are_tasks_from.Given as goal
-
-abbrev pub invariant-loop-task : goal.invariant-loop-task
-invariant-loop-task l = StayFrom l.table (drop l.task-index l.tasks) → StayFrom l.table l.tasks

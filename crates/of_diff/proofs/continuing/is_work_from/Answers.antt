@@ -1,7 +1,0 @@
-use Rattle.std.proofs.Common.{subst}
-use Rattle.of_diff.specs.Agreeing.{IsNoTable}
-use Rattle.of_diff.proofs.AgreeingRuns.{is_no_table}
-use Rattle.of_diff.proofs.continuing.is_work_from.Goals as goal
-
-pub returns-in-Act : goal.returns-in-Act
-returns-in-Act c = λ e. rw c.in-Act.is (subst IsNoTable c.get-in-Act.ensures.is (is_no_table c.get-in-Act.result c.get-in-Act.ensures.served))

@@ -1,7 +1,0 @@
-use Rattle.std.proofs.Common.{take}
-use Rattle.std.specs.List.{All}
-use Rattle.of_diff.specs.IngressPorts.{HasNoneFrom}
-use Rattle.of_diff.proofs.ingress.regions_have_none_from.Given as goal
-
-abbrev pub invariant-loop-region : goal.invariant-loop-region
-invariant-loop-region l = All (HasNoneFrom l.lacks l.port) (take l.region-index l.regions)

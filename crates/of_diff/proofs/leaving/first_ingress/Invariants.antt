@@ -1,7 +1,0 @@
-use Rattle.std.proofs.Common.{take}
-use Rattle.std.specs.List.{All}
-use Rattle.of_diff.specs.Emitting.{IsAlikeFrom}
-use Rattle.of_diff.proofs.leaving.first_ingress.Given as goal
-
-abbrev pub invariant-loop-port : goal.invariant-loop-port
-invariant-loop-port l = All (IsAlikeFrom l.compared l.ports l.frames l.a l.b) (take l.port-index l.ports)

@@ -1,7 +1,0 @@
-use Rattle.of_diff.specs.Emitting.{LeaveAlike}
-use Rattle.of_diff.proofs.EmittingLemmas.{none_if}
-use Rattle.of_diff.proofs.leaving.leave_alike.Goals as goal
-
-pub returns : goal.returns
-returns c = λ yes.
-    none_if c.other_ingress.result (LeaveAlike c.args.compared c.args.ports.now c.args.frames.now c.args.a.now c.args.b.now) c.is_none.result c.other_ingress.ensures c.is_none.ensures yes

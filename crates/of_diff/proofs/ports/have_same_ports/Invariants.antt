@@ -1,8 +1,0 @@
-use Rattle.std.proofs.Common.{drop, map}
-use Rattle.std.specs.Slice.Iter.{iter_rest}
-use Rattle.of_diff.specs.SamePorts.{port_key}
-use Rattle.of_symbolic_switch.proofs.Pairing.{SameIfLeft}
-use Rattle.of_diff.proofs.ports.have_same_ports.Given as goal
-
-abbrev pub invariant-loop-port : goal.invariant-loop-port
-invariant-loop-port l = SameIfLeft (map port_key l.a) (map port_key l.b) (map port_key (drop l.port-index l.a)) (map port_key (iter_rest l.others))

@@ -1,7 +1,0 @@
-use Rattle.std.proofs.Common.{take}
-use Rattle.std.specs.List.{All}
-use Rattle.of_diff.specs.Emitting.{IsAlikeBy}
-use Rattle.of_diff.proofs.sending.send_alike_from.Given as goal
-
-abbrev pub invariant-loop-port : goal.invariant-loop-port
-invariant-loop-port l = All (IsAlikeBy l.ingress l.a l.b) (take l.port-index l.ports)

@@ -1,8 +1,0 @@
-use Rattle.std.proofs.Common.{map}
-use Rattle.of_table.specs.Entries.{flows_of}
-use Rattle.of_diff.specs.SameTables.{says_of}
-use Rattle.of_symbolic_switch.proofs.Pairing.{SameIfLeft}
-use Rattle.of_diff.proofs.tables.have_same_entries.Given as goal
-
-abbrev pub invariant-loop-entry : goal.invariant-loop-entry
-invariant-loop-entry l = SameIfLeft (map says_of (flows_of l.fn.a)) (map says_of (flows_of l.fn.b)) (map says_of (flows_of l.entry-iterator)) (map says_of (flows_of l.others))
