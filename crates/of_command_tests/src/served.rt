@@ -1,8 +1,9 @@
 use of_cache::Cached;
+use of_calls::read_rows;
 use of_mask_groups::MaskGroups;
 use of_replay::Ended;
 use of_replay::memory::{MemorySink, MemorySource};
-use of_serve::{read_rows, serve};
+use of_serve::serve;
 use of_switch::Event;
 use of_test_peers::peers::{Failing, Line, MemoryClock, MemoryPeers};
 use of_wire::Bytes;

@@ -14,11 +14,14 @@ use Rattle.of_switch.specs.Runs.{Report, Gives, IsRefused, Run, run, effects_in}
 use Rattle.of_replay.specs.Lexing.{lines_of_file}
 use Rattle.of_replay.specs.Rows.{Rows, rows_of_lines, events_in as row_events}
 use Rattle.of_laws.specs.RowText.{HasLine, file_text, row_text}
-use Rattle.of_live.specs.Live.{Live, Came, Time, Datagram, begun, coming_events, events_of, is_lost_first, loss, peer_of, peers_of, received_datagram}
-use Rattle.of_live.specs.declared.network.Dropped.{Dropped}
-use Rattle.of_live.specs.declared.network.Dropped.TheVariants as dropped
-use Rattle.of_live.specs.declared.peers.Peer.{Peer}
-use Rattle.of_live.specs.Turns.{Act, Logs, Drops, Sends, Writes, LiveTurn, LiveTurns, None, Then, turn_acts, closes, dropped_in, dropped_of, drops, live_effects, is_closed, is_written, logs, offered, passed, ran, rows_text, sent_acts, sent_in, sent_to, after_live_turns, writes}
+use Rattle.of_network.specs.Inputs.{Came, Time, Datagram}
+use Rattle.of_network.specs.Peers.{peer_of}
+use Rattle.of_live.specs.Live.{Live, begun, coming_events, events_of, is_lost_first, loss, peers_of, received_datagram}
+use Rattle.of_network.specs.declared.network.Dropped.{Dropped}
+use Rattle.of_network.specs.declared.network.Dropped.TheVariants as dropped
+use Rattle.of_network.specs.declared.peers.Peer.{Peer}
+use Rattle.of_network.specs.Acts.{Act, Logs, Drops, Sends, Writes}
+use Rattle.of_live.specs.Turns.{LiveTurn, LiveTurns, None, Then, turn_acts, closes, dropped_in, dropped_of, drops, live_effects, is_closed, is_written, logs, offered, passed, ran, rows_text, sent_acts, sent_in, sent_to, after_live_turns, writes}
 use Rattle.of_live.specs.Recorded.{effects, events, log_of, logged_rows}
 use Rattle.of_live.proofs.Doing.{run_then}
 

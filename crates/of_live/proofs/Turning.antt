@@ -5,14 +5,16 @@ use Rattle.std.proofs.lemmas.Bool.Decides.{nat_tests}
 use Rattle.std.specs.List.{flat_map}
 use Rattle.of_datapath.specs.declared.effect.Effect.{Effect}
 use Rattle.of_switch.specs.Runs.{effects_in}
-use Rattle.of_live.specs.declared.peers.Peer.{Peer}
+use Rattle.of_network.specs.declared.peers.Peer.{Peer}
 use Rattle.of_replay.specs.declared.halt.Halt.{Halt}
 use Rattle.of_replay.specs.declared.halt.Halt.TheVariants.{Bad, Memory, Read, Write}
 use Rattle.of_switch.specs.declared.event.Event.{Event}
 use Rattle.of_laws.specs.RowText.{row_text}
 use Rattle.of_live.specs.declared.state.Asks.{Asks}
-use Rattle.of_live.specs.Live.{Live, Came, Fault, Time, events_of}
-use Rattle.of_live.specs.Turns.{Act, Records, Told, Logs, LiveTurn, turn_acts, after_live_turn, closes, drops, is_closed, is_fault, logs, offered, results, rows_text, sent_acts, sent_in, writes}
+use Rattle.of_network.specs.Inputs.{Came, Fault, Time, is_fault}
+use Rattle.of_live.specs.Live.{Live, events_of}
+use Rattle.of_network.specs.Acts.{Act, Records, Told, Logs}
+use Rattle.of_live.specs.Turns.{LiveTurn, turn_acts, after_live_turn, closes, drops, is_closed, logs, offered, results, rows_text, sent_acts, sent_in, writes}
 use Rattle.of_live.specs.Working.{Goes, Hears, Passes, Settles, LiveWork, asks_of, after_closing, is_closing, after_hearing, logged, offered_acts, offered_to, offers, logged_text}
 use Rattle.of_live.proofs.Passing.{records_as, records_more}
 

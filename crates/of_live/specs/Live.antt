@@ -1,6 +1,5 @@
--- A SWITCH ON A NETWORK: what it holds, and what comes to it. Port N is VXLAN network N (RFC 7348).
-use Rattle.std.specs.Prelude.{ℕ, ◌==◌, ◌&&◌, ◌||◌, not, map, Bool, true, false, List, [], ◌∷◌, ◌++◌, Option, Some, None, Result, Ok, Err, if◌then◌else◌}
-use Rattle.std.specs.List.{find, list_any}
+-- A SWITCH ON A NETWORK: what it holds, and the events of what comes to it. Port N is VXLAN network N (RFC 7348).
+use Rattle.std.specs.Prelude.{ℕ, ◌&&◌, ◌||◌, not, Bool, true, false, List, [], ◌∷◌, ◌++◌, Option, Some, None, Result, Ok, Err, if◌then◌else◌}
 use Rattle.of_vxlan.specs.Header.{Encapsulated, carried}
 use Rattle.of_session.specs.Session.{is_disconnected}
 use Rattle.of_ports.specs.Ports.{has_port}
@@ -9,10 +8,12 @@ use Rattle.of_switch.specs.declared.event.Event.TheVariants.{Connect, Lost, Chun
 use Rattle.of_switch.specs.State.{State}
 use Rattle.of_switch.specs.Steps.{lost}
 use Rattle.of_serve.specs.Turns.{due, left}
-use Rattle.of_live.specs.declared.network.Endpoint.{Endpoint}
-use Rattle.of_live.specs.declared.network.Dropped.{Dropped}
-use Rattle.of_live.specs.declared.network.Dropped.TheVariants as dropped
-use Rattle.of_live.specs.declared.peers.Peer.{Peer}
+use Rattle.of_network.specs.declared.network.Endpoint.{Endpoint}
+use Rattle.of_network.specs.declared.network.Dropped.{Dropped}
+use Rattle.of_network.specs.declared.network.Dropped.TheVariants as dropped
+use Rattle.of_network.specs.declared.peers.Peer.{Peer}
+use Rattle.of_network.specs.Inputs.{Came, Time, Datagram, Opened, Heard, Ended, Row, is_opened}
+use Rattle.of_network.specs.Peers.{peer_of, may_be_from, heard_from}
 
 pub record Live : Type 0 where
   pub state : State
@@ -28,45 +29,6 @@ pub record Live : Type 0 where
   pub time : ℕ
   -- the switch closed the connection, which is lost when the next input comes
   pub over : Bool
-
--- WHAT COMES: what the network tells at one time
-pub data Came : Type 0 where
-  -- what the clock says, in nanoseconds
-  Time : (now : ℕ) → Came
-  -- a datagram, and where its sender receives
-  Datagram : (from : Endpoint) → (bytes : List ℕ) → Came
-  -- a controller connected, instead of the one before it
-  Opened : Came
-  -- bytes of the controller
-  Heard : (bytes : List ℕ) → Came
-  -- the end of its stream, or a read that failed
-  Ended : Came
-  -- its connection takes bytes again
-  Ready : Came
-  -- a row that somebody writes while the switch runs
-  Row : (event : Event) → Came
-  Nothing : Came
-  -- the network failed
-  Fault : Came
-
--- WHERE THE FRAMES OF A PORT GO
-
-abbrev pub peer_of : ℕ → List Peer → Option Peer
-peer_of number peers = find (λ p. p.port == number) peers
-
--- whether a datagram from there may be a frame of this port: any may, unless another address was set
-abbrev pub may_be_from : Endpoint → Option Peer → Bool
-may_be_from from None = true
-may_be_from from (Some p) = not p.is_set || p.endpoint.address == from.address
-
--- to where its last datagram came from, unless that was set
-abbrev pub peer_moved : ℕ → Endpoint → Peer → Peer
-peer_moved number from p = if p.port == number && not p.is_set then record p { endpoint = from } else p
-
-abbrev pub heard_from : ℕ → Endpoint → List Peer → List Peer
-heard_from number from peers = if list_any (λ p. p.port == number) peers
-    then map (peer_moved number from) peers
-    else peers ++ record { port = number; endpoint = from; is_set = false } ∷ []
 
 -- A DATAGRAM is a frame of the port of its network, or it is dropped
 abbrev pub received_datagram : Live → Endpoint → Option Encapsulated → Result Encapsulated Dropped
@@ -87,10 +49,6 @@ peers_after from (Err why) peers = peers
 
 abbrev pub is_connected : Live → Bool
 is_connected l = not (is_disconnected l.state.connection.phase)
-
-abbrev pub is_opened : Came → Bool
-is_opened Opened = true
-is_opened other = false
 
 -- first the loss of a connection that the switch closed, or in whose place another comes
 abbrev pub is_lost_first : Came → Live → Bool

@@ -4,7 +4,8 @@ use Rattle.std.specs.List.{flat_map}
 use Rattle.of_datapath.specs.declared.effect.Effect.{Effect}
 use Rattle.of_switch.specs.declared.event.Event.{Event}
 use Rattle.of_live.specs.Live.{Live, events_of}
-use Rattle.of_live.specs.Turns.{Act, Told, Drops, Logs, Sends, Writes, Closes, LiveTurns, None, Then, live_effects, after_live_turns}
+use Rattle.of_network.specs.Acts.{Act, Told, Drops, Logs, Sends, Writes, Closes}
+use Rattle.of_live.specs.Turns.{LiveTurns, None, Then, live_effects, after_live_turns}
 
 -- all events of turns, in order
 abbrev pub events : Live → LiveTurns → List Event

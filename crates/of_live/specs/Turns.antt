@@ -10,32 +10,13 @@ use Rattle.of_switch.specs.State.{State}
 use Rattle.of_switch.specs.Runs.{Run, run, effects_in}
 use Rattle.of_serve.specs.Turns.{answer_in}
 use Rattle.of_laws.specs.RowText.{file_text}
-use Rattle.of_live.specs.declared.network.Endpoint.{Endpoint}
-use Rattle.of_live.specs.declared.network.Dropped.{Dropped}
-use Rattle.of_live.specs.declared.network.Dropped.TheVariants as dropped
-use Rattle.of_live.specs.declared.peers.Peer.{Peer}
-use Rattle.of_live.specs.Live.{Live, Came, Datagram, Opened, Ended, Ready, Fault, peer_of, received_datagram, is_connected, begun, coming_events, events_of, rows_after, peers_of, time_of}
-
--- WHAT PASSES between the switch and the network, in order
-pub data Act : Type 0 where
-  -- the network told this
-  Told : (came : Came) → Act
-  -- a datagram, or a frame that should leave, was dropped
-  Drops : (why : Dropped) → Act
-  -- these rows were to be written to the log, and were or were not
-  Logs : (rows : List ℕ) → (whole : Bool) → Act
-  -- a datagram was sent
-  Sends : (to : Endpoint) → (datagram : List ℕ) → Act
-  -- the connection was offered these bytes, took the first of them, and failed or did not
-  Writes : (bytes : List ℕ) → (taken : ℕ) → (failed : Bool) → Act
-  -- the connection was closed
-  Closes : Act
-
--- then this passed, as far as it is known what did: whoever records it may stop, and not begin again
-abbrev pub Records : (old : Option (List Act)) → List Act → (new : Option (List Act)) → Type 0
-Records Nobody passed new = new ≡ Nobody
-Records (Some before) passed Nobody = Unit {0}
-Records (Some before) passed (Some all) = all ≡ before ++ passed
+use Rattle.of_network.specs.declared.network.Dropped.{Dropped}
+use Rattle.of_network.specs.declared.network.Dropped.TheVariants as dropped
+use Rattle.of_network.specs.declared.peers.Peer.{Peer}
+use Rattle.of_network.specs.Inputs.{Came, Datagram, Opened, Ended, is_fault, is_ready}
+use Rattle.of_network.specs.Acts.{Act, Told, Drops, Logs, Sends, Writes, Closes}
+use Rattle.of_network.specs.Peers.{peer_of}
+use Rattle.of_live.specs.Live.{Live, received_datagram, is_connected, begun, coming_events, events_of, rows_after, peers_of, time_of}
 
 -- A TURN: what came, and how a write to the connection, if there was one, ended
 pub record LiveTurn : Type 0 where
@@ -96,10 +77,6 @@ has_no_bytes bytes = length bytes == 0
 
 abbrev pub has_connection : Came → Live → Bool
 has_connection came l = may_write came (begun came l)
-
-abbrev pub is_ready : Came → Bool
-is_ready Ready = true
-is_ready other = false
 
 abbrev pub waiting_bytes : Came → Live → List ℕ
 waiting_bytes came l = (begun came l).waiting
@@ -173,10 +150,6 @@ after_live_turns l (Then ts t) = after_live_turn t (after_live_turns l ts)
 abbrev pub passed : Bool → Live → LiveTurns → List Act
 passed keeps l None = []
 passed keeps l (Then ts t) = passed keeps l ts ++ turn_acts keeps t (after_live_turns l ts)
-
-abbrev pub is_fault : Came → Bool
-is_fault Fault = true
-is_fault other = false
 
 -- the network did not fail, and a write takes no more than it is offered
 abbrev pub IsLiveTurn : LiveTurn → Live → Type 0

@@ -6,8 +6,10 @@ use Rattle.of_switch.specs.declared.event.Event.{Event}
 use Rattle.of_switch.specs.State.{State}
 use Rattle.of_switch.specs.Runs.{Report, run, effects_in}
 use Rattle.of_live.specs.declared.state.Asks.{Asks}
-use Rattle.of_live.specs.Live.{Live, Came, Fault, is_connected, begun, events_of, rows_after, peers_of, time_of}
-use Rattle.of_live.specs.Turns.{Act, Records, Told, Logs, Writes, LiveTurn, IsLiveTurn, turn_acts, after_live_turn, closes, drops, live_effects, has_no_bytes, is_ready, is_stuck, may_write, offered, ran, results, rows_text}
+use Rattle.of_network.specs.Inputs.{Came, Fault, is_ready}
+use Rattle.of_live.specs.Live.{Live, is_connected, begun, events_of, rows_after, peers_of, time_of}
+use Rattle.of_network.specs.Acts.{Act, Records, Told, Logs, Writes}
+use Rattle.of_live.specs.Turns.{LiveTurn, IsLiveTurn, turn_acts, after_live_turn, closes, drops, live_effects, has_no_bytes, is_stuck, may_write, offered, ran, results, rows_text}
 
 -- what events gave, and their rows
 pub record LiveWork : Type 0 where

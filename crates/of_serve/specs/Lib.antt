@@ -2,8 +2,4 @@ pub mod Told
 pub mod Turns
 pub mod Serves
 pub mod Gathering
-pub mod FileRows
 pub mod Connections
-pub mod Pauses
-pub mod Calls
-pub mod Refusals

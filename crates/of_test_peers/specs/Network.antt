@@ -4,8 +4,8 @@ use Rattle.of_switch.specs.declared.event.Event.TheVariants.{Ports}
 use Rattle.of_test_peers.specs.declared.network.Passed.{Passed}
 use Rattle.of_test_peers.specs.declared.network.Passed.TheVariants as passed
 use Rattle.of_test_peers.specs.declared.network.MemoryNetwork.{MemoryNetwork}
-use Rattle.of_live.specs.Live.{Came, Time, Datagram, Opened, Heard, Ended, Ready, Row, Nothing, Fault}
-use Rattle.of_live.specs.Turns.{Act, Told, Drops, Logs, Sends, Writes, Closes}
+use Rattle.of_network.specs.Inputs.{Came, Time, Datagram, Opened, Heard, Ended, Ready, Row, Nothing, Fault}
+use Rattle.of_network.specs.Acts.{Act, Told, Drops, Logs, Sends, Writes, Closes}
 
 abbrev pub act_of : Passed → Act
 act_of (passed.Time now) = Told (Time now)

@@ -1,10 +1,10 @@
 //! A network in memory, which tells what its script says and records what passes.
 ghost use Rattle.std.specs.Prelude.{◌≡◌, ◌≤◌, ◌∷◌, ◌++◌, [], length, take, Some, IfOk, IsTrue};
 ghost use Rattle.of_test_peers.specs.Network.{act_of, passed_acts};
-ghost use Rattle.of_live.specs.Live.{Datagram, Fault, Heard};
-ghost use Rattle.of_live.specs.Turns.{Act, Logs, Records, Sends, Told, Writes};
+ghost use Rattle.of_network.specs.Inputs.{Datagram, Fault, Heard};
+ghost use Rattle.of_network.specs.Acts.{Act, Logs, Records, Sends, Told, Writes};
 
-use of_live::{Dropped, Endpoint, Input, Network, Written};
+use of_network::{Dropped, Endpoint, Input, Network, Written};
 use of_switch::{Event, PortChange};
 use of_wire::Bytes;
 use std::alloc::{AllocError, Global};

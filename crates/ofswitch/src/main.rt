@@ -26,6 +26,7 @@ use hinting::{Seen, Watched, bytes_of, say_hint, say_refusal, say_unread};
 use importing::{NotImported, imported, imported_as_json, read_whole};
 use live::live_rows;
 use of_asking::Answering;
+use of_calls::{ended_unopened, read_rows};
 use of_check::{check_events, check_file};
 use of_classifier::Scan;
 use of_command_line::{
@@ -38,7 +39,6 @@ use of_import::Mode;
 use of_paths_report::PathsVerdict;
 use of_replay::streams::{ReaderSource, WriterSink};
 use of_replay::{Ended, Plain, RowPrinter, Sink, Source, asm, dis, print_file, status};
-use of_serve::{ended_unopened, read_rows};
 use of_switch::Event;
 use of_text::TextFault;
 use parts::print_part;

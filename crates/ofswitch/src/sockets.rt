@@ -1,12 +1,10 @@
 //! Controllers over TCP, and the machine's clock.
 ghost use Rattle.std.specs.Prelude.{◌≡◌, ◌≢◌, ◌≤◌, None as NotTold, IfOk};
 
+use of_calls::{Ending, Pauses, Refusals, RefusedRow, ending_of, is_nobody, read_some, write_some};
 use of_command_line::Meeting;
 use of_replay::{Reading, Writing};
-use of_serve::{
-    Accepted, Clock, Ending, Pauses, Peers, Refusals, RefusedRow, ending_of, is_nobody, read_some,
-    write_some,
-};
+use of_serve::{Accepted, Clock, Peers};
 use std::net::{SocketAddr, TcpListener, TcpStream};
 use std::time::{Duration, Instant};
 use std::{io, thread};

@@ -1,12 +1,12 @@
 //! One controller at a time, over TCP, without waiting for it.
 ghost use Rattle.std.specs.Prelude.{◌≡◌, ◌<◌, ◌≤◌, length, IfSome};
-ghost use Rattle.of_live.specs.Inputs.{IsInput};
+ghost use Rattle.of_network.specs.Inputs.{IsInput};
 
 use mio::net::{TcpListener, TcpStream};
 use mio::{Interest, Registry, Token};
+use of_calls::{Ending, Pauses, is_nobody, write_some};
 use of_command_line::Meeting;
-use of_live::{Input, Written};
-use of_serve::{Ending, Pauses, is_nobody, write_some};
+use of_network::{Input, Written};
 use std::io::{self, ErrorKind, Read};
 use std::net::SocketAddr;
 

@@ -5,7 +5,7 @@ use super::log::write_rows;
 use super::outside::Outside;
 use super::port_rows::PortRows;
 use of_command_line::Live as Asked;
-use of_live::{Dropped, Endpoint, Input, Network, Written};
+use of_network::{Dropped, Endpoint, Input, Network, Written};
 use std::fs::File;
 use std::io;
 

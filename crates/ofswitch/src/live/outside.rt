@@ -1,6 +1,6 @@
 //! Sockets by turns: datagrams, a controller and the machine's clock.
 ghost use Rattle.std.specs.Prelude.{◌≡◌, ◌<◌, ◌≤◌, length, IfSome};
-ghost use Rattle.of_live.specs.Inputs.{IsInput};
+ghost use Rattle.of_network.specs.Inputs.{IsInput};
 
 use super::controller::{CONNECTION, Controller, DOOR};
 use super::network::Unopened;
@@ -9,7 +9,7 @@ use super::standard_rows::{Given, ROWS, StandardRows};
 use super::tunnel::Tunnel;
 use mio::{Events, Interest, Poll, Token};
 use of_command_line::Live as Asked;
-use of_live::{Dropped, Endpoint, Input, Written};
+use of_network::{Dropped, Endpoint, Input, Written};
 use of_switch::Event;
 use std::alloc::Global;
 use std::io;

@@ -1,7 +1,7 @@
 //! Rows of ports that the switch refuses.
 use crate::hinting::bytes_of;
 use crate::lookups::Lookups;
-use of_serve::{later_of, refusal_of, row_numbers};
+use of_calls::{later_of, refusal_of, row_numbers};
 use of_switch::{Event, PortChange, Switch};
 use std::alloc::AllocError;
 

@@ -1,7 +1,7 @@
 use Rattle.std.proofs.Common.{◌≡◌, ◌∙◌, ap, sym, Ok, Err}
 use Rattle.of_replay.specs.declared.halt.Halt.TheVariants.{Memory, Write}
 use Rattle.of_live.specs.Live.{Live}
-use Rattle.of_live.specs.Inputs.{came_of}
+use Rattle.of_network.specs.Inputs.{came_of}
 use Rattle.of_live.specs.Working.{Passes}
 use Rattle.of_live.proofs.Turning.{passes_on, no_log, no_memory}
 use Rattle.of_live.proofs.state.Live.pass.Goals as goal

@@ -1,0 +1,4 @@
+pub mod FileRows
+pub mod Pauses
+pub mod Calls
+pub mod Refusals

@@ -1,0 +1,4 @@
+pub mod Inputs
+pub mod Acts
+pub mod Peers
+pub mod RunningRows
