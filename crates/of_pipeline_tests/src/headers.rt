@@ -85,17 +85,20 @@ fn fields(rt: HostRuntime) -> Result<(), Fail> {
 }
 
 #[test]
-fn cut_frames(rt: HostRuntime) {
+fn cut_tag(rt: HostRuntime) {
     let frame = b"\x02\0\0\0\0\x02\x02\0\0\0\0\x01\x81\0\xa0\x05";
     let headers = read_inside(frame, 1, 0).expect(&rt, "a frame");
-    let key = headers.key();
-    let found = (headers.layout.tags, key.numbers.eth_type);
+    let found = (headers.layout.tags, headers.key().numbers.eth_type);
     same(&rt, "no tag, and the type of one", &found, &(0, 0x8100));
-    let beside = (key.get(Field::InPort), key.get(Field::Metadata));
-    same(&rt, "its port and metadata", &beside, &(Some(1), Some(0)));
-    let short = &frame[..13];
-    let read_so = matches!(read(short, 1, 0), Err(FrameFault::Short));
-    let checked_so = matches!(check_length(short), Err(FrameFault::Short));
+    let metadata = headers.key().get(Field::Metadata);
+    same(&rt, "its metadata", &metadata, &Some(0));
+}
+
+#[test]
+fn short_frame(rt: HostRuntime) {
+    let frame = b"\x02\0\0\0\0\x02\x02\0\0\0\0\x01\x81";
+    let read_so = matches!(read(frame, 1, 0), Err(FrameFault::Short));
+    let checked_so = matches!(check_length(frame), Err(FrameFault::Short));
     same(&rt, "13 bytes", &(read_so, checked_so), &(true, true));
 }
 

@@ -11,8 +11,8 @@ use crate::lists::{action_list, list_of};
 use of_actions::{Action, ActionList, Instruction, InstructionList};
 use of_headers::FieldKey;
 use of_machine::{
-    Chosen, Item, NoLog, Outcome, Packet, PacketFrame, PacketInReason, Step, Steps, ToController,
-    World, run, run_actions,
+    Chosen, Count, Item, NoLog, Outcome, Packet, PacketFrame, PacketInReason, Step, Steps,
+    ToController, World, run, run_actions,
 };
 use of_oxm::Match;
 use of_ports::Port;
@@ -187,13 +187,16 @@ fn is_wanted(rt: &impl Abort, what: &str, item: &Item, wanted: &Wanted) {
     }
 }
 
-fn are_wanted(rt: &impl Abort, row: &Row, outcome: &Outcome) {
-    same(rt, row.what, &outcome.items.len(), &row.items.len());
-    for (item, wanted) in outcome.items.iter().zip(row.items) {
+fn are_wanted(rt: &impl Abort, row: &Row, items: &[Item]) {
+    same(rt, row.what, &items.len(), &row.items.len());
+    for (item, wanted) in items.iter().zip(row.items) {
         is_wanted(rt, row.what, item, wanted);
     }
+}
+
+fn are_counted(rt: &impl Abort, row: &Row, counts: &[Count]) {
     if let Some(wanted) = row.counts {
-        same(rt, row.what, &outcome.counts.as_slice(), &wanted);
+        same(rt, row.what, &counts, &wanted);
     }
 }
 
@@ -214,7 +217,8 @@ fn outcome_of(
 
 fn play_in(rt: &impl Abort, alloc: Global, world: &mut OneEntry, row: &Row) -> Result<(), Fail> {
     let outcome = outcome_of(rt, alloc, world, row)?;
-    are_wanted(rt, row, &outcome);
+    are_wanted(rt, row, outcome.items.as_slice());
+    are_counted(rt, row, outcome.counts.as_slice());
     Ok(())
 }
 
