@@ -1,5 +1,6 @@
+use crate::checks::same;
 use crate::counting::Counting;
-use crate::steps::{Entry, Frame, Step, add, key_of, match_of, play, same};
+use crate::steps::{Entry, Frame, Step, add, key_of, match_of, play};
 use of_cache::{Cached, Row};
 use of_classifier::Lookup;
 use of_mask_groups::MaskGroups;
@@ -10,20 +11,14 @@ use std::test::Fail;
 
 mod rows;
 
-/// The bit of IN_PORT in what a mask looks at.
-const IN_PORT: u32 = 1;
-
 /// What is done with a cache, or seen of it.
 enum CacheStep {
     /// What is done with any classifier.
     Does(Step),
     /// Adds an entry, and once more where there was no memory, which leaves the rows.
     AddAgain(Entry),
-    /// The rows look at the ingress port alone, and are of these ports, in this order; all answer the entry of that place.
-    Keeps(&'static [u32], Option<usize>),
-    /// The one row looks at no field, and answers that no entry wins.
-    EveryKey,
-    RowCount(usize),
+    /// The rows look at these fields alone, and are of these ports, in this order; all answer the entry of that place.
+    Keeps(u32, &'static [u32], Option<usize>),
     /// How often the classifier below was asked which entry wins.
     Asked(u64),
 }
@@ -35,25 +30,37 @@ fn row_count<L: Lookup>(alloc: Global, cache: &Cached<L>) -> Result<usize, Fail>
     Ok(cache.rows(alloc)?.len())
 }
 
-/// Asserts which fields a row looks at, and what it answers.
-fn is_row(rt: &impl Abort, what: &str, row: &Row, fields: u32, answer: Option<usize>) {
-    same(rt, what, &row.region.mask.masks.numbers.present, &fields);
-    same(rt, what, &row.answer, &answer);
+/// Asserts which fields a row looks at, of which port it is, and what it answers.
+fn is_row(
+    rt: &impl Abort,
+    what: &str,
+    row: &Row,
+    (fields, port): (u32, u32),
+    answer: Option<usize>,
+) {
+    let Row {
+        region,
+        answer: found,
+    } = row;
+    let looks_at = (
+        region.mask.masks.numbers.present,
+        region.key.numbers.in_port,
+    );
+    same(rt, what, &looks_at, &(fields, port));
+    same(rt, what, found, &answer);
 }
 
-/// Asserts that rows look at the ingress port alone, and are of these ports, in this order.
-fn are_of_ports(rt: &impl Abort, what: &str, rows: &[Row], ports: &[u32], answer: Option<usize>) {
+/// Asserts that rows look at these fields alone, and are of these ports, in this order.
+fn are_rows(
+    rt: &impl Abort,
+    what: &str,
+    rows: &[Row],
+    (fields, ports): (u32, &[u32]),
+    answer: Option<usize>,
+) {
     same(rt, what, &rows.len(), &ports.len());
     for (row, port) in rows.iter().zip(ports) {
-        is_row(rt, what, row, IN_PORT, answer);
-        same(rt, what, &row.region.key.numbers.in_port, port);
-    }
-}
-
-fn is_of_every_key(rt: &impl Abort, what: &str, rows: &[Row]) {
-    same(rt, what, &rows.len(), &1);
-    for row in rows {
-        is_row(rt, what, row, 0, None);
+        is_row(rt, what, row, (fields, *port), answer);
     }
 }
 
@@ -86,20 +93,10 @@ fn keeps<L: Lookup>(
     alloc: Global,
     cache: &Cached<L>,
     what: &str,
-    ports: &[u32],
+    looks_at: (u32, &[u32]),
     answer: Option<usize>,
 ) -> Result<(), Fail> {
-    are_of_ports(rt, what, &cache.rows(alloc)?, ports, answer);
-    Ok(())
-}
-
-fn keeps_every_key<L: Lookup>(
-    rt: &impl Abort,
-    alloc: Global,
-    cache: &Cached<L>,
-    what: &str,
-) -> Result<(), Fail> {
-    is_of_every_key(rt, what, &cache.rows(alloc)?);
+    are_rows(rt, what, &cache.rows(alloc)?, looks_at, answer);
     Ok(())
 }
 
@@ -115,13 +112,9 @@ fn play_one<L: Lookup>(
     match step {
         CacheStep::Does(step) => play(rt, alloc, cache, numbers, what, step),
         CacheStep::AddAgain(entry) => Ok(numbers.push(add_again(rt, alloc, cache, entry)?)?),
-        CacheStep::Keeps(ports, place) => {
-            keeps(rt, alloc, cache, what, ports, number_of(numbers, *place))
-        }
-        CacheStep::EveryKey => keeps_every_key(rt, alloc, cache, what),
-        CacheStep::RowCount(count) => {
-            same(rt, what, &row_count(alloc, cache)?, count);
-            Ok(())
+        CacheStep::Keeps(fields, ports, place) => {
+            let answer = number_of(numbers, *place);
+            keeps(rt, alloc, cache, what, (*fields, *ports), answer)
         }
         CacheStep::Asked(count) => {
             same(rt, what, &asked.get(), count);
@@ -194,7 +187,15 @@ fn full<L: Lookup>(rt: &impl Abort, alloc: Global, cache: &mut Cached<L>) -> Res
     for port in 1..=1025 {
         look_up(cache, port)?;
     }
-    keeps(rt, alloc, cache, "the last ones", &last_ports(alloc)?, None)
+    let ports = last_ports(alloc)?;
+    keeps(
+        rt,
+        alloc,
+        cache,
+        "the last ones",
+        (rows::IN_PORT, ports.as_slice()),
+        None,
+    )
 }
 
 #[test]

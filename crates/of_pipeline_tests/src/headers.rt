@@ -17,35 +17,14 @@ fn frame_of(alloc: Global, words: &str) -> Result<Vec<u8>, Fail> {
     bytes_of(alloc, format!(in alloc; "{ENDS} {words}")?.as_str())
 }
 
-/// Asserts which fields a frame of these bytes has that came in at a port with metadata.
-fn has(
-    rt: &impl Abort,
-    alloc: Global,
-    (port, metadata): (u32, u64),
-    bytes: &str,
-    wanted: &str,
-) -> Result<(), Fail> {
-    let frame = frame_of(alloc, bytes)?;
-    let key = read(&frame, port, metadata).expect(rt, "a frame").key();
-    says(rt, alloc, bytes, &key, wanted)
-}
-
 /// Asserts which fields a frame of these bytes has beside the port, the metadata and its addresses.
 fn has_beside(rt: &impl Abort, alloc: Global, (bytes, fields): (&str, &str)) -> Result<(), Fail> {
+    let frame = frame_of(alloc, bytes)?;
+    let key = read(&frame, 7, 9).expect(rt, "a frame").key();
     let wanted = format!(in alloc;
         "InPort=7 Metadata=9 EthDst=20000000002 EthSrc=20000000001 {fields}"
     )?;
-    has(rt, alloc, (7, 9), bytes, wanted.as_str())
-}
-
-/// Asserts that of each row.
-fn have(rt: &impl Abort, alloc: Global, text: &str) -> Result<(), Fail> {
-    for line in text.lines() {
-        if let Some(row) = sides(line)? {
-            has_beside(rt, alloc, row)?;
-        }
-    }
-    Ok(())
+    says(rt, alloc, bytes, &key, wanted.as_str())
 }
 
 fn add_place(alloc: Global, text: &mut String, field: Field, place: Place) -> Result<(), Fail> {
@@ -66,23 +45,23 @@ fn places_of(alloc: Global, headers: &Headers) -> Result<String, Fail> {
     Ok(text)
 }
 
-fn places_in(rt: &impl Abort, alloc: Global, words: &str) -> Result<String, Fail> {
-    let frame = frame_of(alloc, words)?;
-    places_of(alloc, &read(&frame, 7, 9).expect(rt, "a frame"))
-}
-
 /// Asserts where the fields of a frame of these bytes stand.
 fn stands(rt: &impl Abort, alloc: Global, (bytes, places): (&str, &str)) -> Result<(), Fail> {
-    let found = places_in(rt, alloc, bytes)?;
-    same(rt, bytes, &found.as_str(), &places);
+    let frame = frame_of(alloc, bytes)?;
+    let headers = read(&frame, 7, 9).expect(rt, "a frame");
+    same(rt, bytes, &places_of(alloc, &headers)?.as_str(), &places);
     Ok(())
 }
 
-/// Asserts that of each row.
-fn stand(rt: &impl Abort, alloc: Global, text: &str) -> Result<(), Fail> {
+/// Asserts of each row which fields its frame has, or where they stand.
+fn hold(rt: &impl Abort, alloc: Global, text: &str, are_places: bool) -> Result<(), Fail> {
     for line in text.lines() {
         if let Some(row) = sides(line)? {
-            stands(rt, alloc, row)?;
+            if are_places {
+                stands(rt, alloc, row)?;
+            } else {
+                has_beside(rt, alloc, row)?;
+            }
         }
     }
     Ok(())
@@ -100,20 +79,9 @@ const FIELDS: &[&str] = &[
 #[test]
 fn fields(rt: HostRuntime) -> Result<(), Fail> {
     for text in FIELDS {
-        have(&rt, rt.alloc(), text)?;
+        hold(&rt, rt.alloc(), text, false)?;
     }
-    stand(&rt, rt.alloc(), rows::PLACES)
-}
-
-#[test]
-fn tagged_frame(rt: HostRuntime) -> Result<(), Fail> {
-    has(
-        &rt,
-        rt.alloc(),
-        (1, 0),
-        "8100a005 88b5",
-        "InPort=1 Metadata=0 EthDst=20000000002 EthSrc=20000000001 EthType=88b5 VlanVid=1005 VlanPcp=5",
-    )
+    hold(&rt, rt.alloc(), rows::PLACES, true)
 }
 
 #[test]
@@ -122,6 +90,8 @@ fn cut_tag(rt: HostRuntime) {
     let headers = read_inside(frame, 1, 0).expect(&rt, "a frame");
     let found = (headers.layout.tags, headers.key().numbers.eth_type);
     same(&rt, "no tag, and the type of one", &found, &(0, 0x8100));
+    let metadata = headers.key().get(Field::Metadata);
+    same(&rt, "its metadata", &metadata, &Some(0));
 }
 
 #[test]

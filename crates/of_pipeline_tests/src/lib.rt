@@ -15,6 +15,8 @@ mod headers;
 #[cfg(test)]
 mod keys;
 #[cfg(test)]
+mod lists;
+#[cfg(test)]
 mod machine;
 #[cfg(test)]
 mod mask_groups;

@@ -7,13 +7,14 @@ ghost use Rattle.of_actions.specs.Rising.{is_ascending};
 mod rows;
 
 use crate::checks::same;
+use crate::lists::{action_list, list_of};
 use of_actions::{Action, ActionList, Instruction, InstructionList};
 use of_headers::FieldKey;
 use of_machine::{
     Chosen, Count, Item, NoLog, Outcome, Packet, PacketFrame, PacketInReason, Step, Steps,
     ToController, World, run, run_actions,
 };
-use of_oxm::{Match, read_match};
+use of_oxm::Match;
 use of_ports::Port;
 use of_table::{Flow, FlowFlags};
 use rows::{Kind, ROWS, Row, TO_THREE, TO_TWO, Wanted, Way};
@@ -87,29 +88,16 @@ const NO_FLAGS: FlowFlags = FlowFlags {
     no_byte_counts: false,
 };
 
-// The match of all packets.
-fn all_packets(alloc: Global) -> Result<Match, Fail> {
-    let (fields, _) = read_match(alloc, &[0, 1, 0, 4, 0, 0, 0, 0])
-        .ok()
-        .ok_or("an empty match")?;
-    Ok(fields)
-}
-
-fn list(alloc: Global, actions: &[Action]) -> Result<ActionList, Fail> {
-    Ok(ActionList::new(actions.to_vec(alloc)?).ok_or("the actions are served")?)
-}
-
 // The instruction of a row, as the list of a flow of table 0.
 fn instructions(alloc: Global, row: &Row) -> Result<InstructionList, Fail>
     ensures { IfOk result (λ list. IsTrue (are_for 0 list)) }
 {
-    let actions = list(alloc, row.actions)?;
-    let mut instructions = Vec::new(alloc);
-    instructions.push(match row.kind {
+    let actions = action_list(alloc, row.actions)?;
+    let instruction = match row.kind {
         Kind::Apply => Instruction::Apply(actions),
         Kind::Write => Instruction::Write(actions),
-    })?;
-    let list = InstructionList::new(instructions).ok_or("one instruction is a list")?;
+    };
+    let list = list_of(alloc, instruction)?;
     if !list.are_for(0) {
         return Err("of table 0".into());
     }
@@ -120,7 +108,7 @@ fn instructions(alloc: Global, row: &Row) -> Result<InstructionList, Fail>
 fn world(alloc: Global, row: &Row) -> Result<OneEntry, Fail> {
     let instructions = instructions(alloc, row)?;
     let flow = Flow {
-        fields: all_packets(alloc)?,
+        fields: Match::of_all(alloc),
         priority: row.priority,
         cookie: 7,
         idle_timeout: 0,
@@ -170,12 +158,6 @@ fn packet_out(
     Ok(outcome)
 }
 
-// Asserts that a packet came from port 1, and went to the controller by the entry of a row.
-fn came_by_entry(rt: &impl Abort, what: &str, told: &ToController) {
-    let from = (told.table, told.cookie, told.ingress, told.metadata);
-    same(rt, what, &from, &(0, 7, 1, 0));
-}
-
 fn was_sent(rt: &impl Abort, what: &str, by: u32, frame: &[u8], wanted: &Wanted) {
     match wanted {
         Wanted::Sent { port, bytes } => same(rt, what, &(by, frame), &(*port, *bytes)),
@@ -183,8 +165,10 @@ fn was_sent(rt: &impl Abort, what: &str, by: u32, frame: &[u8], wanted: &Wanted)
     }
 }
 
+// It came by port 1, and went to the controller by the entry of a row.
 fn was_told(rt: &impl Abort, what: &str, told: &ToController, wanted: &Wanted) {
-    came_by_entry(rt, what, told);
+    let from = (told.table, told.cookie, told.ingress, told.metadata);
+    same(rt, what, &from, &(0, 7, 1, 0));
     let found = (told.reason, told.max_len, told.frame.as_slice());
     match wanted {
         Wanted::Told {
@@ -222,11 +206,11 @@ fn outcome_of(
     world: &mut OneEntry,
     row: &Row,
 ) -> Result<Outcome, Fail> {
-    match row.way {
+    match &row.way {
         Way::Logged(steps) => logged(rt, alloc, world, row, steps),
         Way::Unlogged => Ok(run(alloc, world, packet(rt, row.frame), &mut NoLog)?),
         Way::PacketOut { actions, steps } => {
-            packet_out(rt, alloc, world, row, &list(alloc, actions)?, steps)
+            packet_out(rt, alloc, world, row, &action_list(alloc, actions)?, steps)
         }
     }
 }

@@ -1,4 +1,5 @@
-use crate::steps::{Frame, Row, Step, key_of, names, play, same};
+use crate::checks::same;
+use crate::steps::{Frame, Row, Step, key_of, names, play};
 use of_classifier::Lookup;
 use of_headers::{Mixer, read};
 use of_mask_groups::MaskGroups;
@@ -60,13 +61,11 @@ fn play_twice(rt: &impl Abort, alloc: Global, rows: &[Row]) -> Result<(), Fail> 
 }
 
 #[test]
-fn rows_of_find(rt: HostRuntime) -> Result<(), Fail> {
-    play_twice(&rt, rt.alloc(), rows::FIND)
-}
-
-#[test]
-fn ties_by_age(rt: HostRuntime) -> Result<(), Fail> {
-    play_twice(&rt, rt.alloc(), rows::AGES)
+fn winners_and_probes(rt: HostRuntime) -> Result<(), Fail> {
+    for rows in [rows::FIND, rows::AGES] {
+        play_twice(&rt, rt.alloc(), rows)?;
+    }
+    Ok(())
 }
 
 fn digest(in_port: u32, metadata: u64, seed: u64) -> Result<u64, Fail> {

@@ -152,7 +152,7 @@ fn asks(rt: &impl Abort, alloc: Global, row: &Asking) -> Result<(), Fail> {
     )
 }
 
-/// Asserts under which mask a match looks at a key, and what it wants to see there.
+/// Asserts under which mask a match looks at a key, what it wants to see there, and that it sees that in a key.
 fn is_asked(
     rt: &impl Abort,
     alloc: Global,
@@ -163,13 +163,8 @@ fn is_asked(
 ) -> Result<(), Fail> {
     says(rt, alloc, row.bytes, &mask.masks, row.mask)?;
     says(rt, alloc, row.bytes, asked, row.asked)?;
-    sees(rt, row, mask, asked, matched);
-    Ok(())
-}
-
-/// Asserts that a match sees in a key what it wants to see.
-fn sees(rt: &impl Abort, row: &Asking, mask: &FieldMask, asked: &FieldKey, matched: &FieldKey) {
     same(rt, row.bytes, &mask.masked(matched), asked);
+    Ok(())
 }
 
 #[test]

@@ -84,24 +84,30 @@ const LOANS: &[Row] = &[
     ),
 ];
 
-#[test]
-fn tags(rt: HostRuntime) -> Result<(), Fail> {
-    play_all(&rt, rt.alloc(), TAGGED, TAGS)
-}
+/// Frames, and what is done with each.
+const FRAMES: &[(&[u8], &[Row])] = &[
+    (TAGGED, TAGS),
+    (TAGGED, TAG_FIELDS),
+    (UNTAGGED, ABSENT),
+    (TAGGED, LOANS),
+    (ip::TCP, ip::OVER_IPV4),
+    (ip::TCP, ip::HOPS),
+    (ip::UDP, ip::CHECKED),
+    (ip::UNCHECKED_UDP, ip::UNCHECKED),
+    (ip::PING, ip::OVER_IPV6),
+    (ip::UDP_OVER_IPV6, ip::UDP_TO_PORTS),
+    (kept::PADDED, kept::KNOWN),
+    (kept::PADDED, kept::TAGS),
+    (kept::PADDED, kept::FIELDS),
+    (kept::PADDED, kept::LOAN),
+];
 
 #[test]
-fn tag_fields(rt: HostRuntime) -> Result<(), Fail> {
-    play_all(&rt, rt.alloc(), TAGGED, TAG_FIELDS)
-}
-
-#[test]
-fn absent(rt: HostRuntime) -> Result<(), Fail> {
-    play_all(&rt, rt.alloc(), UNTAGGED, ABSENT)
-}
-
-#[test]
-fn loans(rt: HostRuntime) -> Result<(), Fail> {
-    play_all(&rt, rt.alloc(), TAGGED, LOANS)
+fn frames_step_by_step(rt: HostRuntime) -> Result<(), Fail> {
+    for (bytes, rows) in FRAMES {
+        play_all(&rt, rt.alloc(), bytes, rows)?;
+    }
+    Ok(())
 }
 
 /// Puts a run of bytes, which stands behind its place, into a frame.

@@ -1,9 +1,9 @@
 //! What is done with a classifier, step by step, and what it answers.
+use crate::checks::same;
 use of_classifier::Lookup;
 use of_headers::{FieldKey, read};
 use of_oxm::{Match, read_match};
 use std::alloc::Global;
-use std::fmt::Debug;
 use std::process::Abort;
 use std::test::Fail;
 
@@ -49,10 +49,6 @@ pub(crate) enum Step {
 
 /// What a step does or shows, and the step.
 pub(crate) type Row = (&'static str, Step);
-
-pub(crate) fn same<T: PartialEq + Debug>(rt: &impl Abort, what: &str, found: &T, wanted: &T) {
-    assert_eq!(rt; *found, *wanted, "{what}");
-}
 
 pub(crate) fn key_of(frame: &Frame) -> Result<FieldKey, Fail> {
     let [high, low] = frame.ether_type.to_be_bytes();

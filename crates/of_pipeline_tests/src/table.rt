@@ -4,7 +4,8 @@ ghost use Rattle.of_actions.specs.InstructionLists.{are_for};
 mod scripts;
 
 use crate::checks::same;
-use of_actions::{Action, ActionList, Instruction, InstructionList, check_flow};
+use crate::lists::{action_list, list_of};
+use of_actions::{Action, Instruction, InstructionList, check_flow};
 use of_cache::Cached;
 use of_classifier::{Lookup, Scan};
 use of_headers::{FieldKey, read};
@@ -22,27 +23,18 @@ use std::test::Fail;
 /// How the running switch looks entries up.
 type Lookups = Cached<MaskGroups>;
 
+/// What is done to tables, and its name.
+type Script = (&'static str, &'static [Step]);
+
 fn key_of_port(in_port: u32) -> Result<FieldKey, Fail> {
     Ok(read(&[0; 14], in_port, 0).ok().ok_or("a frame")?.key())
 }
 
-fn list_of(alloc: Global, instruction: Instruction) -> Result<InstructionList, Fail> {
-    let mut instructions = Vec::new(alloc);
-    instructions.push(instruction)?;
-    Ok(InstructionList::new(instructions).ok_or("one instruction is a list")?)
-}
-
-fn actions_of(alloc: Global, action: Action) -> Result<ActionList, Fail> {
-    let mut actions = Vec::new(alloc);
-    actions.push(action)?;
-    Ok(ActionList::new(actions).ok_or("one action is a list")?)
-}
-
 fn instructions_of(alloc: Global, flow: &FlowRow) -> Result<InstructionList, Fail> {
     match flow.group {
-        None => Ok(InstructionList::new(Vec::new(alloc)).ok_or("no type stands twice")?),
+        None => Ok(InstructionList::none(alloc)),
         Some(group) => {
-            let actions = actions_of(alloc, Action::Group(group))?;
+            let actions = action_list(alloc, &[Action::Group(group)])?;
             list_of(alloc, Instruction::Write(actions))
         }
     }
@@ -63,17 +55,20 @@ fn flow_of(alloc: Global, row: &FlowRow) -> Result<Flow, Fail> {
 
 // Adds a flow whose instructions are fit and go with its match.
 fn add<L: Lookup>(
+    rt: &impl Abort,
+    place: &str,
     tables: &mut FlowTables<L>,
-    table: u8,
-    flow: Flow,
-) -> Result<Result<(), TableFault>, Fail> {
+    (table, flow): (u8, Flow),
+    wanted: &Result<(), TableFault>,
+) -> Result<(), Fail> {
     if !flow.instructions.are_for(table) {
-        return Err(Fail::from("GOTO_TABLE leads back"));
+        return Err("GOTO_TABLE leads back".into());
     }
     if check_flow(&flow.fields, flow.instructions.as_slice()).is_err() {
-        return Err(Fail::from("a field that is set may be absent"));
+        return Err("a field that is set may be absent".into());
     }
-    Ok(tables.add(table, flow))
+    same(rt, place, &tables.add(table, flow), wanted);
+    Ok(())
 }
 
 // All entries of port 1 in table 2 that send to a port.
@@ -89,23 +84,19 @@ fn which_of_port_one(alloc: Global, out_port: Option<u32>) -> Result<Selector, F
     })
 }
 
-fn cause_of(alloc: Global, gone: Gone) -> Result<Cause, Fail> {
+fn cause_of(alloc: Global, gone: &Gone) -> Result<Cause, Fail> {
     match gone {
-        Gone::Delete { out_port } => Ok(Cause::Delete(which_of_port_one(alloc, Some(out_port))?)),
-        Gone::Group(group) => Ok(Cause::Group(group)),
-        Gone::Moment(moment) => Ok(Cause::Moment(moment)),
+        Gone::Delete { out_port } => Ok(Cause::Delete(which_of_port_one(alloc, Some(*out_port))?)),
+        Gone::Group(group) => Ok(Cause::Group(*group)),
+        Gone::Moment(moment) => Ok(Cause::Moment(*moment)),
     }
 }
 
 fn output_to(alloc: Global, port: u32) -> Result<InstructionList, Fail>
     ensures { IfOk result (λ list. (k : ℕ) → are_for k list ≡ true) }
 {
-    let mut actions = Vec::new(alloc);
-    actions.push(Action::Output { port, max_len: 0 })?;
-    let actions = ActionList::new(actions).ok_or("one action is a list")?;
-    let mut instructions = Vec::new(alloc);
-    instructions.push(Instruction::Apply(actions))?;
-    Ok(InstructionList::new(instructions).ok_or("one instruction is a list")?)
+    let actions = action_list(alloc, &[Action::Output { port, max_len: 0 }])?;
+    list_of(alloc, Instruction::Apply(actions))
 }
 
 fn modify_to<L: Lookup>(
@@ -117,7 +108,7 @@ fn modify_to<L: Lookup>(
 {
     let which = which_of_port_one(alloc, None)?;
     if check_flow(&which.fields, outputs.as_slice()).is_err() {
-        return Err(Fail::from("an OUTPUT sets no field"));
+        return Err("an OUTPUT sets no field".into());
     }
     Ok(tables.modify(&which, outputs, true)?)
 }
@@ -150,17 +141,6 @@ fn hit<L: Lookup>(
     Ok(Some(cookie))
 }
 
-fn is_missed<L: Lookup>(
-    rt: &impl Abort,
-    tables: &mut FlowTables<L>,
-    table: u8,
-    in_port: u32,
-) -> Result<bool, Fail> {
-    assert!(rt; table < 16);
-    let key = key_of_port(in_port)?;
-    Ok(tables.lookup(table, &key).is_none())
-}
-
 fn peeked<L: Lookup>(
     rt: &impl Abort,
     tables: &FlowTables<L>,
@@ -186,7 +166,7 @@ fn entry_count<L: Lookup>(rt: &impl Abort, tables: &FlowTables<L>, table: u8) ->
     tables.entries(table).count()
 }
 
-fn is_entry(rt: &impl Abort, place: usize, entry: &Entry, wanted: &EntryRow) {
+fn is_entry(rt: &impl Abort, place: &str, entry: &Entry, wanted: &EntryRow) {
     let counts = (entry.packets, entry.bytes, entry.created, entry.last);
     same(
         rt,
@@ -200,7 +180,7 @@ fn is_entry(rt: &impl Abort, place: usize, entry: &Entry, wanted: &EntryRow) {
 
 fn are_entries<L: Lookup>(
     rt: &impl Abort,
-    place: usize,
+    place: &str,
     tables: &FlowTables<L>,
     table: u8,
     wanted: &[EntryRow],
@@ -216,7 +196,7 @@ fn are_entries<L: Lookup>(
     same(rt, place, &entries.next().is_none(), &true);
 }
 
-fn is_notice(rt: &impl Abort, place: usize, removed: &Removed<'_>, wanted: &Notice) {
+fn is_notice(rt: &impl Abort, place: &str, removed: &Removed<'_>, wanted: &Notice) {
     let found = (removed.table, removed.reason, removed.entry.flow.cookie);
     let wanted = (wanted.table, wanted.reason, wanted.cookie);
     same(rt, place, &found, &wanted);
@@ -224,7 +204,7 @@ fn is_notice(rt: &impl Abort, place: usize, removed: &Removed<'_>, wanted: &Noti
 
 fn are_listed<L: Lookup>(
     rt: &impl Abort,
-    place: usize,
+    place: &str,
     tables: &FlowTables<L>,
     cause: &Cause,
     wanted: &[Notice],
@@ -237,101 +217,64 @@ fn are_listed<L: Lookup>(
     Ok(())
 }
 
-fn is_given<L: Lookup>(
-    rt: &impl Abort,
-    place: usize,
-    tables: &mut FlowTables<L>,
-    (table, flow): (u8, Flow),
-    wanted: Result<(), TableFault>,
-) -> Result<(), Fail> {
-    same(rt, place, &add(tables, table, flow)?, &wanted);
-    Ok(())
-}
-
-fn is_hit<L: Lookup>(
-    rt: &impl Abort,
-    place: usize,
-    tables: &mut FlowTables<L>,
-    (table, in_port, bytes): (u8, u32, usize),
-    cookie: u64,
-) -> Result<(), Fail> {
-    let found = hit(rt, tables, table, in_port, bytes)?;
-    same(rt, place, &found, &Some(cookie));
-    Ok(())
-}
-
 fn change<L: Lookup>(
     rt: &impl Abort,
     alloc: Global,
-    place: usize,
+    place: &str,
     tables: &mut FlowTables<L>,
-    change: Change,
+    change: &Change,
 ) -> Result<(), Fail> {
     match change {
-        Change::Add { table, flow } => {
-            is_given(rt, place, tables, (table, flow_of(alloc, &flow)?), Ok(()))
+        Change::Add { table, flow, given } => {
+            return add(rt, place, tables, (*table, flow_of(alloc, flow)?), given);
         }
-        Change::Refuse { table, flow, fault } => {
-            is_given(
-                rt,
-                place,
-                tables,
-                (table, flow_of(alloc, &flow)?),
-                Err(fault),
-            )
-        }
-        Change::Modify { output } => modify(alloc, tables, output),
-        Change::Remove(gone) => {
-            tables.remove(&cause_of(alloc, gone)?);
-            Ok(())
-        }
-        Change::Looked(table) => {
-            looked(rt, tables, table);
-            Ok(())
-        }
+        Change::Modify { output } => return modify(alloc, tables, *output),
+        Change::Remove(gone) => tables.remove(&cause_of(alloc, gone)?),
+        Change::Looked(table) => looked(rt, tables, *table),
         Change::Hit {
             table,
             in_port,
             cookie,
             bytes,
-        } => is_hit(rt, place, tables, (table, in_port, bytes), cookie),
-        Change::Miss { table, in_port } => {
-            same(rt, place, &is_missed(rt, tables, table, in_port)?, &true);
-            Ok(())
-        }
+        } => same(
+            rt,
+            place,
+            &hit(rt, tables, *table, *in_port, *bytes)?,
+            cookie,
+        ),
     }
+    Ok(())
 }
 
 fn see<L: Lookup>(
     rt: &impl Abort,
     alloc: Global,
-    place: usize,
+    place: &str,
     tables: &FlowTables<L>,
-    sight: Sight,
+    sight: &Sight,
 ) -> Result<(), Fail> {
     match sight {
         Sight::Peek {
             table,
             in_port,
             cookie,
-        } => {
-            same(rt, place, &peeked(rt, tables, table, in_port)?, &cookie);
-        }
+        } => same(rt, place, &peeked(rt, tables, *table, *in_port)?, cookie),
         Sight::Counters {
             table,
             lookups,
             matched,
         } => {
-            same(rt, place, &counters(rt, tables, table), &(lookups, matched));
+            let found = counters(rt, tables, *table);
+            same(rt, place, &found, &(*lookups, *matched));
         }
-        Sight::Entries { table, entries } => are_entries(rt, place, tables, table, entries),
+        Sight::Entries { table, entries } => are_entries(rt, place, tables, *table, entries),
         Sight::EntryCount { table, count } => {
-            same(rt, place, &entry_count(rt, tables, table), &count);
+            same(rt, place, &entry_count(rt, tables, *table), count);
         }
         Sight::Listed { cause, notices } => {
             are_listed(rt, place, tables, &cause_of(alloc, cause)?, notices)?;
         }
-        Sight::Latest(moment) => same(rt, place, &tables.latest(), &moment),
+        Sight::Latest(moment) => same(rt, place, &tables.latest(), moment),
     }
     Ok(())
 }
@@ -354,15 +297,15 @@ fn swap<L: Lookup>(tables: &mut FlowTables<L>, copied: &mut Option<Copied<L>>) {
 fn play_one<L: Lookup>(
     rt: &impl Abort,
     alloc: Global,
-    place: usize,
+    place: &str,
     tables: &mut FlowTables<L>,
     copied: &mut Option<Copied<L>>,
-    step: Step,
+    step: &Step,
 ) -> Result<(), Fail> {
     match step {
         Step::Do(it) => change(rt, alloc, place, tables, it)?,
         Step::See(it) => see(rt, alloc, place, tables, it)?,
-        Step::Copy(table) => *copied = Some(copy(rt, tables, table)?),
+        Step::Copy(table) => *copied = Some(copy(rt, tables, *table)?),
         Step::Swap => swap(tables, copied),
     }
     Ok(())
@@ -372,52 +315,40 @@ fn play_on<L: Lookup>(
     rt: &impl Abort,
     alloc: Global,
     tables: &mut FlowTables<L>,
-    steps: &[Step],
+    (name, steps): &Script,
 ) -> Result<(), Fail> {
     let mut copied = None;
-    for (place, step) in steps.iter().enumerate() {
-        play_one(rt, alloc, place, tables, &mut copied, *step)?;
+    for (number, step) in steps.iter().enumerate() {
+        let place = format!(in alloc; "step {number} of {name}")?;
+        play_one(rt, alloc, place.as_str(), tables, &mut copied, step)?;
     }
     Ok(())
 }
 
-fn play<L: Lookup>(rt: &impl Abort, alloc: Global, steps: &[Step]) -> Result<(), Fail> {
+fn play<L: Lookup>(rt: &impl Abort, alloc: Global, script: &Script) -> Result<(), Fail> {
     let mut tables = FlowTables::<L>::new(alloc, 0)?;
     tables.known();
-    play_on(rt, alloc, &mut tables, steps)
+    play_on(rt, alloc, &mut tables, script)
 }
 
-#[test]
-fn scan_of_two_flows(rt: HostRuntime) -> Result<(), Fail> {
-    play::<Scan>(&rt, rt.alloc(), TWO_FLOWS)
-}
+const SCRIPTS: &[Script] = &[
+    ("a scan of two flows", TWO_FLOWS),
+    ("why a flow is not added", NOT_ADDED),
+    ("modified and deleted", MODIFIED),
+    ("flows of a group", GROUPS),
+    ("hard before idle", TIMEOUTS),
+    ("copied and put back", COPIED),
+];
 
 #[test]
-fn why_a_flow_is_not_added(rt: HostRuntime) -> Result<(), Fail> {
-    play::<Scan>(&rt, rt.alloc(), NOT_ADDED)
-}
-
-#[test]
-fn modified_and_deleted(rt: HostRuntime) -> Result<(), Fail> {
-    play::<Scan>(&rt, rt.alloc(), MODIFIED)
-}
-
-#[test]
-fn flows_of_a_group(rt: HostRuntime) -> Result<(), Fail> {
-    play::<Scan>(&rt, rt.alloc(), GROUPS)
-}
-
-#[test]
-fn hard_before_idle(rt: HostRuntime) -> Result<(), Fail> {
-    play::<Scan>(&rt, rt.alloc(), TIMEOUTS)
-}
-
-#[test]
-fn copied_and_put_back(rt: HostRuntime) -> Result<(), Fail> {
-    play::<Scan>(&rt, rt.alloc(), COPIED)
+fn tables_over_a_list(rt: HostRuntime) -> Result<(), Fail> {
+    for script in SCRIPTS {
+        play::<Scan>(&rt, rt.alloc(), script)?;
+    }
+    Ok(())
 }
 
 #[test]
 fn copied_by_the_running_switch(rt: HostRuntime) -> Result<(), Fail> {
-    play::<Lookups>(&rt, rt.alloc(), COPIED)
+    play::<Lookups>(&rt, rt.alloc(), &("copied and put back", COPIED))
 }

@@ -1,9 +1,6 @@
 use crate::steps::{Entry, Frame, Question, Row, Step, play_all};
-use crate::two_entries::backwards::Backwards;
 use of_classifier::Scan;
 use std::test::Fail;
-
-mod backwards;
 
 /// The match of port 1, in bytes (OpenFlow 1.3.5, 7.2.3).
 const PORT_1: &[u8] = &[0, 1, 0, 12, 0x80, 0, 0, 4, 0, 0, 0, 1, 0, 0, 0, 0];
@@ -73,9 +70,4 @@ const TWO_ENTRIES: &[Row] = &[
 #[test]
 fn scan_of_two_entries(rt: HostRuntime) -> Result<(), Fail> {
     play_all::<Scan>(&rt, rt.alloc(), TWO_ENTRIES)
-}
-
-#[test]
-fn backwards_of_two_entries(rt: HostRuntime) -> Result<(), Fail> {
-    play_all::<Backwards>(&rt, rt.alloc(), TWO_ENTRIES)
 }

@@ -2,7 +2,10 @@
 ghost use Rattle.of_switch.specs.Calling.{IsMade, Connected, Lost, Fed, Next, Frame, Moment, Changed, Loaded};
 
 use of_classifier::Lookup;
-use of_switch::{Effects, PortChange, Switch, SwitchError};
+use of_switch::{
+    Effects, PortChange, Switch, SwitchError, chunk_handles_its_messages, refusal_changes_nothing,
+    two_chunks,
+};
 use of_text::Config;
 
 /// `connected`.
@@ -63,4 +66,11 @@ pub fn load<L: Lookup>(switch: &mut Switch<L>, config: &Config) -> Result<(), Sw
     ensures { IsMade (Loaded config.now result) switch.old switch.new }
 {
     switch.load(config)
+}
+
+#[test]
+fn laws() {
+    two_chunks();
+    chunk_handles_its_messages();
+    refusal_changes_nothing();
 }

@@ -11,6 +11,8 @@ mod calling;
 #[cfg(test)]
 mod checks;
 #[cfg(test)]
+mod events;
+#[cfg(test)]
 mod memory;
 #[cfg(test)]
 mod part;
@@ -20,5 +22,3 @@ mod replayed;
 mod session;
 #[cfg(test)]
 mod streams;
-#[cfg(test)]
-mod switch;

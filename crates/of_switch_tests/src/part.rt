@@ -1,7 +1,8 @@
 use crate::checks::same;
+use crate::events::given_at_once;
 use of_cache::{Cached, Row};
 use of_mask_groups::MaskGroups;
-use of_switch::{PortChange, Switch};
+use of_switch::Switch;
 use std::alloc::Global;
 use std::process::Abort;
 use std::test::Fail;
@@ -9,43 +10,22 @@ use std::test::Fail;
 /// How the program's switch looks entries up.
 type Lookups = Cached<MaskGroups>;
 
-const HELLO: [u8; 8] = [4, 0, 0, 8, 0, 0, 0, 1];
+/// A FLOW_MOD for table 0 of priority 10, IN_PORT 1 and APPLY_ACTIONS of OUTPUT to port 2, and a frame of a type that no field of
+/// IPv4 or ARP goes with (OpenFlow 1.3.5, 7.3.4.1).
+const ROWS: &str = "\
+port | 1
+port | 2
+connect | -
+c | 0400000800000001
+c | 040e005800000002 0000000000000000 0000000000000000 00000000 0000000a ffffffff ffffffff ffffffff 00000000 0001000c 80000004 00000001 00000000 00040018 00000000 00000010 00000002 0000000000000000
+f | 1 020000000002 020000000001 88b5
+";
 
-/// A FLOW_MOD: table 0, priority 10, IN_PORT 1, APPLY_ACTIONS of OUTPUT to port 2.
-const FLOW_MOD: [u8; 88] = [
-    4, 14, 0, 0x58, 0, 0, 0, 2, // header
-    0, 0, 0, 0, 0, 0, 0, 0, 0, 0, 0, 0, 0, 0, 0, 0, // cookie and its mask
-    0, 0, 0, 0, 0, 0, 0, 10, // table, command, timeouts, priority
-    0xff, 0xff, 0xff, 0xff, 0xff, 0xff, 0xff, 0xff, 0xff, 0xff, 0xff, 0xff, 0, 0, 0, 0, // no buffer, no filters, no flags
-    0, 1, 0, 12, 0x80, 0, 0, 4, 0, 0, 0, 1, 0, 0, 0, 0, // IN_PORT 1
-    0, 4, 0, 0x18, 0, 0, 0, 0, 0, 0, 0, 0x10, 0, 0, 0, 2, 0, 0, 0, 0, 0, 0, 0, 0, // OUTPUT
+/// The HELLO, and the frame by port 2.
+const GIVEN: &[u8] = &[
+    4, 0, 0, 16, 0, 0, 0, 0, 0, 1, 0, 8, 0, 0, 0, 0x10, 0, 0, 0, 2, 2, 0, 0, 0, 0, 2, 2, 0, 0, 0,
+    0, 1, 0x88, 0xb5,
 ];
-
-/// A frame of a type that no field of IPv4 or ARP goes with.
-const FRAME: [u8; 14] = [2, 0, 0, 0, 0, 2, 2, 0, 0, 0, 0, 1, 0x88, 0xb5];
-
-fn port(number: u32) -> PortChange {
-    PortChange::Add {
-        number,
-        hw: [2, 0, 0, 0, 0, 1],
-        name: [0; 16],
-        up: true,
-    }
-}
-
-fn handle(switch: &mut Switch<Lookups>, message: &[u8]) -> Result<(), Fail> {
-    switch.feed(message)?;
-    switch.next()?;
-    Ok(())
-}
-
-fn prepare(switch: &mut Switch<Lookups>) -> Result<(), Fail> {
-    switch.port_change(port(1))?;
-    switch.port_change(port(2))?;
-    switch.connected()?;
-    handle(switch, &HELLO)?;
-    handle(switch, &FLOW_MOD)
-}
 
 fn looks_at_in_port(rt: &impl Abort, rows: &[Row]) {
     assert!(rt; rows.len() == 1);
@@ -59,8 +39,8 @@ fn looks_at_in_port(rt: &impl Abort, rows: &[Row]) {
 }
 
 fn one_row(rt: &impl Abort, alloc: Global, switch: &mut Switch<Lookups>) -> Result<(), Fail> {
-    prepare(switch)?;
-    same(rt, "a frame", &switch.frame(1, &FRAME)?.len(), &1);
+    let given = given_at_once(alloc, switch, ROWS)?;
+    same(rt, "what is given", &given.as_slice(), &GIVEN);
     looks_at_in_port(rt, &switch.datapath().part(0).rows(alloc)?);
     Ok(())
 }

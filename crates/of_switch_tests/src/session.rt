@@ -5,7 +5,6 @@ use std::process::Abort;
 use std::test::Fail;
 
 /// What is done to a stream, and what it then gives.
-#[derive(Clone, Copy)]
 enum Chunk {
     Feed(&'static [u8]),
     Beginning(Beginning),
@@ -39,10 +38,10 @@ fn are_left(rt: &impl Abort, place: usize, stream: &Stream, wanted: &[u8]) {
     same(rt, place, &stream.kept(), &wanted.len());
 }
 
-fn play(rt: &impl Abort, place: usize, stream: &mut Stream, chunk: Chunk) -> Result<(), Fail> {
+fn play(rt: &impl Abort, place: usize, stream: &mut Stream, chunk: &Chunk) -> Result<(), Fail> {
     match chunk {
         Chunk::Feed(bytes) => stream.feed(bytes)?,
-        Chunk::Beginning(front) => same(rt, place, &stream.front(), &front),
+        Chunk::Beginning(front) => same(rt, place, &stream.front(), front),
         Chunk::Take(bytes) => take(rt, place, stream, bytes),
         Chunk::Left(bytes) => are_left(rt, place, stream, bytes),
         Chunk::Clear => stream.clear(),
@@ -54,25 +53,22 @@ fn play(rt: &impl Abort, place: usize, stream: &mut Stream, chunk: Chunk) -> Res
 fn message_in_two_chunks(rt: HostRuntime) -> Result<(), Fail> {
     let mut stream = Stream::new(rt.alloc());
     for (place, chunk) in CHUNKS.iter().enumerate() {
-        play(&rt, place, &mut stream, *chunk)?;
+        play(&rt, place, &mut stream, chunk)?;
     }
     splits_once();
     Ok(())
 }
 
-/// What comes next of a session.
-#[derive(Clone, Copy, Debug, PartialEq, Eq)]
-enum Seen {
-    Nothing,
-    /// The HELLO, of so many bytes.
-    Opened(usize),
-    /// An ECHO_REQUEST.
-    Echo { xid: u32, size: usize },
-    Other,
-}
+/// What comes next of a session: its kind, its transaction id and its size.
+type Seen = (&'static str, u32, usize);
+
+const NOTHING: Seen = ("nothing", 0, 0);
+
+const HELLO: Seen = ("HELLO", 0, 8);
+
+const ECHO_REQUEST: Seen = ("ECHO_REQUEST", 2, 9);
 
 /// What is done to a session, and what it then gives.
-#[derive(Clone, Copy)]
 enum Step {
     Connect,
     Feed(&'static [u8]),
@@ -87,14 +83,14 @@ enum Step {
 const STEPS: &[Step] = &[
     Step::Connect,
     Step::Feed(&[4, 0, 0, 8, 0, 0, 0, 1, 4, 2, 0, 9, 0, 0, 0, 2, 0xab]),
-    Step::Next(Seen::Opened(8)),
+    Step::Next(HELLO),
     Step::Taken,
     Step::Phase(Phase::Open),
-    Step::Next(Seen::Echo { xid: 2, size: 9 }),
+    Step::Next(ECHO_REQUEST),
     Step::First(&[4, 2, 0, 9, 0, 0, 0, 2, 0xab]),
-    Step::Next(Seen::Echo { xid: 2, size: 9 }),
+    Step::Next(ECHO_REQUEST),
     Step::Taken,
-    Step::Next(Seen::Nothing),
+    Step::Next(NOTHING),
     Step::Close,
     Step::Phase(Phase::Disconnected),
 ];
@@ -102,17 +98,14 @@ const STEPS: &[Step] = &[
 fn next_of(session: &Session) -> Result<Seen, Fail> {
     let next = session.next(Role::Equal)?;
     Ok(match &next {
-        Next::Nothing => Seen::Nothing,
-        Next::Opened { size } => Seen::Opened(*size),
+        Next::Nothing => NOTHING,
+        Next::Opened { size } => ("HELLO", 0, *size),
         Next::Read {
             xid,
             size,
             message: Message::EchoRequest(_),
-        } => Seen::Echo {
-            xid: *xid,
-            size: *size,
-        },
-        _ => Seen::Other,
+        } => ("ECHO_REQUEST", *xid, *size),
+        _ => ("another message", 0, 0),
     })
 }
 
@@ -122,14 +115,14 @@ fn is_first(rt: &impl Abort, place: usize, session: &Session, bytes: &[u8]) {
     same(rt, place, &session.first(size), &bytes);
 }
 
-fn go_on(rt: &impl Abort, place: usize, session: &mut Session, step: Step) -> Result<(), Fail> {
+fn go_on(rt: &impl Abort, place: usize, session: &mut Session, step: &Step) -> Result<(), Fail> {
     match step {
         Step::Connect => session.connect(),
         Step::Feed(bytes) => session.feed(bytes)?,
-        Step::Next(wanted) => same(rt, place, &next_of(session)?, &wanted),
+        Step::Next(wanted) => same(rt, place, &next_of(session)?, wanted),
         Step::First(bytes) => is_first(rt, place, session, bytes),
         Step::Taken => session.taken(),
-        Step::Phase(phase) => same(rt, place, &session.phase(), &phase),
+        Step::Phase(phase) => same(rt, place, &session.phase(), phase),
         Step::Close => session.close(),
     }
     Ok(())
@@ -139,7 +132,7 @@ fn go_on(rt: &impl Abort, place: usize, session: &mut Session, step: Step) -> Re
 fn greeting_and_echo(rt: HostRuntime) -> Result<(), Fail> {
     let mut session = Session::new(rt.alloc());
     for (place, step) in STEPS.iter().enumerate() {
-        go_on(&rt, place, &mut session, *step)?;
+        go_on(&rt, place, &mut session, step)?;
     }
     Ok(())
 }

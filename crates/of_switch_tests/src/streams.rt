@@ -1,10 +1,11 @@
 //! The sources and sinks over readers and writers, of which some give or take one byte, are interrupted, or fail.
+use crate::checks::same;
 use crate::replayed::{EVENTS, Lookups, PRINTED};
 use of_replay::streams::{ReaderSource, WriterSink};
 use of_replay::{Ended, replay};
 use std::alloc::Global;
 use std::io::{self, ErrorKind, Read, Write};
-use std::test::Fail;
+use std::process::Abort;
 
 /// Gives one byte a read. The read `faulty`, counted from 1, is an error of this kind; those after it go on.
 #[derive(Drop)]
@@ -83,50 +84,56 @@ fn writer(alloc: Global, faulty: u64, kind: ErrorKind) -> OneByteWriter {
     }
 }
 
-// How the run ends, and what was written.
+// How the run ends.
 fn play(alloc: Global, reader: OneByteReader, writer: &mut OneByteWriter) -> Ended {
     let mut source = ReaderSource::new(reader);
     let mut sink = WriterSink::new(writer);
     replay::<Lookups, _, _>(alloc, 1, &mut source, &mut sink)
 }
 
+// Asserts how a run with this reader ends, and that a front of the text was written.
+fn ends(
+    rt: &impl Abort,
+    alloc: Global,
+    reader: OneByteReader,
+    writer: &mut OneByteWriter,
+    wanted: &Ended,
+) {
+    let call = reader.faulty.max(writer.faulty);
+    let ended = play(alloc, reader, writer);
+    same(rt, call, &ended, wanted);
+    let is_front = PRINTED.starts_with(&writer.bytes);
+    same(rt, call, &is_front, &true);
+}
+
 #[test]
-fn interrupted_calls_are_made_again(rt: HostRuntime) -> Result<(), Fail> {
+fn interrupted_calls_are_made_again(rt: HostRuntime) {
     for call in 0..9 {
         let mut taken = writer(rt.alloc(), call, ErrorKind::Interrupted);
-        let ended = play(rt.alloc(), reader(call, ErrorKind::Interrupted), &mut taken);
-        assert_eq!(rt; ended, Ended::Done);
-        assert_eq!(rt; taken.bytes.as_slice(), PRINTED);
+        let given = reader(call, ErrorKind::Interrupted);
+        ends(&rt, rt.alloc(), given, &mut taken, &Ended::Done);
+        same(&rt, call, &taken.bytes.as_slice(), &PRINTED);
     }
-    Ok(())
 }
 
 // Each read fails in turn: those of the bytes, and the one that finds the end.
 #[test]
-fn a_read_that_fails_ends_the_run(rt: HostRuntime) -> Result<(), Fail> {
+fn a_read_that_fails_ends_the_run(rt: HostRuntime) {
     for call in 1..=EVENTS.len() as u64 + 1 {
         let mut taken = writer(rt.alloc(), 0, ErrorKind::Other);
-        let ended = play(
-            rt.alloc(),
-            reader(call, ErrorKind::PermissionDenied),
-            &mut taken,
-        );
-        assert_eq!(rt; ended, Ended::ReadFault);
-        assert!(rt; PRINTED.starts_with(&taken.bytes));
+        let given = reader(call, ErrorKind::PermissionDenied);
+        ends(&rt, rt.alloc(), given, &mut taken, &Ended::ReadFault);
     }
-    Ok(())
 }
 
 #[test]
-fn a_write_that_fails_or_takes_nothing_ends_the_run(rt: HostRuntime) -> Result<(), Fail> {
+fn a_write_that_fails_or_takes_nothing_ends_the_run(rt: HostRuntime) {
     for kind in [ErrorKind::BrokenPipe, ErrorKind::WriteZero] {
         for call in 1..=PRINTED.len() as u64 {
             let mut taken = writer(rt.alloc(), call, kind);
-            let ended = play(rt.alloc(), reader(0, ErrorKind::Other), &mut taken);
-            assert_eq!(rt; ended, Ended::WriteFault);
-            assert_eq!(rt; taken.writes, call);
-            assert!(rt; PRINTED.starts_with(&taken.bytes));
+            let given = reader(0, ErrorKind::Other);
+            ends(&rt, rt.alloc(), given, &mut taken, &Ended::WriteFault);
+            same(&rt, call, &taken.writes, &call);
         }
     }
-    Ok(())
 }

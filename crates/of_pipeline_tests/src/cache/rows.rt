@@ -56,15 +56,18 @@ const PORT_4_88B5: Frame = Frame {
     ether_type: 0x88b5,
 };
 
+/// The bit of IN_PORT in what a mask looks at.
+pub(super) const IN_PORT: u32 = 1;
+
 /// Without entries no field decides.
 pub(super) const NO_ENTRY: &[CacheRow] = &[
     (
         "no entry",
         CacheStep::Does(Step::Ask(Question::Winner(PORT_1_88B5), None)),
     ),
-    ("one row", CacheStep::EveryKey),
+    ("one row", CacheStep::Keeps(0, &[0], None)),
     ("add 0", CacheStep::Does(Step::Add(TYPE_0806_AT_1))),
-    ("it goes", CacheStep::RowCount(0)),
+    ("it goes", CacheStep::Keeps(IN_PORT, &[], None)),
 ];
 
 /// The cache answers what one entry decides, and asks the classifier below nothing the second time.
@@ -75,7 +78,7 @@ pub(super) const ONE_ENTRY: &[CacheRow] = &[
         CacheStep::Does(Step::Ask(Question::Winner(PORT_1_88B5), Some(0))),
     ),
     ("asked once", CacheStep::Asked(1)),
-    ("a row of it", CacheStep::Keeps(&[1], Some(0))),
+    ("a row of it", CacheStep::Keeps(IN_PORT, &[1], Some(0))),
     (
         "it wins from another source",
         CacheStep::Does(Step::Ask(Question::Winner(OTHER_SOURCE), Some(0))),
@@ -85,12 +88,12 @@ pub(super) const ONE_ENTRY: &[CacheRow] = &[
         "add 1 of its priority",
         CacheStep::Does(Step::Add(TYPE_88B5_AT_10)),
     ),
-    ("the row stays", CacheStep::Keeps(&[1], Some(0))),
+    ("the row stays", CacheStep::Keeps(IN_PORT, &[1], Some(0))),
     (
         "add 2 of a higher one",
         CacheStep::Does(Step::Add(TYPE_88B5_AT_11)),
     ),
-    ("the row goes", CacheStep::RowCount(0)),
+    ("the row goes", CacheStep::Keeps(IN_PORT, &[], None)),
 ];
 
 /// Of a cache of two rows.
@@ -108,19 +111,22 @@ pub(super) const TWO_ROWS: &[CacheRow] = &[
         "port 4",
         CacheStep::Does(Step::Ask(Question::Winner(PORT_4_88B5), None)),
     ),
-    ("port 1 went", CacheStep::Keeps(&[4, 3], None)),
+    ("port 1 went", CacheStep::Keeps(IN_PORT, &[4, 3], None)),
     (
         "peek of port 3",
         CacheStep::Does(Step::Ask(Question::Peek(PORT_3_88B5), None)),
     ),
-    ("no row moves", CacheStep::Keeps(&[4, 3], None)),
+    ("no row moves", CacheStep::Keeps(IN_PORT, &[4, 3], None)),
     ("take 0", CacheStep::Does(Step::Take(PORT_1_AT_10))),
-    ("no row answers it", CacheStep::Keeps(&[4, 3], None)),
+    (
+        "no row answers it",
+        CacheStep::Keeps(IN_PORT, &[4, 3], None),
+    ),
     (
         "port 3 again",
         CacheStep::Does(Step::Ask(Question::Winner(PORT_3_88B5), None)),
     ),
-    ("it comes first", CacheStep::Keeps(&[3, 4], None)),
+    ("it comes first", CacheStep::Keeps(IN_PORT, &[3, 4], None)),
 ];
 
 /// Winners, where an entry is added once more if there was no memory.

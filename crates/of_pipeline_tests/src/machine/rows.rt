@@ -6,14 +6,12 @@ use of_machine::{Count, PacketInReason, Step};
 use of_wire::limits::{OFPP_CONTROLLER, OFPP_TABLE};
 
 /// The entry's one instruction, without its actions.
-#[derive(Clone, Copy)]
 pub enum Kind {
     Apply,
     Write,
 }
 
 /// How the packet begins, and the steps that a log keeps.
-#[derive(Clone, Copy)]
 pub enum Way {
     /// At table 0.
     Logged(&'static [Step]),
@@ -27,7 +25,6 @@ pub enum Way {
 }
 
 /// What is emitted.
-#[derive(Clone, Copy)]
 pub enum Wanted {
     Sent {
         port: u32,
@@ -40,7 +37,6 @@ pub enum Wanted {
     },
 }
 
-#[derive(Clone, Copy)]
 pub struct Row {
     pub what: &'static str,
     pub priority: u16,

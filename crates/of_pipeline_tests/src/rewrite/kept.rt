@@ -1,10 +1,9 @@
 //! Frames whose headers are read and kept: the fields are those of the bytes after each change.
-use crate::rewrite::steps::{Kept, Row, Step, play_all};
+use crate::rewrite::steps::{Kept, Row, Step};
 use of_layers::Field;
-use std::test::Fail;
 
 /// A frame of 60 bytes: addresses, a type that is not read, and zeros.
-const PADDED: &[u8] = &[
+pub const PADDED: &[u8] = &[
     2, 0, 0, 0, 0, 2, 2, 0, 0, 0, 0, 1, 0x88, 0xb5, 0, 0, 0, 0, 0, 0, 0, 0, 0, 0, 0, 0, 0, 0, 0, 0,
     0, 0, 0, 0, 0, 0, 0, 0, 0, 0, 0, 0, 0, 0, 0, 0, 0, 0, 0, 0, 0, 0, 0, 0, 0, 0, 0, 0, 0, 0,
 ];
@@ -15,7 +14,7 @@ const UNTAGGED: &str = "EthDst=20000000002 EthSrc=20000000001 EthType=88b5 VlanV
 /// Its fields behind a tag of PCP 0 and VID 0.
 const TAGGED: &str = "EthDst=20000000002 EthSrc=20000000001 EthType=88b5 VlanVid=1000 VlanPcp=0";
 
-const TAGS: &[Row] = &[
+pub const TAGS: &[Row] = &[
     ("no tag", Step::Has(UNTAGGED)),
     ("push of a customer tag", Step::Push(0x8100)),
     ("it has the VID 0", Step::Has(TAGGED)),
@@ -28,7 +27,7 @@ const TAGS: &[Row] = &[
     ("the frame is as before", Step::Is(PADDED)),
 ];
 
-const FIELDS: &[Row] = &[
+pub const FIELDS: &[Row] = &[
     ("push of a customer tag", Step::Push(0x8100)),
     ("it has the VID 0", Step::Has(TAGGED)),
     ("set VLAN_VID", Step::Set(Field::VlanVid, 0x1005)),
@@ -44,7 +43,7 @@ const FIELDS: &[Row] = &[
     ),
 ];
 
-const LOAN: &[Row] = &[
+pub const LOAN: &[Row] = &[
     ("no tag", Step::Has(UNTAGGED)),
     (
         "the type of a tag",
@@ -58,7 +57,7 @@ const LOAN: &[Row] = &[
 
 /// What is known after each call: a frame is read again only where its fields may have changed, and its layers are looked for
 /// again only after a loan.
-const KNOWN: &[Row] = &[
+pub const KNOWN: &[Row] = &[
     ("a new frame", Step::Knows(Kept::Nothing)),
     ("it is read", Step::Read),
     ("all is known", Step::Knows(Kept::Fields)),
@@ -82,23 +81,3 @@ const KNOWN: &[Row] = &[
     ("set", Step::Set(Field::VlanVid, 0x1006)),
     ("the layers were looked for", Step::Knows(Kept::Places)),
 ];
-
-#[test]
-fn known_after_each_call(rt: HostRuntime) -> Result<(), Fail> {
-    play_all(&rt, rt.alloc(), PADDED, KNOWN)
-}
-
-#[test]
-fn kept_through_tags(rt: HostRuntime) -> Result<(), Fail> {
-    play_all(&rt, rt.alloc(), PADDED, TAGS)
-}
-
-#[test]
-fn kept_through_sets(rt: HostRuntime) -> Result<(), Fail> {
-    play_all(&rt, rt.alloc(), PADDED, FIELDS)
-}
-
-#[test]
-fn forgotten_by_loans(rt: HostRuntime) -> Result<(), Fail> {
-    play_all(&rt, rt.alloc(), PADDED, LOAN)
-}

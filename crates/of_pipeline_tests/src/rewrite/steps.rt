@@ -44,7 +44,6 @@ pub(super) enum Step {
 }
 
 /// How much is known of the headers of a frame.
-#[derive(Clone, Copy)]
 pub(super) enum Kept {
     Nothing,
     /// Where its layers begin.
@@ -113,7 +112,7 @@ fn has(
 }
 
 /// Whether so much is known of the headers.
-fn knows(frame: &Frame, kept: Kept) -> bool {
+fn knows(frame: &Frame, kept: &Kept) -> bool {
     matches!(
         (kept, frame.known()),
         (Kept::Nothing, Known::Nothing)
@@ -126,7 +125,7 @@ fn knows(frame: &Frame, kept: Kept) -> bool {
 fn shows(rt: &impl Abort, frame: &Frame, what: &str, step: &Step) {
     match step {
         Step::Lends(field, wanted) => same(rt, what, &frame.lends(*field), wanted),
-        Step::Knows(wanted) => same(rt, what, &knows(frame, *wanted), &true),
+        Step::Knows(wanted) => same(rt, what, &knows(frame, wanted), &true),
         Step::Length(wanted) => same(rt, what, &frame.len(), wanted),
         Step::Is(wanted) => same(rt, what, &frame.bytes(), wanted),
         Step::Begins(wanted) => same(rt, what, &frame.bytes().starts_with(wanted), &true),

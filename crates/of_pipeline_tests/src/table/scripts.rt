@@ -15,7 +15,6 @@ pub struct FlowRow {
 }
 
 /// What makes entries go.
-#[derive(Clone, Copy)]
 pub enum Gone {
     /// A DELETE of the entries of port 1 in table 2, by what they send to.
     Delete { out_port: u32 },
@@ -23,7 +22,6 @@ pub enum Gone {
     Moment(u64),
 }
 
-#[derive(Clone, Copy)]
 pub struct EntryRow {
     pub cookie: u64,
     pub packets: u64,
@@ -33,7 +31,6 @@ pub struct EntryRow {
     pub instructions: usize,
 }
 
-#[derive(Clone, Copy)]
 pub struct Notice {
     pub table: u8,
     pub reason: FlowRemovedReason,
@@ -41,16 +38,12 @@ pub struct Notice {
 }
 
 /// What changes tables. A packet comes by a port, and an entry is named by its cookie.
-#[derive(Clone, Copy)]
 pub enum Change {
+    /// A flow is added, or refused with a fault.
     Add {
         table: u8,
         flow: FlowRow,
-    },
-    Refuse {
-        table: u8,
-        flow: FlowRow,
-        fault: TableFault,
+        given: Result<(), TableFault>,
     },
     /// A MODIFY of the entries of port 1 in table 2: they send to a port.
     Modify {
@@ -58,22 +51,16 @@ pub enum Change {
     },
     Remove(Gone),
     Looked(u8),
-    /// A look-up that finds an entry, which then counts so many bytes.
+    /// A look-up that finds an entry, which then counts so many bytes, or none.
     Hit {
         table: u8,
         in_port: u32,
-        cookie: u64,
+        cookie: Option<u64>,
         bytes: usize,
-    },
-    /// A look-up that finds none.
-    Miss {
-        table: u8,
-        in_port: u32,
     },
 }
 
 /// What is seen of them.
-#[derive(Clone, Copy)]
 pub enum Sight {
     Peek {
         table: u8,
@@ -100,7 +87,6 @@ pub enum Sight {
     Latest(u64),
 }
 
-#[derive(Clone, Copy)]
 pub enum Step {
     Do(Change),
     See(Sight),
@@ -148,23 +134,27 @@ const OF_TWO: FlowRow = FlowRow {
 
 /// The flow of port 1 counts a packet, and is then replaced.
 pub const TWO_FLOWS: &[Step] = &[
-    Step::Do(Change::Miss {
+    Step::Do(Change::Hit {
         table: 2,
         in_port: 1,
+        cookie: None,
+        bytes: 60,
     }),
     Step::Do(Change::Add {
         table: 2,
         flow: OF_ONE,
+        given: Ok(()),
     }),
     Step::Do(Change::Add {
         table: 2,
         flow: OF_TWO,
+        given: Ok(()),
     }),
     Step::Do(Change::Looked(2)),
     Step::Do(Change::Hit {
         table: 2,
         in_port: 1,
-        cookie: 10,
+        cookie: Some(10),
         bytes: 60,
     }),
     Step::See(Sight::Peek {
@@ -178,6 +168,7 @@ pub const TWO_FLOWS: &[Step] = &[
             cookie: 11,
             ..OF_ONE
         },
+        given: Ok(()),
     }),
     Step::See(Sight::Counters {
         table: 2,
@@ -221,23 +212,24 @@ pub const NOT_ADDED: &[Step] = &[
     Step::Do(Change::Add {
         table: 0,
         flow: OF_ONE,
+        given: Ok(()),
     }),
-    Step::Do(Change::Refuse {
+    Step::Do(Change::Add {
         table: 0,
         flow: FlowRow {
             cookie: 11,
             flags: CHECKED,
             ..OF_ONE
         },
-        fault: TableFault::Overlap,
+        given: Err(TableFault::Overlap),
     }),
-    Step::Do(Change::Refuse {
+    Step::Do(Change::Add {
         table: 16,
         flow: FlowRow {
             cookie: 12,
             ..OF_ONE
         },
-        fault: TableFault::BadTable,
+        given: Err(TableFault::BadTable),
     }),
     Step::See(Sight::EntryCount { table: 0, count: 1 }),
 ];
@@ -249,10 +241,12 @@ pub const MODIFIED: &[Step] = &[
             flags: NOTICED,
             ..OF_ONE
         },
+        given: Ok(()),
     }),
     Step::Do(Change::Add {
         table: 2,
         flow: OF_TWO,
+        given: Ok(()),
     }),
     Step::Do(Change::Modify { output: 7 }),
     Step::See(Sight::Entries {
@@ -305,6 +299,7 @@ pub const GROUPS: &[Step] = &[
             flags: NOTICED,
             ..OF_ONE
         },
+        given: Ok(()),
     }),
     Step::Do(Change::Add {
         table: 1,
@@ -314,10 +309,12 @@ pub const GROUPS: &[Step] = &[
             flags: NOTICED,
             ..OF_ONE
         },
+        given: Ok(()),
     }),
     Step::Do(Change::Add {
         table: 1,
         flow: OF_TWO,
+        given: Ok(()),
     }),
     Step::See(Sight::Listed {
         cause: Gone::Group(Some(8)),
@@ -350,12 +347,13 @@ pub const TIMEOUTS: &[Step] = &[
             flags: NOTICED,
             ..OF_ONE
         },
+        given: Ok(()),
     }),
     Step::Do(Change::Remove(Gone::Moment(4 * SECOND))),
     Step::Do(Change::Hit {
         table: 0,
         in_port: 1,
-        cookie: 10,
+        cookie: Some(10),
         bytes: 60,
     }),
     Step::Do(Change::Remove(Gone::Moment(8 * SECOND))),
@@ -510,14 +508,17 @@ pub const COPIED: &[Step] = &[
     Step::Do(Change::Add {
         table: 2,
         flow: OF_ONE,
+        given: Ok(()),
     }),
     Step::Do(Change::Add {
         table: 2,
         flow: OF_GROUP,
+        given: Ok(()),
     }),
     Step::Do(Change::Add {
         table: 2,
         flow: OF_TWO,
+        given: Ok(()),
     }),
     Step::Do(Change::Add {
         table: 3,
@@ -525,6 +526,7 @@ pub const COPIED: &[Step] = &[
             cookie: 30,
             ..OF_TWO
         },
+        given: Ok(()),
     }),
     Step::Do(Change::Remove(Gone::Moment(2 * SECOND))),
     Step::Do(Change::Add {
@@ -533,12 +535,13 @@ pub const COPIED: &[Step] = &[
             cookie: 11,
             ..OF_ONE
         },
+        given: Ok(()),
     }),
     Step::Do(Change::Looked(2)),
     Step::Do(Change::Hit {
         table: 2,
         in_port: 1,
-        cookie: 12,
+        cookie: Some(12),
         bytes: 60,
     }),
     IS_BEFORE,
@@ -556,12 +559,13 @@ pub const COPIED: &[Step] = &[
             group: Some(8),
             ..OF_ONE
         },
+        given: Ok(()),
     }),
     Step::Do(Change::Looked(2)),
     Step::Do(Change::Hit {
         table: 2,
         in_port: 1,
-        cookie: 13,
+        cookie: Some(13),
         bytes: 70,
     }),
     IS_AFTER,
@@ -583,13 +587,13 @@ pub const COPIED: &[Step] = &[
     Step::Do(Change::Hit {
         table: 2,
         in_port: 2,
-        cookie: 20,
+        cookie: Some(20),
         bytes: 80,
     }),
     Step::Do(Change::Hit {
         table: 2,
         in_port: 1,
-        cookie: 12,
+        cookie: Some(12),
         bytes: 90,
     }),
     Step::Do(Change::Remove(Gone::Moment(11 * SECOND))),

@@ -1,8 +1,14 @@
 //! Events as rows of a text: those of a run that meets each part of the switch which needs memory.
 
-/// `c` are bytes of the controller, `f` a frame at a port, `t` a moment in nanoseconds, `link` a port whose link changes; the
-/// bytes are those of OpenFlow 1.3.5.
+/// `port` is a port that is added, `connect` a connection, `c` are bytes of the controller, `f` a frame at a port, `t` a moment in
+/// nanoseconds, `link` a port whose link changes; the bytes are those of OpenFlow 1.3.5.
 pub const ROWS: &str = "\
+# three ports, and a connection that is there when a second one comes
+port | 1
+port | 2
+port | 3
+connect | -
+connect | -
 # HELLO, and the head of a FLOW_MOD
 c | 0400000800000001 040e0058000000
 # the rest: cookie 1, IN_PORT 1, APPLY_ACTIONS of OUTPUT 2; and a BARRIER_REQUEST

@@ -1,2 +1,0 @@
-mod Reversed
-mod Older
