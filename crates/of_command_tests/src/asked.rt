@@ -1,4 +1,5 @@
 //! Questions in an event file, and messages in words.
+use crate::checks::same;
 use of_asking::Answering;
 use of_cache::Cached;
 use of_explain::say_messages;
@@ -7,7 +8,7 @@ use of_mask_groups::MaskGroups;
 use of_replay::memory::{MemorySink, MemorySource};
 use of_replay::{Ended, Plain, print_file};
 use of_switch::{Event, PortChange};
-use std::process::Abort;
+use std::alloc::Global;
 use std::test::Fail;
 
 /// How the running switch looks entries up.
@@ -58,8 +59,8 @@ fn questions_are_answered(rt: HostRuntime) -> Result<(), Fail> {
     let mut sink = MemorySink::new(rt.alloc(), 65_536, 0);
     let rows = Answering { rows: Plain };
     let ended = print_file::<Lookups, _, _, _>(rt.alloc(), 1, 1000, &rows, &mut source, &mut sink);
-    assert_eq!(rt; ended, Ended::Done);
-    assert_eq!(rt; sink.bytes(), PRINTED);
+    same(&rt, "its end", &ended, &Ended::Done);
+    same(&rt, "what it prints", &sink.bytes(), &PRINTED);
     Ok(())
 }
 
@@ -68,11 +69,9 @@ fn reads_are_counted(rt: HostRuntime) -> Result<(), Fail> {
     let mut source = MemorySource::new(rt.alloc(), b"connect\nlost\nconnect\n", 8, 0)?;
     let mut sink = MemorySink::new(rt.alloc(), 65_536, 0);
     let ended = print_file::<Lookups, _, _, _>(rt.alloc(), 1, 1, &Plain, &mut source, &mut sink);
-    assert_eq!(rt; ended, Ended::ReadFault);
-    assert_eq!(rt;
-        sink.bytes(),
-        b"a 04000010000000000001000800000010\n".as_slice()
-    );
+    same(&rt, "its end", &ended, &Ended::ReadFault);
+    let greeting: &[u8] = b"a 04000010000000000001000800000010\n";
+    same(&rt, "what it prints", &sink.bytes(), &greeting);
     Ok(())
 }
 
@@ -85,28 +84,31 @@ const HELLOS: [u8; 25] = [
 fn messages_are_said(rt: HostRuntime) -> Result<(), Fail> {
     let mut text = Vec::new(rt.alloc());
     let left = say_messages(rt.alloc(), &mut text, &HELLOS)?;
-    assert_eq!(rt; left, 1);
-    assert_eq!(rt;
-        text.as_slice(),
-        b"HELLO xid 1, 8 bytes\nHELLO xid 16, 16 bytes\n".as_slice()
-    );
+    same(&rt, "bytes that are left", &left, &1);
+    let lines: &[u8] = b"HELLO xid 1, 8 bytes\nHELLO xid 16, 16 bytes\n";
+    same(&rt, "the messages", &text.as_slice(), &lines);
     Ok(())
+}
+
+fn running_row(alloc: Global, line: &[u8]) -> Result<RunningRow, Fail> {
+    let mut frame = Vec::new(alloc);
+    Ok(read_running_row(alloc, line, &mut frame)?)
+}
+
+fn is_link_down(row: &RunningRow) -> bool {
+    matches!(
+        row,
+        RunningRow::Happens(Event::Ports(PortChange::Link {
+            number: 3,
+            up: false
+        }))
+    )
 }
 
 #[test]
 fn rows_come_while_it_runs(rt: HostRuntime) -> Result<(), Fail> {
-    let mut frame = Vec::new(rt.alloc());
-    let row = read_running_row(rt.alloc(), b"port link 3 down", &mut frame)?;
-    assert!(rt;
-        matches!(
-            row,
-            RunningRow::Happens(Event::Ports(PortChange::Link {
-                number: 3,
-                up: false
-            }))
-        )
-    );
-    let row = read_running_row(rt.alloc(), b"t 5", &mut frame)?;
+    assert!(rt; is_link_down(&running_row(rt.alloc(), b"port link 3 down")?));
+    let row = running_row(rt.alloc(), b"t 5")?;
     assert!(rt; matches!(row, RunningRow::Bad));
     Ok(())
 }

@@ -9,6 +9,8 @@ mod asked;
 #[cfg(test)]
 mod calls;
 #[cfg(test)]
+mod checks;
+#[cfg(test)]
 mod findings;
 #[cfg(test)]
 mod live;

@@ -1,5 +1,6 @@
 ghost use Rattle.std.specs.Prelude.{◌≡◌};
 
+use crate::checks::same;
 use of_cache::Cached;
 use of_classifier::{Lookup, Scan};
 use of_headers::{FieldKey, read};
@@ -341,12 +342,12 @@ fn gives<S: Source>(
     let mut buffer = zeros(alloc, READ_SIZE)?;
     let mut read = source.read(&mut buffer);
     if let Reading::Bytes(n) = read {
-        assert_eq!(rt; &buffer[..n], bytes);
+        same(rt, "lines", &&buffer[..n], &bytes);
         read = source.read(&mut buffer);
     } else {
         assert!(rt; bytes.is_empty());
     }
-    assert_eq!(rt; read, Reading::End);
+    same(rt, "the end", &read, &Reading::End);
     Ok(())
 }
 

@@ -1,4 +1,4 @@
-use crate::checks::{Kind, are_refused, code_of, is_written, same};
+use crate::checks::{Kind, code_of, is_written, same};
 use of_actions::{
     Action, ActionList, Instruction, InstructionList, check_flow, is_number, read_actions,
     read_instructions, write_actions, write_instructions,
@@ -12,36 +12,30 @@ use std::alloc::Global;
 use std::process::Abort;
 use std::test::Fail;
 
-mod rows;
+pub(crate) mod rows;
 
-#[test]
-fn refused(rt: HostRuntime) -> Result<(), Fail> {
-    are_refused(&rt, rt.alloc(), Kind::Actions, rows::REFUSED_ACTIONS)?;
-    are_refused(
-        &rt,
-        rt.alloc(),
-        Kind::Instructions,
-        rows::REFUSED_INSTRUCTIONS,
-    )
+fn actions_in(alloc: Global, words: &str, is_packet_out: bool) -> Result<ActionList, Fail> {
+    Ok(read_actions(alloc, &bytes_of(alloc, words)?, is_packet_out)?)
 }
 
-/// The actions of a PACKET_OUT.
-fn actions_in(alloc: Global, words: &str) -> Result<ActionList, Fail> {
-    Ok(read_actions(alloc, &bytes_of(alloc, words)?, true)?)
+/// The instructions of an entry of table 3.
+fn instructions_in(alloc: Global, words: &str) -> Result<InstructionList, Fail> {
+    Ok(read_instructions(alloc, &bytes_of(alloc, words)?, 3)?)
 }
 
-fn instructions_in(alloc: Global, words: &str, table: u8) -> Result<InstructionList, Fail> {
-    Ok(read_instructions(alloc, &bytes_of(alloc, words)?, table)?)
+fn actions_copied(alloc: Global, list: &ActionList) -> Result<Vec<u8>, Fail> {
+    Ok(write_actions(alloc, &list.copy()?)?)
 }
 
-/// What is written of the list that is read from these bytes.
+fn instructions_copied(alloc: Global, list: &InstructionList) -> Result<Vec<u8>, Fail> {
+    Ok(write_instructions(alloc, &list.copy()?)?)
+}
+
+/// What is written of a copy of the list that is read from these bytes.
 fn rewritten(alloc: Global, kind: Kind, words: &str) -> Result<Vec<u8>, Fail> {
     match kind {
-        Kind::Instructions => {
-            let list = instructions_in(alloc, words, 3)?;
-            Ok(write_instructions(alloc, &list)?)
-        }
-        _ => Ok(write_actions(alloc, &actions_in(alloc, words)?)?),
+        Kind::Instructions => instructions_copied(alloc, &instructions_in(alloc, words)?),
+        _ => actions_copied(alloc, &actions_in(alloc, words, true)?),
     }
 }
 
@@ -54,7 +48,7 @@ fn is_rewritten(
     is_written(rt, alloc, &rewritten(alloc, kind, bytes)?, wanted)
 }
 
-/// Asserts of each row what is written of the list that is read from its bytes.
+/// Asserts of each row what is written of a copy of the list that is read from its bytes.
 fn are_written(rt: &impl Abort, alloc: Global, kind: Kind, text: &str) -> Result<(), Fail> {
     for line in text.lines() {
         if let Some(row) = sides(line)? {
@@ -73,27 +67,6 @@ fn written(rt: HostRuntime) -> Result<(), Fail> {
         Kind::Instructions,
         rows::WRITTEN_INSTRUCTIONS,
     )
-}
-
-const OUTPUT: Action = Action::Output {
-    port: 2,
-    max_len: 0,
-};
-
-/// What is written of a copy of a list.
-fn instructions_copied(alloc: Global, list: &InstructionList) -> Result<Vec<u8>, Fail> {
-    Ok(write_instructions(alloc, &list.copy()?)?)
-}
-
-fn is_one_output(rt: &impl Abort, alloc: Global, list: &InstructionList) -> Result<(), Fail> {
-    same(rt, rows::APPLY, &applies(list.as_slice(), &[OUTPUT]), &true);
-    is_written(rt, alloc, &instructions_copied(alloc, list)?, rows::APPLY)
-}
-
-#[test]
-fn apply_of_one_output(rt: HostRuntime) -> Result<(), Fail> {
-    let list = instructions_in(rt.alloc(), rows::APPLY, 0)?;
-    is_one_output(&rt, rt.alloc(), &list)
 }
 
 /// Whether there is one instruction, which applies these actions.
@@ -115,7 +88,8 @@ fn made_actions(alloc: Global) -> Result<ActionList, Fail> {
 
 /// Asserts that these bytes are read as those actions.
 fn are_read(rt: &impl Abort, alloc: Global, words: &str, wanted: &[Action]) -> Result<(), Fail> {
-    same(rt, words, &actions_in(alloc, words)?.as_slice(), &wanted);
+    let list = actions_in(alloc, words, true)?;
+    same(rt, words, &list.as_slice(), &wanted);
     Ok(())
 }
 
@@ -133,19 +107,10 @@ fn made_list_of_actions(rt: HostRuntime) -> Result<(), Fail> {
     are_read(&rt, rt.alloc(), rows::OUTPUT_TO_TABLE, actions.as_slice())
 }
 
-/// Asserts with which code of `OFPET_BAD_ACTION` these actions of an entry are refused.
-fn is_bad_action(rt: &impl Abort, alloc: Global, bytes: &[u8], code: u16) {
-    let refusal = code_of(read_actions(alloc, bytes, false));
-    same(rt, "actions", &refusal, &Some(Code { kind: 2, code }));
-}
-
 #[test]
-fn output_to_table(rt: HostRuntime) -> Result<(), Fail> {
-    let bytes = bytes_of(rt.alloc(), rows::OUTPUT_TO_TABLE)?;
-    is_bad_action(&rt, rt.alloc(), &bytes, 4);
-    let numbers = (is_number(OFPP_MAX), is_number(0));
-    same(&rt, "numbers of ports", &numbers, &(true, false));
-    Ok(())
+fn numbers_of_ports(rt: HostRuntime) {
+    assert!(rt; is_number(OFPP_MAX));
+    assert!(rt; !is_number(0));
 }
 
 fn made_instructions(alloc: Global) -> Result<InstructionList, Fail> {
@@ -184,25 +149,16 @@ const EACH_ACTION: [Action; 7] = [
     },
 ];
 
-/// What is written of a copy of a list.
-fn actions_copied(alloc: Global, list: &ActionList) -> Result<Vec<u8>, Fail> {
-    Ok(write_actions(alloc, &list.copy()?)?)
-}
-
-/// The actions of an entry.
-fn entry_actions(alloc: Global, words: &str) -> Result<ActionList, Fail> {
-    Ok(read_actions(alloc, &bytes_of(alloc, words)?, false)?)
-}
-
-fn are_each(rt: &impl Abort, alloc: Global, list: &ActionList) -> Result<(), Fail> {
-    same(rt, "each action", &list.as_slice(), &EACH_ACTION.as_slice());
-    is_written(rt, alloc, &actions_copied(alloc, list)?, rows::EACH_ACTION)
-}
-
 #[test]
 fn each_action(rt: HostRuntime) -> Result<(), Fail> {
-    let list = entry_actions(rt.alloc(), rows::EACH_ACTION)?;
-    are_each(&rt, rt.alloc(), &list)
+    let list = actions_in(rt.alloc(), rows::EACH_ACTION, false)?;
+    same(
+        &rt,
+        "each action",
+        &list.as_slice(),
+        &EACH_ACTION.as_slice(),
+    );
+    Ok(())
 }
 
 /// 64 actions.
@@ -224,7 +180,13 @@ fn too_many_actions(rt: HostRuntime) -> Result<(), Fail> {
     let mut bytes = most_actions(rt.alloc())?;
     same(&rt, "64 actions", &action_count(rt.alloc(), &bytes)?, &64);
     bytes.push(0)?;
-    is_bad_action(&rt, rt.alloc(), &bytes, 7);
+    let refusal = code_of(read_actions(rt.alloc(), &bytes, false));
+    same(
+        &rt,
+        "a byte more",
+        &refusal,
+        &Some(Code { kind: 2, code: 7 }),
+    );
     Ok(())
 }
 
@@ -249,6 +211,6 @@ fn checks(rt: &impl Abort, alloc: Global, list: &InstructionList) -> Result<(), 
 
 #[test]
 fn flow_check(rt: HostRuntime) -> Result<(), Fail> {
-    let list = instructions_in(rt.alloc(), rows::SET_UDP_DST, 0)?;
+    let list = instructions_in(rt.alloc(), rows::SET_UDP_DST)?;
     checks(&rt, rt.alloc(), &list)
 }

@@ -1,4 +1,4 @@
-use crate::checks::{Kind, are_read, are_refused, is_written, same};
+use crate::checks::{is_written, same};
 use of_messages::{
     AsyncMasks, MessageBytes, Role, RoleMasks, SwitchConfig, agreed_version, write_async_reply,
     write_config_reply, write_features_reply, write_role_reply,
@@ -8,7 +8,7 @@ use std::alloc::{AllocError, Global};
 use std::process::Abort;
 use std::test::Fail;
 
-mod rows;
+pub(crate) mod rows;
 
 /// The version to which a HELLO agrees.
 fn agreed(rt: &impl Abort, alloc: Global, words: &str) -> Result<u8, Fail> {
@@ -31,17 +31,6 @@ fn hellos(rt: HostRuntime) -> Result<(), Fail> {
         }
     }
     Ok(())
-}
-
-#[test]
-fn refused(rt: HostRuntime) -> Result<(), Fail> {
-    are_refused(&rt, rt.alloc(), Kind::Message, rows::REFUSED)?;
-    are_refused(&rt, rt.alloc(), Kind::OfSlave, rows::REFUSED_SLAVE)
-}
-
-#[test]
-fn read(rt: HostRuntime) -> Result<(), Fail> {
-    are_read(&rt, rt.alloc(), Kind::OfMaster, rows::READ)
 }
 
 const MASKS: AsyncMasks = AsyncMasks {

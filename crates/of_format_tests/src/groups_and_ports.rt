@@ -1,5 +1,4 @@
-use crate::checks::{Kind, are_read, are_refused, is_written, same};
-use crate::shown::{Shown, is_shown};
+use crate::checks::{is_written, same};
 use of_actions::Action;
 use of_groups::{Bucket, GroupKind};
 use of_messages::{
@@ -10,12 +9,7 @@ use std::alloc::Global;
 use std::process::Abort;
 use std::test::Fail;
 
-mod rows;
-
-#[test]
-fn refused(rt: HostRuntime) -> Result<(), Fail> {
-    are_refused(&rt, rt.alloc(), Kind::Message, rows::REFUSED)
-}
+pub(crate) mod rows;
 
 /// A bucket with one action.
 struct WantedBucket {
@@ -81,16 +75,6 @@ pub(crate) fn is_add(rt: &impl Abort, alloc: Global, message: &Message) -> Resul
     }
 }
 
-#[test]
-fn add_of_two_buckets(rt: HostRuntime) -> Result<(), Fail> {
-    is_shown(&rt, rt.alloc(), rows::ADD, Shown::Add)
-}
-
-#[test]
-fn modify_and_delete(rt: HostRuntime) -> Result<(), Fail> {
-    are_read(&rt, rt.alloc(), Kind::Message, rows::READ)
-}
-
 const WANTED_PORT_MOD: PortMod = PortMod {
     port: 2,
     hw: [2, 0, 0, 0, 0, 0xa2],
@@ -106,11 +90,6 @@ pub(crate) fn is_port_mod(rt: &impl Abort, message: &Message) -> Result<(), Fail
         }
         _ => Err("a PORT_MOD".into()),
     }
-}
-
-#[test]
-fn port_mod(rt: HostRuntime) -> Result<(), Fail> {
-    is_shown(&rt, rt.alloc(), rows::PORT_MOD, Shown::PortMod)
 }
 
 #[test]

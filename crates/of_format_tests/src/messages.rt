@@ -1,6 +1,5 @@
 use crate::actions::applies;
-use crate::checks::{Kind, are_read, are_refused, is_written, same};
-use crate::shown::{Shown, is_shown};
+use crate::checks::{is_written, same};
 use of_actions::Action;
 use of_messages::{
     FlowMod, FlowRemoved, FlowRemovedReason, Message, MessageBytes, PacketData, PacketIn,
@@ -13,17 +12,7 @@ use std::alloc::{AllocError, Global};
 use std::process::Abort;
 use std::test::Fail;
 
-mod rows;
-
-#[test]
-fn read(rt: HostRuntime) -> Result<(), Fail> {
-    are_read(&rt, rt.alloc(), Kind::Message, rows::READ)
-}
-
-#[test]
-fn refused(rt: HostRuntime) -> Result<(), Fail> {
-    are_refused(&rt, rt.alloc(), Kind::Message, rows::REFUSED)
-}
+pub(crate) mod rows;
 
 #[test]
 fn older_version(rt: HostRuntime) {
@@ -144,11 +133,6 @@ pub(crate) fn is_flow_mod(rt: &impl Abort, message: &Message) -> Result<(), Fail
     }
 }
 
-#[test]
-fn flow_mod(rt: HostRuntime) -> Result<(), Fail> {
-    is_shown(&rt, rt.alloc(), rows::FLOW_MOD, Shown::FlowMod)
-}
-
 const REMOVED: FlowRemoved = FlowRemoved {
     cookie: 0x0102_0304_0506_0708,
     priority: 100,
@@ -204,22 +188,4 @@ pub(crate) fn is_packet_out(
         }
         _ => Err("a PACKET_OUT".into()),
     }
-}
-
-#[test]
-fn packet_out(rt: HostRuntime) -> Result<(), Fail> {
-    let shown = Shown::PacketOut(1, None);
-    is_shown(&rt, rt.alloc(), rows::PACKET_OUT, shown)
-}
-
-#[test]
-fn packet_out_of_a_buffer(rt: HostRuntime) -> Result<(), Fail> {
-    let shown = Shown::PacketOut(0xffff_fffd, Some(3));
-    is_shown(&rt, rt.alloc(), rows::PACKET_OUT_BUFFERED, shown)
-}
-
-#[test]
-fn what_follows_the_actions_of_a_buffer(rt: HostRuntime) -> Result<(), Fail> {
-    let shown = Shown::PacketOut(0xffff_fffd, Some(3));
-    is_shown(&rt, rt.alloc(), rows::PACKET_OUT_BUFFERED_AND_MORE, shown)
 }

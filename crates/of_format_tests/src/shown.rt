@@ -1,7 +1,7 @@
 //! Messages whose parts a test looks at, each by its bytes.
 use crate::checks::{Kind, message_of};
-use crate::groups_and_ports::{is_add, is_port_mod};
-use crate::messages::{is_flow_mod, is_packet_out};
+use crate::groups_and_ports::{self, is_add, is_port_mod};
+use crate::messages::{self, is_flow_mod, is_packet_out};
 use of_messages::Message;
 use std::alloc::Global;
 use std::process::Abort;
@@ -9,7 +9,7 @@ use std::test::Fail;
 
 /// What a message is.
 #[derive(Clone, Copy)]
-pub(crate) enum Shown {
+enum Shown {
     FlowMod,
     Add,
     PortMod,
@@ -26,13 +26,30 @@ fn shows(rt: &impl Abort, alloc: Global, message: &Message, shown: Shown) -> Res
     }
 }
 
-/// Asserts what the message of these bytes is.
-pub(crate) fn is_shown(
-    rt: &impl Abort,
-    alloc: Global,
-    words: &str,
-    shown: Shown,
-) -> Result<(), Fail> {
+fn is_shown(rt: &impl Abort, alloc: Global, words: &str, shown: Shown) -> Result<(), Fail> {
     let message = message_of(alloc, Kind::Message, words)?;
     shows(rt, alloc, &message, shown)
+}
+
+const SHOWN: &[(&str, Shown)] = &[
+    (messages::rows::FLOW_MOD, Shown::FlowMod),
+    (messages::rows::PACKET_OUT, Shown::PacketOut(1, None)),
+    (
+        messages::rows::PACKET_OUT_BUFFERED,
+        Shown::PacketOut(0xffff_fffd, Some(3)),
+    ),
+    (
+        messages::rows::PACKET_OUT_BUFFERED_AND_MORE,
+        Shown::PacketOut(0xffff_fffd, Some(3)),
+    ),
+    (groups_and_ports::rows::ADD, Shown::Add),
+    (groups_and_ports::rows::PORT_MOD, Shown::PortMod),
+];
+
+#[test]
+fn parts(rt: HostRuntime) -> Result<(), Fail> {
+    for (words, shown) in SHOWN {
+        is_shown(&rt, rt.alloc(), words, *shown)?;
+    }
+    Ok(())
 }
