@@ -1,11 +1,11 @@
-use crate::checks::{Kind, code_of, is_written, same};
+use crate::checks::{code_of, is_written, same};
 use of_actions::{
     Action, ActionList, Instruction, InstructionList, check_flow, is_number, read_actions,
     read_instructions, write_actions, write_instructions,
 };
 use of_layers::Field;
 use of_oxm::read_match;
-use of_test_rows::{bytes_of, sides};
+use of_test_rows::bytes_of;
 use of_wire::Code;
 use of_wire::limits::{OFPP_MAX, OFPP_TABLE};
 use std::alloc::Global;
@@ -23,50 +23,15 @@ fn instructions_in(alloc: Global, words: &str) -> Result<InstructionList, Fail> 
     Ok(read_instructions(alloc, &bytes_of(alloc, words)?, 3)?)
 }
 
-fn actions_copied(alloc: Global, list: &ActionList) -> Result<Vec<u8>, Fail> {
+/// What is written of a copy of the list that is read from these bytes.
+pub(crate) fn actions_again(alloc: Global, words: &str) -> Result<Vec<u8>, Fail> {
+    let list = actions_in(alloc, words, true)?;
     Ok(write_actions(alloc, &list.copy()?)?)
 }
 
-fn instructions_copied(alloc: Global, list: &InstructionList) -> Result<Vec<u8>, Fail> {
+pub(crate) fn instructions_again(alloc: Global, words: &str) -> Result<Vec<u8>, Fail> {
+    let list = instructions_in(alloc, words)?;
     Ok(write_instructions(alloc, &list.copy()?)?)
-}
-
-/// What is written of a copy of the list that is read from these bytes.
-fn rewritten(alloc: Global, kind: Kind, words: &str) -> Result<Vec<u8>, Fail> {
-    match kind {
-        Kind::Instructions => instructions_copied(alloc, &instructions_in(alloc, words)?),
-        _ => actions_copied(alloc, &actions_in(alloc, words, true)?),
-    }
-}
-
-fn is_rewritten(
-    rt: &impl Abort,
-    alloc: Global,
-    kind: Kind,
-    (bytes, wanted): (&str, &str),
-) -> Result<(), Fail> {
-    is_written(rt, alloc, &rewritten(alloc, kind, bytes)?, wanted)
-}
-
-/// Asserts of each row what is written of a copy of the list that is read from its bytes.
-fn are_written(rt: &impl Abort, alloc: Global, kind: Kind, text: &str) -> Result<(), Fail> {
-    for line in text.lines() {
-        if let Some(row) = sides(line)? {
-            is_rewritten(rt, alloc, kind, row)?;
-        }
-    }
-    Ok(())
-}
-
-#[test]
-fn written(rt: HostRuntime) -> Result<(), Fail> {
-    are_written(&rt, rt.alloc(), Kind::Actions, rows::WRITTEN_ACTIONS)?;
-    are_written(
-        &rt,
-        rt.alloc(),
-        Kind::Instructions,
-        rows::WRITTEN_INSTRUCTIONS,
-    )
 }
 
 /// Whether there is one instruction, which applies these actions.
@@ -86,13 +51,6 @@ fn made_actions(alloc: Global) -> Result<ActionList, Fail> {
     Ok(ActionList::new(actions).ok_or("one action is a list")?)
 }
 
-/// Asserts that these bytes are read as those actions.
-fn are_read(rt: &impl Abort, alloc: Global, words: &str, wanted: &[Action]) -> Result<(), Fail> {
-    let list = actions_in(alloc, words, true)?;
-    same(rt, words, &list.as_slice(), &wanted);
-    Ok(())
-}
-
 fn is_made(rt: &impl Abort, alloc: Global, actions: &ActionList) -> Result<(), Fail> {
     let counts = (actions.len(), actions.is_empty());
     same(rt, "one action", &counts, &(1, false));
@@ -104,7 +62,9 @@ fn is_made(rt: &impl Abort, alloc: Global, actions: &ActionList) -> Result<(), F
 fn made_list_of_actions(rt: HostRuntime) -> Result<(), Fail> {
     let actions = made_actions(rt.alloc())?;
     is_made(&rt, rt.alloc(), &actions)?;
-    are_read(&rt, rt.alloc(), rows::OUTPUT_TO_TABLE, actions.as_slice())
+    let read = actions_in(rt.alloc(), rows::OUTPUT_TO_TABLE, true)?;
+    same(&rt, "as it is read", &read.as_slice(), &actions.as_slice());
+    Ok(())
 }
 
 #[test]
@@ -170,15 +130,11 @@ fn most_actions(alloc: Global) -> Result<Vec<u8>, Fail> {
     Ok(bytes)
 }
 
-/// How many actions of an entry these bytes are.
-fn action_count(alloc: Global, bytes: &[u8]) -> Result<usize, Fail> {
-    Ok(read_actions(alloc, bytes, false)?.len())
-}
-
 #[test]
 fn too_many_actions(rt: HostRuntime) -> Result<(), Fail> {
     let mut bytes = most_actions(rt.alloc())?;
-    same(&rt, "64 actions", &action_count(rt.alloc(), &bytes)?, &64);
+    let list = read_actions(rt.alloc(), &bytes, false)?;
+    same(&rt, "64 actions", &list.len(), &64);
     bytes.push(0)?;
     let refusal = code_of(read_actions(rt.alloc(), &bytes, false));
     same(
@@ -200,17 +156,13 @@ fn flow_check_of(
     Ok(check_flow(&fields, list.as_slice()).err())
 }
 
-fn checks(rt: &impl Abort, alloc: Global, list: &InstructionList) -> Result<(), Fail> {
-    let inconsistent = Some(Code { kind: 2, code: 10 });
-    let of_ip = flow_check_of(alloc, rows::MATCH_OF_IP, list)?;
-    same(rt, "with a match of IP", &of_ip, &inconsistent);
-    let of_udp = flow_check_of(alloc, rows::MATCH_OF_UDP, list)?;
-    same(rt, "with a match of UDP", &of_udp, &None);
-    Ok(())
-}
-
 #[test]
 fn flow_check(rt: HostRuntime) -> Result<(), Fail> {
     let list = instructions_in(rt.alloc(), rows::SET_UDP_DST)?;
-    checks(&rt, rt.alloc(), &list)
+    let inconsistent = Some(Code { kind: 2, code: 10 });
+    let of_ip = flow_check_of(rt.alloc(), rows::MATCH_OF_IP, &list)?;
+    same(&rt, "with a match of IP", &of_ip, &inconsistent);
+    let of_udp = flow_check_of(rt.alloc(), rows::MATCH_OF_UDP, &list)?;
+    same(&rt, "with a match of UDP", &of_udp, &None);
+    Ok(())
 }

@@ -95,17 +95,13 @@ fn made(alloc: Global, how: How, rows: &str) -> Result<Result<Config, ConfigFaul
     }
 }
 
-fn text_of(alloc: Global, how: How, rows: &str) -> Result<Vec<u8>, Fail> {
-    let config = made(alloc, how, rows)?.ok().ok_or("a configuration")?;
-    Ok(disassemble(alloc, &config)?)
-}
-
 fn is_made(
     rt: &impl Abort,
     alloc: Global,
     (how, rows, text): &(How, &str, &[u8]),
 ) -> Result<(), Fail> {
-    let found = text_of(alloc, *how, rows)?;
+    let config = made(alloc, *how, rows)?.ok().ok_or("a configuration")?;
+    let found = disassemble(alloc, &config)?;
     same(rt, rows, &found.as_slice(), text);
     Ok(())
 }

@@ -1,8 +1,9 @@
 //! Messages whose parts a test looks at, each by its bytes.
-use crate::checks::{Kind, message_of};
-use crate::groups_and_ports::{self, is_add, is_port_mod};
-use crate::messages::{self, is_flow_mod, is_packet_out};
-use of_messages::Message;
+use crate::checks::same;
+use crate::groups_and_ports::{self, WANTED_PORT_MOD, is_added};
+use crate::messages::{self, brings, goes_to_tables, sends_on};
+use of_messages::{GroupMod, Message, read_message};
+use of_test_rows::bytes_of;
 use std::alloc::Global;
 use std::process::Abort;
 use std::test::Fail;
@@ -18,16 +19,23 @@ enum Shown {
 }
 
 fn shows(rt: &impl Abort, alloc: Global, message: &Message, shown: Shown) -> Result<(), Fail> {
-    match shown {
-        Shown::FlowMod => is_flow_mod(rt, message),
-        Shown::Add => is_add(rt, alloc, message),
-        Shown::PortMod => is_port_mod(rt, message),
-        Shown::PacketOut(port, buffer) => is_packet_out(rt, message, port, buffer),
+    match (shown, message) {
+        (Shown::FlowMod, Message::FlowMod(flow_mod)) => sends_on(rt, flow_mod),
+        (Shown::Add, Message::GroupMod(GroupMod::Add(group))) => is_added(rt, alloc, group)?,
+        (Shown::PortMod, Message::PortMod(found)) => {
+            same(rt, "a PORT_MOD", found, &WANTED_PORT_MOD);
+        }
+        (Shown::PacketOut(port, buffer), Message::PacketOut(packet_out)) => {
+            goes_to_tables(rt, packet_out, port);
+            brings(rt, &packet_out.packet, buffer);
+        }
+        _ => return Err("another message".into()),
     }
+    Ok(())
 }
 
 fn is_shown(rt: &impl Abort, alloc: Global, words: &str, shown: Shown) -> Result<(), Fail> {
-    let message = message_of(alloc, Kind::Message, words)?;
+    let message = read_message(alloc, &bytes_of(alloc, words)?)?;
     shows(rt, alloc, &message, shown)
 }
 
