@@ -7,6 +7,7 @@ use of_replay::memory::{MemorySink, MemorySource};
 use of_switch::Switch;
 use of_text::assemble;
 use std::alloc::Global;
+use std::process::Abort;
 use std::test::Fail;
 
 /// How the running switch looks entries up.
@@ -60,13 +61,18 @@ fn is_open(alloc: Global, switch: &Switch<Scan>, entry: usize, steps: usize) -> 
     Ok(matches!(verdict, Verdict::Open))
 }
 
+// The third entry is covered without any step, and two steps are too few for the fourth.
+fn has_verdicts(rt: &impl Abort, alloc: Global, switch: &mut Switch<Scan>) -> Result<(), Fail> {
+    load(alloc, switch, TOGETHER)?;
+    same(rt, "never", &is_never(alloc, switch, 2, 0)?, &true);
+    same(rt, "open", &is_open(alloc, switch, 3, 2)?, &true);
+    Ok(())
+}
+
 #[test]
 fn too_few_steps(rt: HostRuntime) -> Result<(), Fail> {
     let mut switch = Switch::<Scan>::new(rt.alloc(), 1)?;
-    load(rt.alloc(), &mut switch, TOGETHER)?;
-    assert!(rt; is_never(rt.alloc(), &switch, 2, 0)?);
-    assert!(rt; is_open(rt.alloc(), &switch, 3, 2)?);
-    Ok(())
+    has_verdicts(&rt, rt.alloc(), &mut switch)
 }
 
 const PACKET: &[u8] = b"flow 0 0 never: 0 1

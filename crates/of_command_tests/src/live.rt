@@ -123,15 +123,11 @@ fn text_of(alloc: Global, network: &MemoryNetwork) -> Result<Vec<u8>, Fail> {
     Ok(text)
 }
 
-// The switch runs for so many turns on that network.
-fn run(alloc: Global, taking: Taking, turns: u64) -> Result<(Ended, MemoryNetwork), Fail> {
-    let lines = script(alloc)?;
+// A switch with the ports.
+fn switched(alloc: Global) -> Result<Live<Lookups>, Fail> {
     let events = rows(alloc)?;
     let switch = Switch::<Lookups>::new(alloc, 1)?;
-    let mut network = MemoryNetwork::new(alloc, lines, taking);
-    let mut state = Live::new(alloc, switch, events, Vec::new(alloc));
-    let ended = live(alloc, &mut state, &mut network, turns);
-    Ok((ended, network))
+    Ok(Live::new(alloc, switch, events, Vec::new(alloc)))
 }
 
 const ALL: Taking = Taking {
@@ -141,30 +137,38 @@ const ALL: Taking = Taking {
     log_fails: false,
 };
 
-// What passes is this.
+fn network_of(alloc: Global, taking: Taking) -> Result<MemoryNetwork, Fail> {
+    Ok(MemoryNetwork::new(alloc, script(alloc)?, taking))
+}
+
+// The switch runs for so many turns on that network.
+fn run(alloc: Global, network: &mut MemoryNetwork, turns: u64) -> Result<Ended, Fail> {
+    let mut state = switched(alloc)?;
+    Ok(live(alloc, &mut state, network, turns))
+}
+
 fn passes(
     rt: &impl Abort,
     alloc: Global,
-    network: &MemoryNetwork,
-    wanted: &[u8],
+    network: &mut MemoryNetwork,
+    (turns, ended): &(u64, Ended),
 ) -> Result<(), Fail> {
+    same(rt, "its end", &run(alloc, network, *turns)?, ended);
     let text = text_of(alloc, network)?;
-    same(rt, "what passes", &text.as_slice(), &wanted);
+    same(rt, "what passes", &text.as_slice(), &PASSED);
     Ok(())
 }
 
-#[test]
-fn frames_pass(rt: HostRuntime) -> Result<(), Fail> {
-    let (ended, network) = run(rt.alloc(), ALL, 8)?;
-    same(&rt, "its end", &ended, &Ended::Done);
-    passes(&rt, rt.alloc(), &network, PASSED)
-}
+// The network tells eight lines, and then fails.
+const ENDS: &[(u64, Ended)] = &[(8, Ended::Done), (9, Ended::ReadFault)];
 
 #[test]
-fn the_network_fails(rt: HostRuntime) -> Result<(), Fail> {
-    let (ended, network) = run(rt.alloc(), ALL, 9)?;
-    same(&rt, "its end", &ended, &Ended::ReadFault);
-    passes(&rt, rt.alloc(), &network, PASSED)
+fn frames_pass(rt: HostRuntime) -> Result<(), Fail> {
+    for end in ENDS {
+        let mut network = network_of(rt.alloc(), ALL)?;
+        passes(&rt, rt.alloc(), &mut network, end)?;
+    }
+    Ok(())
 }
 
 #[test]
@@ -173,7 +177,8 @@ fn the_log_fails(rt: HostRuntime) -> Result<(), Fail> {
         log_fails: true,
         ..ALL
     };
-    let (ended, network) = run(rt.alloc(), taking, 8)?;
+    let mut network = network_of(rt.alloc(), taking)?;
+    let ended = run(rt.alloc(), &mut network, 8)?;
     same(&rt, "its end", &ended, &Ended::WriteFault);
     same(&rt, "what passes", &network.passed.len(), &2);
     Ok(())
