@@ -1,6 +1,5 @@
-//! Questions in an event file, and messages in words.
+//! Rows that are printed or come while a switch runs, and messages in words.
 use crate::checks::same;
-use of_asking::Answering;
 use of_cache::Cached;
 use of_explain::say_messages;
 use of_live::{RunningRow, read_running_row};
@@ -13,56 +12,6 @@ use std::test::Fail;
 
 /// How the running switch looks entries up.
 type Lookups = Cached<MaskGroups>;
-
-/// Two ports, HELLO, a FLOW_MOD that adds a flow of priority 10 for IN_PORT 1, with APPLY of OUTPUT 2 (OpenFlow 1.3.5, 7.3.4.1), and questions.
-const EVENTS: &[u8] = b"port add 1 020000000001 p1 up
-port add 2 020000000002 p2 up
-#? mark
-connect
-c 0400000800000001
-c 040e00580000000200000000000000000000000000000000000000000000000affffffffffffffffffffffff000000000001000c800000040000000100000000000400180000000000000010000000020000000000000000
-# no question
-#? flows
-#? trace 1 02000000000202000000000188b5
-#? frame 1 02000000000202000000000188b5
-#? trace 1
-#? flow
-";
-
-const PRINTED: &[u8] = b"?
-a 04000010000000000001000800000010
-flow 0 10 0x0000000000000000 0 0 0
-match in_port 0x00000001
-apply
-output 2 0
-?
-lookup 0 entry 0
-apply
-output 2 0
-set
-end
-s 2 02000000000202000000000188b5
-?
-    in by port 1, 14 bytes
-    table 0: entry 0
-    sent out of port 2, 14 bytes
-?
-unknown question
-?
-unknown question
-?
-";
-
-#[test]
-fn questions_are_answered(rt: HostRuntime) -> Result<(), Fail> {
-    let mut source = MemorySource::new(rt.alloc(), EVENTS, 100, 0)?;
-    let mut sink = MemorySink::new(rt.alloc(), 65_536, 0);
-    let rows = Answering { rows: Plain };
-    let ended = print_file::<Lookups, _, _, _>(rt.alloc(), 1, 1000, &rows, &mut source, &mut sink);
-    same(&rt, "its end", &ended, &Ended::Done);
-    same(&rt, "what it prints", &sink.bytes(), &PRINTED);
-    Ok(())
-}
 
 #[test]
 fn reads_are_counted(rt: HostRuntime) -> Result<(), Fail> {
