@@ -1,5 +1,5 @@
-//! Questions in an event file, and messages in words.
-use of_asking::Answering;
+//! Rows that are printed or come while a switch runs, and messages in words.
+use crate::checks::same;
 use of_cache::Cached;
 use of_explain::say_messages;
 use of_mask_groups::MaskGroups;
@@ -7,72 +7,20 @@ use of_network::{RunningRow, read_running_row};
 use of_replay::memory::{MemorySink, MemorySource};
 use of_replay::{Ended, Plain, print_file};
 use of_switch::{Event, PortChange};
-use std::process::Abort;
+use std::alloc::Global;
 use std::test::Fail;
 
 /// How the running switch looks entries up.
 type Lookups = Cached<MaskGroups>;
-
-/// Two ports, HELLO, a FLOW_MOD that adds a flow of priority 10 for IN_PORT 1, with APPLY of OUTPUT 2 (OpenFlow 1.3.5, 7.3.4.1), and questions.
-const EVENTS: &[u8] = b"port add 1 020000000001 p1 up
-port add 2 020000000002 p2 up
-#? mark
-connect
-c 0400000800000001
-c 040e00580000000200000000000000000000000000000000000000000000000affffffffffffffffffffffff000000000001000c800000040000000100000000000400180000000000000010000000020000000000000000
-# no question
-#? flows
-#? trace 1 02000000000202000000000188b5
-#? frame 1 02000000000202000000000188b5
-#? trace 1
-#? flow
-";
-
-const PRINTED: &[u8] = b"?
-a 04000010000000000001000800000010
-flow 0 10 0x0000000000000000 0 0 0
-match in_port 0x00000001
-apply
-output 2 0
-?
-lookup 0 entry 0
-apply
-output 2 0
-set
-end
-s 2 02000000000202000000000188b5
-?
-    in by port 1, 14 bytes
-    table 0: entry 0
-    sent out of port 2, 14 bytes
-?
-unknown question
-?
-unknown question
-?
-";
-
-#[test]
-fn questions_are_answered(rt: HostRuntime) -> Result<(), Fail> {
-    let mut source = MemorySource::new(rt.alloc(), EVENTS, 100, 0)?;
-    let mut sink = MemorySink::new(rt.alloc(), 65_536, 0);
-    let rows = Answering { rows: Plain };
-    let ended = print_file::<Lookups, _, _, _>(rt.alloc(), 1, 1000, &rows, &mut source, &mut sink);
-    assert_eq!(rt; ended, Ended::Done);
-    assert_eq!(rt; sink.bytes(), PRINTED);
-    Ok(())
-}
 
 #[test]
 fn reads_are_counted(rt: HostRuntime) -> Result<(), Fail> {
     let mut source = MemorySource::new(rt.alloc(), b"connect\nlost\nconnect\n", 8, 0)?;
     let mut sink = MemorySink::new(rt.alloc(), 65_536, 0);
     let ended = print_file::<Lookups, _, _, _>(rt.alloc(), 1, 1, &Plain, &mut source, &mut sink);
-    assert_eq!(rt; ended, Ended::ReadFault);
-    assert_eq!(rt;
-        sink.bytes(),
-        b"a 04000010000000000001000800000010\n".as_slice()
-    );
+    same(&rt, "its end", &ended, &Ended::ReadFault);
+    let greeting: &[u8] = b"a 04000010000000000001000800000010\n";
+    same(&rt, "what it prints", &sink.bytes(), &greeting);
     Ok(())
 }
 
@@ -85,28 +33,31 @@ const HELLOS: [u8; 25] = [
 fn messages_are_said(rt: HostRuntime) -> Result<(), Fail> {
     let mut text = Vec::new(rt.alloc());
     let left = say_messages(rt.alloc(), &mut text, &HELLOS)?;
-    assert_eq!(rt; left, 1);
-    assert_eq!(rt;
-        text.as_slice(),
-        b"HELLO xid 1, 8 bytes\nHELLO xid 16, 16 bytes\n".as_slice()
-    );
+    same(&rt, "bytes that are left", &left, &1);
+    let lines: &[u8] = b"HELLO xid 1, 8 bytes\nHELLO xid 16, 16 bytes\n";
+    same(&rt, "the messages", &text.as_slice(), &lines);
     Ok(())
+}
+
+fn running_row(alloc: Global, line: &[u8]) -> Result<RunningRow, Fail> {
+    let mut frame = Vec::new(alloc);
+    Ok(read_running_row(alloc, line, &mut frame)?)
+}
+
+fn is_link_down(row: &RunningRow) -> bool {
+    matches!(
+        row,
+        RunningRow::Happens(Event::Ports(PortChange::Link {
+            number: 3,
+            up: false
+        }))
+    )
 }
 
 #[test]
 fn rows_come_while_it_runs(rt: HostRuntime) -> Result<(), Fail> {
-    let mut frame = Vec::new(rt.alloc());
-    let row = read_running_row(rt.alloc(), b"port link 3 down", &mut frame)?;
-    assert!(rt;
-        matches!(
-            row,
-            RunningRow::Happens(Event::Ports(PortChange::Link {
-                number: 3,
-                up: false
-            }))
-        )
-    );
-    let row = read_running_row(rt.alloc(), b"t 5", &mut frame)?;
+    assert!(rt; is_link_down(&running_row(rt.alloc(), b"port link 3 down")?));
+    let row = running_row(rt.alloc(), b"t 5")?;
     assert!(rt; matches!(row, RunningRow::Bad));
     Ok(())
 }

@@ -1,4 +1,5 @@
 //! What calls of sockets and files mean, and the pauses between calls that nobody answers.
+use crate::checks::same;
 use of_cache::Cached;
 use of_calls::{
     Ending, Pauses, Refusals, RefusedRow, ended_unopened, ending_of, is_nobody, read_rows,
@@ -8,6 +9,7 @@ use of_mask_groups::MaskGroups;
 use of_replay::memory::MemorySource;
 use of_replay::{Ended, Reading};
 use of_switch::SwitchError;
+use std::alloc::Global;
 use std::io::{self, ErrorKind, Write};
 use std::process::Abort;
 use std::test::Fail;
@@ -18,12 +20,12 @@ type Lookups = Cached<MaskGroups>;
 // The pauses in turn.
 fn are_pauses(rt: &impl Abort, pauses: &mut Pauses, wanted: &[u64]) {
     for pause in wanted {
-        assert_eq!(rt; pauses.next(), *pause);
+        same(rt, "a pause", &pauses.next(), pause);
     }
 }
 
 #[test]
-fn pauses_double_up_to_five_seconds(rt: HostRuntime) -> Result<(), Fail> {
+fn pauses_double_up_to_five_seconds(rt: HostRuntime) {
     let mut pauses = Pauses::new();
     are_pauses(
         &rt,
@@ -32,7 +34,6 @@ fn pauses_double_up_to_five_seconds(rt: HostRuntime) -> Result<(), Fail> {
     );
     pauses.reset();
     are_pauses(&rt, &mut pauses, &[100, 200]);
-    Ok(())
 }
 
 /// Takes two bytes, after this many calls that fail so.
@@ -61,21 +62,16 @@ fn written(calls: u32, kind: ErrorKind) -> Result<usize, Ending> {
 }
 
 #[test]
-fn writes_that_are_interrupted_are_made_again(rt: HostRuntime) -> Result<(), Fail> {
-    assert_eq!(rt; written(3, ErrorKind::Interrupted).ok(), Some(2));
-    assert_eq!(rt;
-        written(1, ErrorKind::WouldBlock).err(),
-        Some(Ending::ReadsNothing)
-    );
-    assert_eq!(rt;
-        written(1, ErrorKind::TimedOut).err(),
-        Some(Ending::ReadsNothing)
-    );
-    assert_eq!(rt;
-        written(1, ErrorKind::BrokenPipe).err(),
-        Some(Ending::WriteFailed)
-    );
-    Ok(())
+fn writes_that_are_interrupted_are_made_again(rt: HostRuntime) {
+    let again = written(3, ErrorKind::Interrupted);
+    same(&rt, "interrupted", &again, &Ok(2));
+    for (kind, ending) in [
+        (ErrorKind::WouldBlock, Ending::ReadsNothing),
+        (ErrorKind::TimedOut, Ending::ReadsNothing),
+        (ErrorKind::BrokenPipe, Ending::WriteFailed),
+    ] {
+        same(&rt, "a failed write", &written(1, kind), &Err(ending));
+    }
 }
 
 // What a read that fails so means.
@@ -84,32 +80,36 @@ fn failed(kind: ErrorKind) -> Reading {
 }
 
 #[test]
-fn errors_mean(rt: HostRuntime) -> Result<(), Fail> {
+fn errors_mean(rt: HostRuntime) {
     for kind in [
         ErrorKind::Interrupted,
         ErrorKind::WouldBlock,
         ErrorKind::TimedOut,
     ] {
-        assert_eq!(rt; failed(kind), Reading::Nothing);
+        same(&rt, "a failed read", &failed(kind), &Reading::Nothing);
         assert!(rt; is_nobody(kind));
     }
     assert!(rt; is_nobody(ErrorKind::ConnectionAborted));
     assert!(rt; !is_nobody(ErrorKind::AddrInUse));
-    assert_eq!(rt;
-        ending_of(failed(ErrorKind::ConnectionReset)),
-        Some(Ending::ReadFailed)
-    );
-    assert_eq!(rt; ending_of(reading_of(&Ok(0))), Some(Ending::ByController));
-    assert_eq!(rt; ending_of(reading_of(&Ok(7))), None);
-    assert_eq!(rt; ended_unopened(ErrorKind::OutOfMemory), Ended::NoMemory);
-    for kind in [
-        ErrorKind::NotFound,
-        ErrorKind::PermissionDenied,
-        ErrorKind::NotADirectory,
+    for (reading, ending) in [
+        (failed(ErrorKind::ConnectionReset), Some(Ending::ReadFailed)),
+        (reading_of(&Ok(0)), Some(Ending::ByController)),
+        (reading_of(&Ok(7)), None),
     ] {
-        assert_eq!(rt; ended_unopened(kind), Ended::ReadFault);
+        same(&rt, "a read", &ending_of(reading), &ending);
     }
-    Ok(())
+}
+
+#[test]
+fn files_do_not_open(rt: HostRuntime) {
+    for (kind, ended) in [
+        (ErrorKind::OutOfMemory, Ended::NoMemory),
+        (ErrorKind::NotFound, Ended::ReadFault),
+        (ErrorKind::PermissionDenied, Ended::ReadFault),
+        (ErrorKind::NotADirectory, Ended::ReadFault),
+    ] {
+        same(&rt, "a file", &ended_unopened(kind), &ended);
+    }
 }
 
 /// Rows of which three are refused, the last one behind a moment that is earlier than one before it.
@@ -123,37 +123,49 @@ t 1000
 port link 0 up
 ";
 
-const ROWS: &[RefusedRow] = &[
-    RefusedRow {
-        due: 0,
-        line: 3,
-        why: SwitchError::PortExists,
-    },
-    RefusedRow {
-        due: 2000,
-        line: 6,
-        why: SwitchError::NoSuchPort,
-    },
-    RefusedRow {
-        due: 2000,
-        line: 8,
-        why: SwitchError::BadPortNumber,
-    },
+const THIRD: RefusedRow = RefusedRow {
+    due: 0,
+    line: 3,
+    why: SwitchError::PortExists,
+};
+
+const SIXTH: RefusedRow = RefusedRow {
+    due: 2000,
+    line: 6,
+    why: SwitchError::NoSuchPort,
+};
+
+const EIGHTH: RefusedRow = RefusedRow {
+    due: 2000,
+    line: 8,
+    why: SwitchError::BadPortNumber,
+};
+
+/// Moments, and which row is due then that was not before.
+const DUE: &[(u64, Option<RefusedRow>)] = &[
+    (0, Some(THIRD)),
+    (1999, None),
+    (2000, Some(SIXTH)),
+    (2000, Some(EIGHTH)),
+    (9999, None),
 ];
+
+fn refusals(alloc: Global) -> Result<Refusals, Fail> {
+    let mut file = MemorySource::new(alloc, REFUSED, 50, 0)?;
+    let events = read_rows(alloc, &mut file).ok().ok_or("rows")?;
+    Ok(Refusals::new::<Lookups>(alloc, REFUSED, &events)?)
+}
+
+// The refusals that are due in turn, each with the moment.
+fn are_due(rt: &impl Abort, refusals: &mut Refusals, due: &[(u64, Option<RefusedRow>)]) {
+    for (now, row) in due {
+        same(rt, "a refused row", &refusals.next_due(*now), row);
+    }
+}
 
 #[test]
 fn refused_rows_are_due_in_turn(rt: HostRuntime) -> Result<(), Fail> {
-    let mut file = MemorySource::new(rt.alloc(), REFUSED, 50, 0)?;
-    let events = read_rows(rt.alloc(), &mut file).ok().ok_or("rows")?;
-    let mut refusals = Refusals::new::<Lookups>(rt.alloc(), REFUSED, &events)?;
-    for (now, row) in [
-        (0, ROWS.first()),
-        (1999, None),
-        (2000, ROWS.get(1)),
-        (2000, ROWS.get(2)),
-        (9999, None),
-    ] {
-        assert_eq!(rt; refusals.next_due(now), row.copied());
-    }
+    let mut refusals = refusals(rt.alloc())?;
+    are_due(&rt, &mut refusals, DUE);
     Ok(())
 }

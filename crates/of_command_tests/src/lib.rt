@@ -1,5 +1,6 @@
 //! Tests of what commands of the program do, in memory: of the check (which entries of a flow text win, and which never do), of the
-//! tracer, of questions and messages in words, of a switch that serves controllers, and of one on a network. Each public call with ample memory.
+//! tracer, of messages in words, of a switch that serves controllers, and of one on a network. Each public call with ample memory. Texts that
+//! the program prints are in tools/check-texts.
 //!
 //! They are in a separate crate, since a crate that has tests is proved twice.
 #![tactic(auto)]
@@ -8,6 +9,8 @@
 mod asked;
 #[cfg(test)]
 mod calls;
+#[cfg(test)]
+mod checks;
 #[cfg(test)]
 mod findings;
 #[cfg(test)]

@@ -1,4 +1,5 @@
 //! A switch on a network in memory: what passes, against the text that RFC 7348 and the rows of event files give.
+use crate::checks::same;
 use of_cache::Cached;
 use of_calls::read_rows;
 use of_live::{Live, live};
@@ -8,6 +9,7 @@ use of_replay::Ended;
 use of_replay::memory::MemorySource;
 use of_switch::{Event, Switch};
 use of_test_peers::network::{Line, MemoryNetwork, Passed, Taking};
+use of_test_rows::bytes_of;
 use of_wire::Bytes;
 use std::alloc::Global;
 use std::process::Abort;
@@ -18,13 +20,11 @@ type Lookups = Cached<MaskGroups>;
 
 /// HELLO; a FLOW_MOD that adds a flow of priority 10 for IN_PORT 1, with APPLY of OUTPUT 2; BARRIER_REQUEST of xid 3.
 const ASKED: &str =
-    "0400000800000001040e00580000000200000000000000000000000000000000000000000000000affffffffffffffffffffffff000000000001000c8000000400000001000000000004001800000000000000100000000200000000000000000414000800000003";
+    "0400000800000001 040e00580000000200000000000000000000000000000000000000000000000affffffffffffffffffffffff000000000001000c800000040000000100000000000400180000000000000010000000020000000000000000 0414000800000003";
 
 const PORTS: &[u8] = b"port add 1 020000000001 p1 up
 port add 2 020000000002 p2 up
 ";
-
-const FRAME: &str = "02000000000202000000000188b5";
 
 /// What passes: rows of the log, `w` and bytes for the controller, `s`, the port of an endpoint and a datagram, `d` for what is dropped.
 const PASSED: &[u8] = b"t 0
@@ -42,37 +42,48 @@ d
 lost
 ";
 
-fn bytes_of(alloc: Global, parts: &[&str]) -> Result<Bytes, Fail> {
-    let mut bytes = Vec::new(alloc);
-    for part in parts {
-        let decoded = hex::decode(alloc, *part).ok().ok_or("hexadecimal digits")?;
-        bytes.extend_from_slice(&decoded)?;
-    }
-    Ok(Bytes::new(bytes))
+/// What a network tells: a time, a connection, bytes of it, a datagram from the port of an endpoint, or its end.
+enum Told {
+    Time(u64),
+    Opened,
+    Heard(&'static str),
+    Datagram(u16, &'static str),
+    Ended,
 }
 
-// A datagram from the port of an endpoint.
-fn datagram(alloc: Global, port: u16, parts: &[&str]) -> Result<Line, Fail> {
-    let from = Endpoint {
-        address: 0xffff_0a00_0001,
-        port,
-    };
-    Ok(Line::Datagram {
-        from,
-        bytes: bytes_of(alloc, parts)?,
-    })
+/// Headers of VXLAN, and the frame.
+const SCRIPT: &[Told] = &[
+    Told::Time(0),
+    Told::Opened,
+    Told::Heard(ASKED),
+    Told::Datagram(4712, "0800000000000200 02000000000202000000000188b5"),
+    Told::Datagram(4711, "ff12345600000178 02000000000202000000000188b5"),
+    Told::Datagram(4711, "0800000000000300 02000000000202000000000188b5"),
+    Told::Datagram(4711, "0000000000000100 02000000000202000000000188b5"),
+    Told::Ended,
+];
+
+fn line_of(alloc: Global, told: &Told) -> Result<Line, Fail> {
+    match told {
+        Told::Time(now) => Ok(Line::Time(*now)),
+        Told::Opened => Ok(Line::Opened),
+        Told::Heard(words) => Ok(Line::Heard(Bytes::new(bytes_of(alloc, words)?))),
+        Told::Datagram(port, words) => Ok(Line::Datagram {
+            from: Endpoint {
+                address: 0xffff_0a00_0001,
+                port: *port,
+            },
+            bytes: Bytes::new(bytes_of(alloc, words)?),
+        }),
+        Told::Ended => Ok(Line::Ended),
+    }
 }
 
 fn script(alloc: Global) -> Result<Vec<Line>, Fail> {
     let mut lines = Vec::new(alloc);
-    lines.push(Line::Time(0))?;
-    lines.push(Line::Opened)?;
-    lines.push(Line::Heard(bytes_of(alloc, &[ASKED])?))?;
-    lines.push(datagram(alloc, 4712, &["0800000000000200", FRAME])?)?;
-    lines.push(datagram(alloc, 4711, &["ff12345600000178", FRAME])?)?;
-    lines.push(datagram(alloc, 4711, &["0800000000000300", FRAME])?)?;
-    lines.push(datagram(alloc, 4711, &["0000000000000100", FRAME])?)?;
-    lines.push(Line::Ended)?;
+    for told in SCRIPT {
+        lines.push(line_of(alloc, told)?)?;
+    }
     Ok(lines)
 }
 
@@ -87,14 +98,19 @@ fn push_line(alloc: Global, text: &mut Vec<u8>, word: &str, bytes: &[u8]) -> Res
     Ok(text.push(b'\n')?)
 }
 
+fn sent_to(to: Endpoint) -> &'static str {
+    if to.port == 4712 {
+        "s 4712 "
+    } else {
+        "s to another port "
+    }
+}
+
 fn push_passed(alloc: Global, text: &mut Vec<u8>, passed: &Passed) -> Result<(), Fail> {
     match passed {
         Passed::Logged { rows, .. } => Ok(text.extend_from_slice(rows.as_slice())?),
         Passed::Written { bytes, .. } => push_line(alloc, text, "w ", bytes.as_slice()),
-        Passed::Sent { to, datagram } => {
-            let word = format!(in alloc; "s {} ", to.port)?;
-            push_line(alloc, text, word.as_str(), datagram.as_slice())
-        }
+        Passed::Sent { to, datagram } => push_line(alloc, text, sent_to(*to), datagram.as_slice()),
         Passed::Dropped(_) => Ok(text.extend_from_slice(b"d\n")?),
         _ => Ok(()),
     }
@@ -108,13 +124,11 @@ fn text_of(alloc: Global, network: &MemoryNetwork) -> Result<Vec<u8>, Fail> {
     Ok(text)
 }
 
-// The switch runs for so many turns on that network.
-fn run(alloc: Global, taking: Taking, turns: u64) -> Result<(Ended, MemoryNetwork), Fail> {
-    let mut network = MemoryNetwork::new(alloc, script(alloc)?, taking);
+// A switch with the ports.
+fn switched(alloc: Global) -> Result<Live<Lookups>, Fail> {
+    let events = rows(alloc)?;
     let switch = Switch::<Lookups>::new(alloc, 1)?;
-    let mut state = Live::new(alloc, switch, rows(alloc)?, Vec::new(alloc));
-    let ended = live(alloc, &mut state, &mut network, turns);
-    Ok((ended, network))
+    Ok(Live::new(alloc, switch, events, Vec::new(alloc)))
 }
 
 const ALL: Taking = Taking {
@@ -124,19 +138,37 @@ const ALL: Taking = Taking {
     log_fails: false,
 };
 
-#[test]
-fn frames_pass(rt: HostRuntime) -> Result<(), Fail> {
-    let (ended, network) = run(rt.alloc(), ALL, 8)?;
-    assert!(rt; ended == Ended::Done);
-    assert!(rt; text_of(rt.alloc(), &network)?.as_slice() == PASSED);
+fn network_of(alloc: Global, taking: Taking) -> Result<MemoryNetwork, Fail> {
+    Ok(MemoryNetwork::new(alloc, script(alloc)?, taking))
+}
+
+// The switch runs for so many turns on that network.
+fn run(alloc: Global, network: &mut MemoryNetwork, turns: u64) -> Result<Ended, Fail> {
+    let mut state = switched(alloc)?;
+    Ok(live(alloc, &mut state, network, turns))
+}
+
+fn passes(
+    rt: &impl Abort,
+    alloc: Global,
+    network: &mut MemoryNetwork,
+    (turns, ended): &(u64, Ended),
+) -> Result<(), Fail> {
+    same(rt, "its end", &run(alloc, network, *turns)?, ended);
+    let text = text_of(alloc, network)?;
+    same(rt, "what passes", &text.as_slice(), &PASSED);
     Ok(())
 }
 
+// The network tells eight lines, and then fails.
+const ENDS: &[(u64, Ended)] = &[(8, Ended::Done), (9, Ended::ReadFault)];
+
 #[test]
-fn the_network_fails(rt: HostRuntime) -> Result<(), Fail> {
-    let (ended, network) = run(rt.alloc(), ALL, 9)?;
-    assert!(rt; ended == Ended::ReadFault);
-    assert!(rt; text_of(rt.alloc(), &network)?.as_slice() == PASSED);
+fn frames_pass(rt: HostRuntime) -> Result<(), Fail> {
+    for end in ENDS {
+        let mut network = network_of(rt.alloc(), ALL)?;
+        passes(&rt, rt.alloc(), &mut network, end)?;
+    }
     Ok(())
 }
 
@@ -146,8 +178,9 @@ fn the_log_fails(rt: HostRuntime) -> Result<(), Fail> {
         log_fails: true,
         ..ALL
     };
-    let (ended, network) = run(rt.alloc(), taking, 8)?;
-    assert!(rt; ended == Ended::WriteFault);
-    assert!(rt; network.passed.len() == 2);
+    let mut network = network_of(rt.alloc(), taking)?;
+    let ended = run(rt.alloc(), &mut network, 8)?;
+    same(&rt, "its end", &ended, &Ended::WriteFault);
+    same(&rt, "what passes", &network.passed.len(), &2);
     Ok(())
 }

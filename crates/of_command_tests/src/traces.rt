@@ -1,14 +1,12 @@
-ghost use Rattle.std.specs.Prelude.{◌≡◌};
-
+use crate::checks::same;
 use of_cache::Cached;
 use of_classifier::{Lookup, Scan};
 use of_headers::{FieldKey, read};
 use of_mask_groups::MaskGroups;
 use of_replay::memory::MemorySink;
-use of_replay::streams::ReaderSource;
-use of_replay::{Ended, READ_SIZE, Reading, Source, push_effects, zeros};
+use of_replay::{Ended, push_effects};
 use of_switch::{Effect, PortChange, Switch};
-use of_trace::{Asked, FirstLines, Form, Output, Style, explain, print, write_trace};
+use of_trace::{Asked, Form, Output, Style, explain, print, write_trace};
 use of_tracing::{Reason, trace, why};
 use std::alloc::Global;
 use std::process::Abort;
@@ -81,14 +79,20 @@ fn added(number: u32) -> PortChange {
     }
 }
 
-// Two ports are added, and a controller says HELLO.
-fn open<L: Lookup>(switch: &mut Switch<L>) -> Result<(), Fail> {
-    switch.port_change(added(1))?;
-    switch.port_change(added(2))?;
-    switch.connected()?;
-    switch.feed(&[4, 0, 0, 8, 0, 0, 0, 1])?;
+// The controller sends a message.
+fn send<L: Lookup>(switch: &mut Switch<L>, message: &[u8]) -> Result<(), Fail> {
+    switch.feed(message)?;
     switch.next()?;
     Ok(())
+}
+
+// Two ports are added, and a controller says HELLO.
+fn open<L: Lookup>(switch: &mut Switch<L>) -> Result<(), Fail> {
+    for number in 1..=2 {
+        switch.port_change(added(number))?;
+    }
+    switch.connected()?;
+    send(switch, &[4, 0, 0, 8, 0, 0, 0, 1])
 }
 
 /// How a trace becomes a text.
@@ -191,21 +195,11 @@ fn text_of<L: Lookup>(
     }
 }
 
-fn is_text(rt: &impl Abort, place: usize, text: &[u8], wanted: &[u8]) {
-    assert_eq!(rt; text, wanted, "step {place}");
-}
-
-fn is_count(rt: &impl Abort, place: usize, count: usize, wanted: usize) {
-    assert_eq!(rt; count, wanted, "step {place}");
-}
-
-fn is_reason(rt: &impl Abort, place: usize, reason: Option<Reason>, why: Why) {
+fn is_so(reason: Option<Reason>, why: Why) -> bool {
     match (reason, why) {
-        (None, Why::NoEntry) | (Some(Reason::Won), Why::Won) => {}
-        (Some(Reason::Differs { found, .. }), Why::Has(value)) => {
-            assert_eq!(rt; found, Some(value), "step {place}");
-        }
-        _ => assert!(rt; false, "step {place}: {reason:?}"),
+        (None, Why::NoEntry) | (Some(Reason::Won), Why::Won) => true,
+        (Some(Reason::Differs { found, .. }), Why::Has(value)) => found == Some(value),
+        _ => false,
     }
 }
 
@@ -213,36 +207,36 @@ fn key_of(port: u32) -> Result<FieldKey, Fail> {
     Ok(read(&FRAME, port, 0).ok().ok_or("a frame")?.key())
 }
 
-fn add_flow<L: Lookup>(switch: &mut Switch<L>) -> Result<(), Fail> {
-    switch.feed(&TO_PORT_2)?;
-    switch.next()?;
-    Ok(())
-}
-
 fn play<L: Lookup>(
     rt: &impl Abort,
     alloc: Global,
-    place: usize,
     switch: &mut Switch<L>,
     step: Step,
 ) -> Result<(), Fail> {
     match step {
-        Step::Flow => add_flow(switch)?,
+        Step::Flow => send(switch, &TO_PORT_2),
         Step::Trace(port, text, wanted) => {
-            is_text(rt, place, &text_of(alloc, switch, port, text)?, wanted);
+            let found = text_of(alloc, switch, port, text)?;
+            same(rt, "a text", &found.as_slice(), &wanted);
+            Ok(())
         }
         Step::Reason(port, entry, reason) => {
-            is_reason(rt, place, why(switch, 0, &key_of(port)?, entry), reason);
+            let found = why(switch, 0, &key_of(port)?, entry);
+            same(rt, "a reason", &is_so(found, reason), &true);
+            Ok(())
         }
-        Step::Frame(port, count) => is_count(rt, place, switch.frame(port, &FRAME)?.len(), count),
+        Step::Frame(port, count) => {
+            let effects = switch.frame(port, &FRAME)?;
+            same(rt, "effects", &effects.len(), &count);
+            Ok(())
+        }
     }
-    Ok(())
 }
 
 fn play_all<L: Lookup>(rt: &impl Abort, alloc: Global, switch: &mut Switch<L>) -> Result<(), Fail> {
     open(switch)?;
-    for (place, step) in STEPS.iter().enumerate() {
-        play(rt, alloc, place, switch, *step)?;
+    for step in STEPS {
+        play(rt, alloc, switch, *step)?;
     }
     Ok(())
 }
@@ -284,24 +278,18 @@ fn effects_text(alloc: Global, effects: &[Effect]) -> Result<Vec<u8>, Fail> {
     Ok(text)
 }
 
-// What a trace says that a frame does.
-fn told<L: Lookup>(
-    alloc: Global,
-    switch: &Switch<L>,
-    port: u32,
-    frame: &[u8],
-) -> Result<Vec<u8>, Fail> {
-    effects_text(alloc, &trace(alloc, switch, port, frame)?.effects)
-}
-
-// What it does.
-fn done<L: Lookup>(
+// A trace has the effects that the frame then has.
+fn tells<L: Lookup>(
+    rt: &impl Abort,
     alloc: Global,
     switch: &mut Switch<L>,
     port: u32,
     frame: &[u8],
-) -> Result<Vec<u8>, Fail> {
-    effects_text(alloc, &switch.frame(port, frame)?)
+) -> Result<(), Fail> {
+    let told = effects_text(alloc, &trace(alloc, switch, port, frame)?.effects)?;
+    let done = effects_text(alloc, &switch.frame(port, frame)?)?;
+    same(rt, "effects", &told.as_slice(), &done.as_slice());
+    Ok(())
 }
 
 // Frames by any of three ports, of which the third is not there.
@@ -311,14 +299,13 @@ fn tells_all<L: Lookup>(
     switch: &mut Switch<L>,
 ) -> Result<(), Fail> {
     open(switch)?;
-    add_flow(switch)?;
+    send(switch, &TO_PORT_2)?;
     let mut numbers = Numbers { state: 1 };
-    for turn in 0..50 {
+    for _ in 0..50 {
         let port = (numbers.next() % 3) as u32 + 1;
         let mut frame = FRAME;
         frame[13] = (numbers.next() % 256) as u8;
-        let told = told(alloc, switch, port, &frame)?;
-        is_text(rt, turn, &told, &done(alloc, switch, port, &frame)?);
+        tells(rt, alloc, switch, port, &frame)?;
     }
     Ok(())
 }
@@ -327,36 +314,4 @@ fn tells_all<L: Lookup>(
 fn traces_tell_what_frames_do(rt: HostRuntime) -> Result<(), Fail> {
     let mut switch = Switch::<Cached<MaskGroups>>::new(rt.alloc(), 1)?;
     tells_all(&rt, rt.alloc(), &mut switch)
-}
-
-// The source gives these bytes by one read, and then ends.
-fn gives<S: Source>(
-    rt: &impl Abort,
-    alloc: Global,
-    source: &mut S,
-    bytes: &[u8],
-) -> Result<(), Fail>
-    requires { S.reads source.old ≡ 0 }
-{
-    let mut buffer = zeros(alloc, READ_SIZE)?;
-    let mut read = source.read(&mut buffer);
-    if let Reading::Bytes(n) = read {
-        assert_eq!(rt; &buffer[..n], bytes);
-        read = source.read(&mut buffer);
-    } else {
-        assert!(rt; bytes.is_empty());
-    }
-    assert_eq!(rt; read, Reading::End);
-    Ok(())
-}
-
-#[test]
-fn first_lines_are_whole(rt: HostRuntime) -> Result<(), Fail> {
-    let text: &[u8] = b"a\nbc\nd";
-    let first: [(u64, &[u8]); 3] = [(0, b""), (2, b"a\nbc\n"), (3, text)];
-    for (count, lines) in first {
-        let mut source = FirstLines::new(ReaderSource::new(text), count);
-        gives(&rt, rt.alloc(), &mut source, lines)?;
-    }
-    Ok(())
 }

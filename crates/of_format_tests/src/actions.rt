@@ -1,99 +1,37 @@
-use crate::checks::{Kind, are_refused, code_of, is_written, same};
+use crate::checks::{code_of, is_written, same};
 use of_actions::{
     Action, ActionList, Instruction, InstructionList, check_flow, is_number, read_actions,
     read_instructions, write_actions, write_instructions,
 };
 use of_layers::Field;
 use of_oxm::read_match;
-use of_test_rows::{bytes_of, sides};
+use of_test_rows::bytes_of;
 use of_wire::Code;
 use of_wire::limits::{OFPP_MAX, OFPP_TABLE};
 use std::alloc::Global;
 use std::process::Abort;
 use std::test::Fail;
 
-mod rows;
+pub(crate) mod rows;
 
-#[test]
-fn refused(rt: HostRuntime) -> Result<(), Fail> {
-    are_refused(&rt, rt.alloc(), Kind::Actions, rows::REFUSED_ACTIONS)?;
-    are_refused(
-        &rt,
-        rt.alloc(),
-        Kind::Instructions,
-        rows::REFUSED_INSTRUCTIONS,
-    )
+fn actions_in(alloc: Global, words: &str, is_packet_out: bool) -> Result<ActionList, Fail> {
+    Ok(read_actions(alloc, &bytes_of(alloc, words)?, is_packet_out)?)
 }
 
-/// The actions of a PACKET_OUT.
-fn actions_in(alloc: Global, words: &str) -> Result<ActionList, Fail> {
-    Ok(read_actions(alloc, &bytes_of(alloc, words)?, true)?)
+/// The instructions of an entry of table 3.
+fn instructions_in(alloc: Global, words: &str) -> Result<InstructionList, Fail> {
+    Ok(read_instructions(alloc, &bytes_of(alloc, words)?, 3)?)
 }
 
-fn instructions_in(alloc: Global, words: &str, table: u8) -> Result<InstructionList, Fail> {
-    Ok(read_instructions(alloc, &bytes_of(alloc, words)?, table)?)
+/// What is written of a copy of the list that is read from these bytes.
+pub(crate) fn actions_again(alloc: Global, words: &str) -> Result<Vec<u8>, Fail> {
+    let list = actions_in(alloc, words, true)?;
+    Ok(write_actions(alloc, &list.copy()?)?)
 }
 
-/// What is written of the list that is read from these bytes.
-fn rewritten(alloc: Global, kind: Kind, words: &str) -> Result<Vec<u8>, Fail> {
-    match kind {
-        Kind::Instructions => {
-            let list = instructions_in(alloc, words, 3)?;
-            Ok(write_instructions(alloc, &list)?)
-        }
-        _ => Ok(write_actions(alloc, &actions_in(alloc, words)?)?),
-    }
-}
-
-fn is_rewritten(
-    rt: &impl Abort,
-    alloc: Global,
-    kind: Kind,
-    (bytes, wanted): (&str, &str),
-) -> Result<(), Fail> {
-    is_written(rt, alloc, &rewritten(alloc, kind, bytes)?, wanted)
-}
-
-/// Asserts of each row what is written of the list that is read from its bytes.
-fn are_written(rt: &impl Abort, alloc: Global, kind: Kind, text: &str) -> Result<(), Fail> {
-    for line in text.lines() {
-        if let Some(row) = sides(line)? {
-            is_rewritten(rt, alloc, kind, row)?;
-        }
-    }
-    Ok(())
-}
-
-#[test]
-fn written(rt: HostRuntime) -> Result<(), Fail> {
-    are_written(&rt, rt.alloc(), Kind::Actions, rows::WRITTEN_ACTIONS)?;
-    are_written(
-        &rt,
-        rt.alloc(),
-        Kind::Instructions,
-        rows::WRITTEN_INSTRUCTIONS,
-    )
-}
-
-const OUTPUT: Action = Action::Output {
-    port: 2,
-    max_len: 0,
-};
-
-/// What is written of a copy of a list.
-fn instructions_copied(alloc: Global, list: &InstructionList) -> Result<Vec<u8>, Fail> {
+pub(crate) fn instructions_again(alloc: Global, words: &str) -> Result<Vec<u8>, Fail> {
+    let list = instructions_in(alloc, words)?;
     Ok(write_instructions(alloc, &list.copy()?)?)
-}
-
-fn is_one_output(rt: &impl Abort, alloc: Global, list: &InstructionList) -> Result<(), Fail> {
-    same(rt, rows::APPLY, &applies(list.as_slice(), &[OUTPUT]), &true);
-    is_written(rt, alloc, &instructions_copied(alloc, list)?, rows::APPLY)
-}
-
-#[test]
-fn apply_of_one_output(rt: HostRuntime) -> Result<(), Fail> {
-    let list = instructions_in(rt.alloc(), rows::APPLY, 0)?;
-    is_one_output(&rt, rt.alloc(), &list)
 }
 
 /// Whether there is one instruction, which applies these actions.
@@ -113,12 +51,6 @@ fn made_actions(alloc: Global) -> Result<ActionList, Fail> {
     Ok(ActionList::new(actions).ok_or("one action is a list")?)
 }
 
-/// Asserts that these bytes are read as those actions.
-fn are_read(rt: &impl Abort, alloc: Global, words: &str, wanted: &[Action]) -> Result<(), Fail> {
-    same(rt, words, &actions_in(alloc, words)?.as_slice(), &wanted);
-    Ok(())
-}
-
 fn is_made(rt: &impl Abort, alloc: Global, actions: &ActionList) -> Result<(), Fail> {
     let counts = (actions.len(), actions.is_empty());
     same(rt, "one action", &counts, &(1, false));
@@ -130,22 +62,15 @@ fn is_made(rt: &impl Abort, alloc: Global, actions: &ActionList) -> Result<(), F
 fn made_list_of_actions(rt: HostRuntime) -> Result<(), Fail> {
     let actions = made_actions(rt.alloc())?;
     is_made(&rt, rt.alloc(), &actions)?;
-    are_read(&rt, rt.alloc(), rows::OUTPUT_TO_TABLE, actions.as_slice())
-}
-
-/// Asserts with which code of `OFPET_BAD_ACTION` these actions of an entry are refused.
-fn is_bad_action(rt: &impl Abort, alloc: Global, bytes: &[u8], code: u16) {
-    let refusal = code_of(read_actions(alloc, bytes, false));
-    same(rt, "actions", &refusal, &Some(Code { kind: 2, code }));
+    let read = actions_in(rt.alloc(), rows::OUTPUT_TO_TABLE, true)?;
+    same(&rt, "as it is read", &read.as_slice(), &actions.as_slice());
+    Ok(())
 }
 
 #[test]
-fn output_to_table(rt: HostRuntime) -> Result<(), Fail> {
-    let bytes = bytes_of(rt.alloc(), rows::OUTPUT_TO_TABLE)?;
-    is_bad_action(&rt, rt.alloc(), &bytes, 4);
-    let numbers = (is_number(OFPP_MAX), is_number(0));
-    same(&rt, "numbers of ports", &numbers, &(true, false));
-    Ok(())
+fn numbers_of_ports(rt: HostRuntime) {
+    assert!(rt; is_number(OFPP_MAX));
+    assert!(rt; !is_number(0));
 }
 
 fn made_instructions(alloc: Global) -> Result<InstructionList, Fail> {
@@ -184,25 +109,16 @@ const EACH_ACTION: [Action; 7] = [
     },
 ];
 
-/// What is written of a copy of a list.
-fn actions_copied(alloc: Global, list: &ActionList) -> Result<Vec<u8>, Fail> {
-    Ok(write_actions(alloc, &list.copy()?)?)
-}
-
-/// The actions of an entry.
-fn entry_actions(alloc: Global, words: &str) -> Result<ActionList, Fail> {
-    Ok(read_actions(alloc, &bytes_of(alloc, words)?, false)?)
-}
-
-fn are_each(rt: &impl Abort, alloc: Global, list: &ActionList) -> Result<(), Fail> {
-    same(rt, "each action", &list.as_slice(), &EACH_ACTION.as_slice());
-    is_written(rt, alloc, &actions_copied(alloc, list)?, rows::EACH_ACTION)
-}
-
 #[test]
 fn each_action(rt: HostRuntime) -> Result<(), Fail> {
-    let list = entry_actions(rt.alloc(), rows::EACH_ACTION)?;
-    are_each(&rt, rt.alloc(), &list)
+    let list = actions_in(rt.alloc(), rows::EACH_ACTION, false)?;
+    same(
+        &rt,
+        "each action",
+        &list.as_slice(),
+        &EACH_ACTION.as_slice(),
+    );
+    Ok(())
 }
 
 /// 64 actions.
@@ -214,17 +130,19 @@ fn most_actions(alloc: Global) -> Result<Vec<u8>, Fail> {
     Ok(bytes)
 }
 
-/// How many actions of an entry these bytes are.
-fn action_count(alloc: Global, bytes: &[u8]) -> Result<usize, Fail> {
-    Ok(read_actions(alloc, bytes, false)?.len())
-}
-
 #[test]
 fn too_many_actions(rt: HostRuntime) -> Result<(), Fail> {
     let mut bytes = most_actions(rt.alloc())?;
-    same(&rt, "64 actions", &action_count(rt.alloc(), &bytes)?, &64);
+    let list = read_actions(rt.alloc(), &bytes, false)?;
+    same(&rt, "64 actions", &list.len(), &64);
     bytes.push(0)?;
-    is_bad_action(&rt, rt.alloc(), &bytes, 7);
+    let refusal = code_of(read_actions(rt.alloc(), &bytes, false));
+    same(
+        &rt,
+        "a byte more",
+        &refusal,
+        &Some(Code { kind: 2, code: 7 }),
+    );
     Ok(())
 }
 
@@ -238,17 +156,13 @@ fn flow_check_of(
     Ok(check_flow(&fields, list.as_slice()).err())
 }
 
-fn checks(rt: &impl Abort, alloc: Global, list: &InstructionList) -> Result<(), Fail> {
-    let inconsistent = Some(Code { kind: 2, code: 10 });
-    let of_ip = flow_check_of(alloc, rows::MATCH_OF_IP, list)?;
-    same(rt, "with a match of IP", &of_ip, &inconsistent);
-    let of_udp = flow_check_of(alloc, rows::MATCH_OF_UDP, list)?;
-    same(rt, "with a match of UDP", &of_udp, &None);
-    Ok(())
-}
-
 #[test]
 fn flow_check(rt: HostRuntime) -> Result<(), Fail> {
-    let list = instructions_in(rt.alloc(), rows::SET_UDP_DST, 0)?;
-    checks(&rt, rt.alloc(), &list)
+    let list = instructions_in(rt.alloc(), rows::SET_UDP_DST)?;
+    let inconsistent = Some(Code { kind: 2, code: 10 });
+    let of_ip = flow_check_of(rt.alloc(), rows::MATCH_OF_IP, &list)?;
+    same(&rt, "with a match of IP", &of_ip, &inconsistent);
+    let of_udp = flow_check_of(rt.alloc(), rows::MATCH_OF_UDP, &list)?;
+    same(&rt, "with a match of UDP", &of_udp, &None);
+    Ok(())
 }

@@ -1,7 +1,7 @@
 //! What the tests here assert of one row, and of the rows of a text.
 use crate::numbers::numbers;
-use of_actions::{Action, read_actions, read_instructions};
-use of_messages::{Message, Role, read_message, read_message_as};
+use of_actions::{read_actions, read_instructions};
+use of_messages::{Role, agreed_version, read_message, read_message_as};
 use of_test_rows::{bytes_of, number_of, sides};
 use of_wire::{Code, ReadError};
 use std::alloc::Global;
@@ -9,17 +9,22 @@ use std::fmt::Debug;
 use std::process::Abort;
 use std::test::Fail;
 
-/// What bytes are read as.
+/// What is asked of bytes, whose answer is numbers.
 #[derive(Clone, Copy)]
-pub(crate) enum Kind {
-    Actions,
-    /// Those of an entry of table 3.
-    Instructions,
+pub(crate) enum Asked {
+    /// The type and code with which actions of an entry are refused.
+    ActionsRefused,
+    /// Those of instructions of an entry of table 3.
+    InstructionsRefused,
+    MessageRefused,
+    /// Those of a message from a slave.
+    SlaveRefused,
+    /// What a message says.
     Message,
-    /// A message from a master.
+    /// What a message from a master says.
     OfMaster,
-    /// A message from a slave.
-    OfSlave,
+    /// The version to which a HELLO agrees.
+    Version,
 }
 
 /// The type and code of a refusal.
@@ -30,66 +35,35 @@ pub(crate) fn code_of<T: Drop>(read: Result<T, ReadError>) -> Option<Code> {
     }
 }
 
-/// Half of a code, in decimal digits.
-fn half_of(digits: &str) -> Result<u16, Fail> {
-    Ok(u16::try_from(number_of(digits)?).ok().ok_or("16 bits")?)
+fn code_numbers(alloc: Global, code: Option<Code>) -> Result<Vec<u64>, Fail> {
+    let Code { kind, code } = code.ok_or("a refusal")?;
+    Ok(Vec::from_slice(alloc, &[u64::from(kind), u64::from(code)])?)
 }
 
-/// The type and code that a row names.
-fn wanted_code(side: &str) -> Result<Code, Fail> {
-    let (kind, code) = side.split_once(' ').ok_or("a type and a code")?;
-    Ok(Code {
-        kind: half_of(kind)?,
-        code: half_of(code)?,
-    })
-}
-
-fn message_in(alloc: Global, kind: Kind, bytes: &[u8]) -> Result<Message, ReadError> {
-    match kind {
-        Kind::OfMaster => read_message_as(alloc, Role::Master, bytes),
-        Kind::OfSlave => read_message_as(alloc, Role::Slave, bytes),
-        _ => read_message(alloc, bytes),
+fn version_numbers(alloc: Global, bytes: &[u8]) -> Result<Vec<u64>, Fail> {
+    if bytes.len() < 8 {
+        return Err("a HELLO".into());
     }
+    Ok(Vec::from_slice(alloc, &[u64::from(agreed_version(bytes))])?)
 }
 
-/// The message of these bytes.
-pub(crate) fn message_of(alloc: Global, kind: Kind, words: &str) -> Result<Message, Fail> {
-    Ok(message_in(alloc, kind, &bytes_of(alloc, words)?)?)
-}
-
-fn refusal_of(alloc: Global, kind: Kind, bytes: &[u8]) -> Option<Code> {
-    match kind {
-        Kind::Actions => code_of(read_actions(alloc, bytes, false)),
-        Kind::Instructions => code_of(read_instructions(alloc, bytes, 3)),
-        _ => code_of(message_in(alloc, kind, bytes)),
-    }
-}
-
-fn is_refused(
-    rt: &impl Abort,
-    alloc: Global,
-    kind: Kind,
-    line: &str,
-    (bytes, code): (&str, &str),
-) -> Result<(), Fail> {
-    let found = refusal_of(alloc, kind, &bytes_of(alloc, bytes)?);
-    same(rt, line, &found, &Some(wanted_code(code)?));
-    Ok(())
-}
-
-/// Asserts of each row with which type and code its bytes are refused.
-pub(crate) fn are_refused(
-    rt: &impl Abort,
-    alloc: Global,
-    kind: Kind,
-    text: &str,
-) -> Result<(), Fail> {
-    for line in text.lines() {
-        if let Some(row) = sides(line)? {
-            is_refused(rt, alloc, kind, line, row)?;
+fn answer(alloc: Global, asked: Asked, bytes: &[u8]) -> Result<Vec<u64>, Fail> {
+    match asked {
+        Asked::ActionsRefused => code_numbers(alloc, code_of(read_actions(alloc, bytes, false))),
+        Asked::InstructionsRefused => {
+            code_numbers(alloc, code_of(read_instructions(alloc, bytes, 3)))
         }
+        Asked::MessageRefused => code_numbers(alloc, code_of(read_message(alloc, bytes))),
+        Asked::SlaveRefused => {
+            code_numbers(alloc, code_of(read_message_as(alloc, Role::Slave, bytes)))
+        }
+        Asked::Message => Ok(numbers(alloc, &read_message(alloc, bytes)?)?),
+        Asked::OfMaster => {
+            let message = read_message_as(alloc, Role::Master, bytes)?;
+            Ok(numbers(alloc, &message)?)
+        }
+        Asked::Version => version_numbers(alloc, bytes),
     }
-    Ok(())
 }
 
 /// The numbers that a row names.
@@ -101,33 +75,29 @@ fn wanted_numbers(alloc: Global, side: &str) -> Result<Vec<u64>, Fail> {
     Ok(wanted)
 }
 
-fn numbers_of(alloc: Global, message: &Message) -> Result<Vec<u64>, Fail> {
-    Ok(numbers(alloc, message)?)
-}
-
-/// What the message of these bytes says, in numbers.
-fn read_numbers(alloc: Global, kind: Kind, words: &str) -> Result<Vec<u64>, Fail> {
-    numbers_of(alloc, &message_of(alloc, kind, words)?)
-}
-
-fn is_read(
+fn is_answered(
     rt: &impl Abort,
     alloc: Global,
-    kind: Kind,
+    asked: Asked,
     line: &str,
     (bytes, wanted): (&str, &str),
 ) -> Result<(), Fail> {
-    let found = read_numbers(alloc, kind, bytes)?;
+    let found = answer(alloc, asked, &bytes_of(alloc, bytes)?)?;
     let wanted = wanted_numbers(alloc, wanted)?;
     same(rt, line, &found.as_slice(), &wanted.as_slice());
     Ok(())
 }
 
-/// Asserts of each row what the message of its bytes says, in numbers.
-pub(crate) fn are_read(rt: &impl Abort, alloc: Global, kind: Kind, text: &str) -> Result<(), Fail> {
+/// Asserts of each row that the answer about its bytes is the numbers behind them.
+pub(crate) fn are_answered(
+    rt: &impl Abort,
+    alloc: Global,
+    asked: Asked,
+    text: &str,
+) -> Result<(), Fail> {
     for line in text.lines() {
         if let Some(row) = sides(line)? {
-            is_read(rt, alloc, kind, line, row)?;
+            is_answered(rt, alloc, asked, line, row)?;
         }
     }
     Ok(())

@@ -1,3 +1,4 @@
+use crate::checks::same;
 use of_build::messages;
 use of_config::{ConfigFault, build, config_of};
 use of_test_rows::bytes_of;
@@ -39,139 +40,125 @@ fn encoded(alloc: Global, rows: &str) -> Result<Vec<Bytes>, Fail> {
     Ok(encoded)
 }
 
-/// Asserts that the messages are those.
-fn are_same(rt: &impl Abort, found: &[Bytes], wanted: &[Bytes]) {
-    assert_eq!(rt; found.len(), wanted.len());
-    for (one, other) in found.iter().zip(wanted) {
-        assert_eq!(rt; one.as_slice(), other.as_slice());
-    }
-}
-
-fn configuration(alloc: Global, text: &[u8]) -> Result<Config, Fail> {
-    Ok(assemble(alloc, text).ok().ok_or("a configuration")?)
-}
-
-/// Asserts that the messages give the configuration of the text.
-fn give(rt: &impl Abort, alloc: Global, sent: &[Bytes], text: &[u8]) -> Result<(), Fail> {
-    let config = config_of(alloc, sent).ok().ok_or("a configuration")?;
-    let written = disassemble(alloc, &config)?;
-    assert_eq!(rt; written.as_slice(), text);
-    Ok(())
-}
-
-/// Why messages give none.
-fn fault(alloc: Global, rows: &str) -> Result<Option<ConfigFault>, Fail> {
-    Ok(config_of(alloc, &encoded(alloc, rows)?).err())
-}
-
-#[test]
-fn written(rt: HostRuntime) -> Result<(), Fail> {
-    let config = configuration(rt.alloc(), TEXT)?;
-    let wanted = encoded(rt.alloc(), rows::MESSAGES)?;
-    are_same(&rt, &messages(rt.alloc(), &config)?, &wanted);
-    Ok(())
-}
-
-#[test]
-fn back(rt: HostRuntime) -> Result<(), Fail> {
-    let sent = encoded(rt.alloc(), rows::MESSAGES)?;
-    give(&rt, rt.alloc(), &sent, TEXT)?;
-    give(&rt, rt.alloc(), &[], b"")
-}
-
-#[test]
-fn deleted(rt: HostRuntime) -> Result<(), Fail> {
-    let sent = encoded(rt.alloc(), rows::DELETED)?;
-    give(&rt, rt.alloc(), &sent, b"")
-}
-
-#[test]
-fn refused(rt: HostRuntime) -> Result<(), Fail> {
-    let code = Code { kind: 2, code: 9 };
-    let wanted = Some(ConfigFault::Refused { place: 1, code });
-    assert_eq!(rt; fault(rt.alloc(), rows::ABSENT_GROUP)?, wanted);
-    Ok(())
-}
-
-#[test]
-fn no_command(rt: HostRuntime) -> Result<(), Fail> {
-    let second = Some(ConfigFault::NotACommand { place: 1 });
-    assert_eq!(rt; fault(rt.alloc(), rows::BARRIER)?, second);
-    let first = Some(ConfigFault::NotACommand { place: 0 });
-    assert_eq!(rt; fault(rt.alloc(), rows::TWO_AS_ONE)?, first);
-    Ok(())
-}
-
-/// Asserts that the configuration of the rows of messages beside each other has that text.
-fn builds(rt: &impl Abort, alloc: Global, rows: &str, text: &[u8]) -> Result<(), Fail> {
-    let config = build(alloc, &encoded(alloc, rows)?)
-        .ok()
-        .ok_or("a configuration")?;
-    let written = disassemble(alloc, &config)?;
-    assert_eq!(rt; written.as_slice(), text);
-    Ok(())
-}
-
-#[test]
-fn built(rt: HostRuntime) -> Result<(), Fail> {
-    builds(
-        &rt,
-        rt.alloc(),
-        rows::ONE_FLOW,
-        b"flow 0 10 0x0000000000000000 0 0 0
+const ONE_FLOW: &[u8] = b"flow 0 10 0x0000000000000000 0 0 0
 match in_port 0x00000001
 apply
 output 2 0
-",
-    )?;
-    builds(
-        &rt,
-        rt.alloc(),
-        rows::LATER_GROUP,
-        b"group 1 all
+";
+
+const LATER_GROUP: &[u8] = b"group 1 all
 bucket 0 4294967295 4294967295
 to_group 2
 group 2 indirect
 bucket 7 1 2
 output 2 0
-",
-    )
+";
+
+/// How messages make a configuration: one after the other, or beside each other.
+#[derive(Clone, Copy)]
+enum How {
+    InTurn,
+    Beside,
 }
 
-/// Why messages beside each other are no configuration, at which place.
-fn unbuilt(alloc: Global, rows: &str) -> Result<Option<ConfigFault>, Fail> {
-    Ok(build(alloc, &encoded(alloc, rows)?).err())
-}
+/// Rows of messages, and the text of the configuration that they make.
+const MADE: &[(How, &str, &[u8])] = &[
+    (How::InTurn, rows::MESSAGES, TEXT),
+    (How::InTurn, "", b""),
+    (How::InTurn, rows::DELETED, b""),
+    (How::Beside, rows::ONE_FLOW, ONE_FLOW),
+    (How::Beside, rows::LATER_GROUP, LATER_GROUP),
+];
 
-#[test]
-fn refused_beside_each_other(rt: HostRuntime) -> Result<(), Fail> {
-    for (rows, place, kind, code) in [
-        (rows::SAME_FLOW, 1, 5, 3),
-        (rows::TO_ABSENT_GROUP, 0, 2, 9),
-        (rows::OTHER_FLAGS, 0, 5, 7),
-        (rows::BAD_LATER_GROUP, 1, 6, 12),
-    ] {
-        let wanted = ConfigFault::Refused {
-            place,
-            code: Code { kind, code },
-        };
-        assert_eq!(rt; unbuilt(rt.alloc(), rows)?, Some(wanted));
+/// Rows of messages that make none, the place of the message at fault, and the type and code of its ERROR; if it is not a command, none.
+const NOT_MADE: &[(How, &str, usize, Option<(u16, u16)>)] = &[
+    (How::InTurn, rows::ABSENT_GROUP, 1, Some((2, 9))),
+    (How::InTurn, rows::BARRIER, 1, None),
+    (How::InTurn, rows::TWO_AS_ONE, 0, None),
+    (How::Beside, rows::SAME_FLOW, 1, Some((5, 3))),
+    (How::Beside, rows::TO_ABSENT_GROUP, 0, Some((2, 9))),
+    (How::Beside, rows::OTHER_FLAGS, 0, Some((5, 7))),
+    (How::Beside, rows::BAD_LATER_GROUP, 1, Some((6, 12))),
+    (How::Beside, rows::HELD, 0, None),
+    (How::Beside, rows::DELETED, 1, None),
+    (How::Beside, rows::BARRIER, 0, None),
+    // group 2, and then group 1
+    (How::Beside, rows::MESSAGES, 1, None),
+];
+
+/// The configuration that the messages of these rows make.
+fn made(alloc: Global, how: How, rows: &str) -> Result<Result<Config, ConfigFault>, Fail> {
+    let sent = encoded(alloc, rows)?;
+    match how {
+        How::InTurn => Ok(config_of(alloc, &sent)),
+        How::Beside => Ok(build(alloc, &sent)),
     }
+}
+
+fn is_made(
+    rt: &impl Abort,
+    alloc: Global,
+    (how, rows, text): &(How, &str, &[u8]),
+) -> Result<(), Fail> {
+    let config = made(alloc, *how, rows)?.ok().ok_or("a configuration")?;
+    let found = disassemble(alloc, &config)?;
+    same(rt, rows, &found.as_slice(), text);
     Ok(())
 }
 
 #[test]
-fn not_to_be_built(rt: HostRuntime) -> Result<(), Fail> {
-    let first = Some(ConfigFault::NotACommand { place: 0 });
-    // group 2, and then group 1
-    let second = Some(ConfigFault::NotACommand { place: 1 });
-    for (rows, wanted) in [
-        (rows::HELD, first),
-        (rows::DELETED, second),
-        (rows::BARRIER, first),
-        (rows::MESSAGES, second),
-    ] {
-        assert_eq!(rt; unbuilt(rt.alloc(), rows)?, wanted);
+fn texts_of_messages(rt: HostRuntime) -> Result<(), Fail> {
+    for row in MADE {
+        is_made(&rt, rt.alloc(), row)?;
     }
+    Ok(())
+}
+
+fn fault_of(place: usize, code: Option<(u16, u16)>) -> ConfigFault {
+    match code {
+        Some((kind, code)) => ConfigFault::Refused {
+            place,
+            code: Code { kind, code },
+        },
+        None => ConfigFault::NotACommand { place },
+    }
+}
+
+fn is_not_made(
+    rt: &impl Abort,
+    alloc: Global,
+    (how, rows, place, code): &(How, &str, usize, Option<(u16, u16)>),
+) -> Result<(), Fail> {
+    let found = made(alloc, *how, rows)?.err();
+    same(rt, rows, &found, &Some(fault_of(*place, *code)));
+    Ok(())
+}
+
+#[test]
+fn faults_of_messages(rt: HostRuntime) -> Result<(), Fail> {
+    for row in NOT_MADE {
+        is_not_made(&rt, rt.alloc(), row)?;
+    }
+    Ok(())
+}
+
+/// Asserts that the messages are those.
+fn are_same(rt: &impl Abort, found: &[Bytes], wanted: &[Bytes]) {
+    same(rt, "messages", &found.len(), &wanted.len());
+    for (one, other) in found.iter().zip(wanted) {
+        same(rt, "a message", &one.as_slice(), &other.as_slice());
+    }
+}
+
+fn sent(alloc: Global, text: &[u8]) -> Result<Vec<Bytes>, Fail> {
+    let config = assemble(alloc, text).ok().ok_or("a configuration")?;
+    Ok(messages(alloc, &config)?)
+}
+
+#[test]
+fn messages_of_a_text(rt: HostRuntime) -> Result<(), Fail> {
+    let found = sent(rt.alloc(), TEXT)?;
+    let wanted = encoded(rt.alloc(), rows::MESSAGES)?;
+    are_same(&rt, &found, &wanted);
     Ok(())
 }

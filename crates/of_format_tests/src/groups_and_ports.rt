@@ -1,21 +1,12 @@
-use crate::checks::{Kind, are_read, are_refused, is_written, same};
-use crate::shown::{Shown, is_shown};
+use crate::checks::{is_written, same};
 use of_actions::Action;
 use of_groups::{Bucket, GroupKind};
-use of_messages::{
-    GroupMod, Message, NewGroup, PortDescription, PortMod, PortStatusReason, write_group_mod,
-    write_port_status,
-};
+use of_messages::{NewGroup, PortMod, write_group_mod};
 use std::alloc::Global;
 use std::process::Abort;
 use std::test::Fail;
 
-mod rows;
-
-#[test]
-fn refused(rt: HostRuntime) -> Result<(), Fail> {
-    are_refused(&rt, rt.alloc(), Kind::Message, rows::REFUSED)
-}
+pub(crate) mod rows;
 
 /// A bucket with one action.
 struct WantedBucket {
@@ -61,7 +52,7 @@ fn has_buckets(rt: &impl Abort, group: &NewGroup) {
 }
 
 /// Asserts what the group has that an ADD adds, and how the ADD is written.
-fn is_added(rt: &impl Abort, alloc: Global, group: &NewGroup) -> Result<(), Fail> {
+pub(crate) fn is_added(rt: &impl Abort, alloc: Global, group: &NewGroup) -> Result<(), Fail> {
     let group_and_kind = (group.id, group.kind);
     same(
         rt,
@@ -74,54 +65,9 @@ fn is_added(rt: &impl Abort, alloc: Global, group: &NewGroup) -> Result<(), Fail
     is_written(rt, alloc, written.as_slice(), rows::ADD)
 }
 
-pub(crate) fn is_add(rt: &impl Abort, alloc: Global, message: &Message) -> Result<(), Fail> {
-    match message {
-        Message::GroupMod(GroupMod::Add(group)) => is_added(rt, alloc, group),
-        _ => Err("an ADD".into()),
-    }
-}
-
-#[test]
-fn add_of_two_buckets(rt: HostRuntime) -> Result<(), Fail> {
-    is_shown(&rt, rt.alloc(), rows::ADD, Shown::Add)
-}
-
-#[test]
-fn modify_and_delete(rt: HostRuntime) -> Result<(), Fail> {
-    are_read(&rt, rt.alloc(), Kind::Message, rows::READ)
-}
-
-const WANTED_PORT_MOD: PortMod = PortMod {
+pub(crate) const WANTED_PORT_MOD: PortMod = PortMod {
     port: 2,
     hw: [2, 0, 0, 0, 0, 0xa2],
     config: 1,
     mask: 0x65,
 };
-
-pub(crate) fn is_port_mod(rt: &impl Abort, message: &Message) -> Result<(), Fail> {
-    match message {
-        Message::PortMod(found) => {
-            same(rt, "a PORT_MOD", found, &WANTED_PORT_MOD);
-            Ok(())
-        }
-        _ => Err("a PORT_MOD".into()),
-    }
-}
-
-#[test]
-fn port_mod(rt: HostRuntime) -> Result<(), Fail> {
-    is_shown(&rt, rt.alloc(), rows::PORT_MOD, Shown::PortMod)
-}
-
-#[test]
-fn port_status(rt: HostRuntime) -> Result<(), Fail> {
-    let port = PortDescription {
-        number: 2,
-        hw: [2, 0, 0, 0, 0, 0xa2],
-        name: *b"p2\0\0\0\0\0\0\0\0\0\0\0\0\0\0",
-        config: 0,
-        state: 1,
-    };
-    let written = write_port_status(rt.alloc(), 0, PortStatusReason::Modify, &port)?;
-    is_written(&rt, rt.alloc(), written.as_slice(), rows::PORT_STATUS)
-}

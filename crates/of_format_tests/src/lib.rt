@@ -1,6 +1,6 @@
 //! Tests of what is read and written: actions, action sets, messages, and requests of a controller as bytes; flow text (docs/FLOWTEXT.md) and the
-//! names of errors; the import of tables of Open vSwitch (docs/IMPORT.md); configurations as messages; frames in words; hints about bad lines. Each
-//! public call with ample memory, and vectors from outside.
+//! names of errors; the import of tables of Open vSwitch (docs/IMPORT.md); configurations as messages; frames in words. Each public call with ample
+//! memory, and vectors from outside. Texts that the program prints are in tools/check-texts.
 //!
 //! They are in a separate crate, since a crate that has tests is proved twice.
 #![tactic(auto)]
@@ -20,8 +20,6 @@ mod frames;
 #[cfg(test)]
 mod groups_and_ports;
 #[cfg(test)]
-mod hints;
-#[cfg(test)]
 mod import;
 #[cfg(test)]
 mod import_json;
@@ -33,5 +31,7 @@ mod numbers;
 mod requests;
 #[cfg(test)]
 mod shown;
+#[cfg(test)]
+mod tables;
 #[cfg(test)]
 mod text;

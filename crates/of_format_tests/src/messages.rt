@@ -1,11 +1,13 @@
 use crate::actions::applies;
-use crate::checks::{Kind, are_read, are_refused, is_written, same};
-use crate::shown::{Shown, is_shown};
+use crate::checks::{is_written, same};
+use crate::{channel, groups_and_ports};
 use of_actions::Action;
 use of_messages::{
-    FlowMod, FlowRemoved, FlowRemovedReason, Message, MessageBytes, PacketData, PacketIn,
-    PacketInReason, PacketOut, check_head, write_barrier_reply, write_echo_reply, write_error,
-    write_flow_removed, write_hello, write_packet_in,
+    AsyncMasks, FlowMod, FlowRemoved, FlowRemovedReason, MessageBytes, PacketData, PacketIn,
+    PacketInReason, PacketOut, PortDescription, PortStatusReason, Role, RoleMasks, SwitchConfig,
+    check_head, write_async_reply, write_barrier_reply, write_config_reply, write_echo_reply,
+    write_error, write_features_reply, write_flow_removed, write_hello, write_packet_in,
+    write_port_status, write_role_reply,
 };
 use of_oxm::Match;
 use of_wire::Code;
@@ -13,17 +15,7 @@ use std::alloc::{AllocError, Global};
 use std::process::Abort;
 use std::test::Fail;
 
-mod rows;
-
-#[test]
-fn read(rt: HostRuntime) -> Result<(), Fail> {
-    are_read(&rt, rt.alloc(), Kind::Message, rows::READ)
-}
-
-#[test]
-fn refused(rt: HostRuntime) -> Result<(), Fail> {
-    are_refused(&rt, rt.alloc(), Kind::Message, rows::REFUSED)
-}
+pub(crate) mod rows;
 
 #[test]
 fn older_version(rt: HostRuntime) {
@@ -69,6 +61,29 @@ const HELD: PacketIn = PacketIn {
     metadata: 0,
 };
 
+const MASKS: AsyncMasks = AsyncMasks {
+    packet_in: RoleMasks {
+        master: 7,
+        slave: 0,
+    },
+    port_status: RoleMasks {
+        master: 6,
+        slave: 5,
+    },
+    flow_removed: RoleMasks {
+        master: 15,
+        slave: 1,
+    },
+};
+
+const PORT: PortDescription = PortDescription {
+    number: 2,
+    hw: [2, 0, 0, 0, 0, 0xa2],
+    name: *b"p2\0\0\0\0\0\0\0\0\0\0\0\0\0\0",
+    config: 0,
+    state: 1,
+};
+
 /// A message that is written.
 enum Written {
     Hello,
@@ -78,6 +93,11 @@ enum Written {
     PacketIn(PacketIn),
     /// With the first 16 bytes of the frame.
     StartOfHeld(PacketIn),
+    Features,
+    Config(SwitchConfig),
+    Role(Role, Option<u64>),
+    Async,
+    PortStatus,
 }
 
 fn write(alloc: Global, message: &Written) -> Result<MessageBytes, AllocError> {
@@ -88,6 +108,11 @@ fn write(alloc: Global, message: &Written) -> Result<MessageBytes, AllocError> {
         Written::Error(code) => write_error(alloc, 5, *code, &[4, 99, 0, 8, 0, 0, 0, 5]),
         Written::PacketIn(packet) => write_packet_in(alloc, 0, packet, &FRAME),
         Written::StartOfHeld(packet) => write_packet_in(alloc, 0, packet, &FRAME[..16]),
+        Written::Features => write_features_reply(alloc, 4, 0x0102_0304_0506_0708),
+        Written::Config(config) => write_config_reply(alloc, 5, *config),
+        Written::Role(role, generation) => write_role_reply(alloc, 6, *role, *generation),
+        Written::Async => write_async_reply(alloc, 8, MASKS),
+        Written::PortStatus => write_port_status(alloc, 0, PortStatusReason::Modify, &PORT),
     }
 }
 
@@ -103,6 +128,18 @@ const WRITTEN: &[(Written, &str)] = &[
         rows::PACKET_IN_WITH_METADATA,
     ),
     (Written::StartOfHeld(HELD), rows::PACKET_IN_OF_HELD),
+    (Written::Features, channel::rows::FEATURES_REPLY),
+    (
+        Written::Config(SwitchConfig { miss_send_len: 128 }),
+        channel::rows::CONFIG_REPLY,
+    ),
+    (
+        Written::Role(Role::Master, Some(7)),
+        channel::rows::MASTER_REPLY,
+    ),
+    (Written::Role(Role::Equal, None), channel::rows::EQUAL_REPLY),
+    (Written::Async, channel::rows::ASYNC_REPLY),
+    (Written::PortStatus, groups_and_ports::rows::PORT_STATUS),
 ];
 
 fn is_message(
@@ -122,7 +159,7 @@ fn written_messages(rt: HostRuntime) -> Result<(), Fail> {
 }
 
 /// Asserts that an entry sends to port 2 what comes in at port 1.
-fn sends_on(rt: &impl Abort, flow_mod: &FlowMod) {
+pub(crate) fn sends_on(rt: &impl Abort, flow_mod: &FlowMod) {
     assert!(rt; flow_mod.fields.len() == 1);
     let port = flow_mod.fields.fields()[0].value;
     same(rt, "its port", &port, &1);
@@ -132,21 +169,6 @@ fn sends_on(rt: &impl Abort, flow_mod: &FlowMod) {
     };
     let on = applies(flow_mod.instructions.as_slice(), &[output]);
     same(rt, "it sends on", &on, &true);
-}
-
-pub(crate) fn is_flow_mod(rt: &impl Abort, message: &Message) -> Result<(), Fail> {
-    match message {
-        Message::FlowMod(flow_mod) => {
-            sends_on(rt, flow_mod);
-            Ok(())
-        }
-        _ => Err("a FLOW_MOD".into()),
-    }
-}
-
-#[test]
-fn flow_mod(rt: HostRuntime) -> Result<(), Fail> {
-    is_shown(&rt, rt.alloc(), rows::FLOW_MOD, Shown::FlowMod)
 }
 
 const REMOVED: FlowRemoved = FlowRemoved {
@@ -170,7 +192,7 @@ fn flow_removed(rt: HostRuntime) -> Result<(), Fail> {
 }
 
 /// Asserts that a PACKET_OUT sends to the tables what came in at a port.
-fn goes_to_tables(rt: &impl Abort, packet_out: &PacketOut, in_port: u32) {
+pub(crate) fn goes_to_tables(rt: &impl Abort, packet_out: &PacketOut, in_port: u32) {
     let to_table = Action::Output {
         port: 0xffff_fff9,
         max_len: 0,
@@ -181,45 +203,11 @@ fn goes_to_tables(rt: &impl Abort, packet_out: &PacketOut, in_port: u32) {
 }
 
 /// Asserts that a PACKET_OUT names this buffer, or else brings the frame with it.
-fn brings(rt: &impl Abort, packet: &PacketData, buffer: Option<u32>) {
+pub(crate) fn brings(rt: &impl Abort, packet: &PacketData, buffer: Option<u32>) {
     let (found, frame) = match packet {
         PacketData::Frame(frame) => (None, frame.as_slice()),
         PacketData::Buffered(number) => (Some(*number), FRAME.as_slice()),
     };
     same(rt, "the buffer", &found, &buffer);
     same(rt, "the frame", &frame, &FRAME.as_slice());
-}
-
-pub(crate) fn is_packet_out(
-    rt: &impl Abort,
-    message: &Message,
-    in_port: u32,
-    buffer: Option<u32>,
-) -> Result<(), Fail> {
-    match message {
-        Message::PacketOut(packet_out) => {
-            goes_to_tables(rt, packet_out, in_port);
-            brings(rt, &packet_out.packet, buffer);
-            Ok(())
-        }
-        _ => Err("a PACKET_OUT".into()),
-    }
-}
-
-#[test]
-fn packet_out(rt: HostRuntime) -> Result<(), Fail> {
-    let shown = Shown::PacketOut(1, None);
-    is_shown(&rt, rt.alloc(), rows::PACKET_OUT, shown)
-}
-
-#[test]
-fn packet_out_of_a_buffer(rt: HostRuntime) -> Result<(), Fail> {
-    let shown = Shown::PacketOut(0xffff_fffd, Some(3));
-    is_shown(&rt, rt.alloc(), rows::PACKET_OUT_BUFFERED, shown)
-}
-
-#[test]
-fn what_follows_the_actions_of_a_buffer(rt: HostRuntime) -> Result<(), Fail> {
-    let shown = Shown::PacketOut(0xffff_fffd, Some(3));
-    is_shown(&rt, rt.alloc(), rows::PACKET_OUT_BUFFERED_AND_MORE, shown)
 }

@@ -1,15 +1,14 @@
-use crate::checks::{is_written, same};
+use crate::checks::same;
 use of_actions::{Action, ActionList};
 use of_messages::{
     Message, MessageBytes, MultipartRequest, PacketData, PacketOut, TableMod, read_message,
 };
 use of_requests::{WriteError, write_message};
-use of_test_rows::{bytes_of, sides};
+use of_test_rows::bytes_of;
 use std::alloc::Global;
-use std::process::Abort;
 use std::test::Fail;
 
-mod rows;
+pub(crate) mod rows;
 
 /// The transaction id of a message.
 fn xid_of(message: &[u8]) -> Result<u32, Fail> {
@@ -19,34 +18,11 @@ fn xid_of(message: &[u8]) -> Result<u32, Fail> {
     }
 }
 
-/// What is written of a message.
-fn written(alloc: Global, xid: u32, message: &Message) -> Result<MessageBytes, Fail> {
-    Ok(write_message(alloc, xid, message)?)
-}
-
-fn written_again(alloc: Global, read: &[u8]) -> Result<MessageBytes, Fail> {
-    let xid = xid_of(read)?;
-    written(alloc, xid, &read_message(alloc, read)?)
-}
-
 /// What is written of the message that is read of some bytes.
-fn rewritten(alloc: Global, words: &str) -> Result<MessageBytes, Fail> {
-    written_again(alloc, &bytes_of(alloc, words)?)
-}
-
-/// Asserts of each row that the message which is read of its bytes is written as those behind them.
-fn are_written(rt: &impl Abort, alloc: Global, text: &str) -> Result<(), Fail> {
-    for line in text.lines() {
-        if let Some((read, wanted)) = sides(line)? {
-            is_written(rt, alloc, rewritten(alloc, read)?.as_slice(), wanted)?;
-        }
-    }
-    Ok(())
-}
-
-#[test]
-fn each_kind(rt: HostRuntime) -> Result<(), Fail> {
-    are_written(&rt, rt.alloc(), rows::EACH_KIND)
+pub(crate) fn message_again(alloc: Global, words: &str) -> Result<MessageBytes, Fail> {
+    let bytes = bytes_of(alloc, words)?;
+    let message = read_message(alloc, &bytes)?;
+    Ok(write_message(alloc, xid_of(&bytes)?, &message)?)
 }
 
 /// A message that no bytes encode.
@@ -90,20 +66,12 @@ fn message_of(alloc: Global, unencoded: Unencoded) -> Result<Message, Fail> {
     }
 }
 
-/// Asserts that no bytes encode a message.
-fn is_not_encoded(rt: &impl Abort, alloc: Global, message: &Message) {
-    let refusal = write_message(alloc, 1, message).err();
-    same(rt, "no bytes", &refusal, &Some(WriteError::NotEncoded));
-}
-
-fn are_not_encoded(rt: &impl Abort, alloc: Global) -> Result<(), Fail> {
-    for unencoded in UNENCODED {
-        is_not_encoded(rt, alloc, &message_of(alloc, *unencoded)?);
-    }
-    Ok(())
-}
-
 #[test]
 fn without_bytes(rt: HostRuntime) -> Result<(), Fail> {
-    are_not_encoded(&rt, rt.alloc())
+    for unencoded in UNENCODED {
+        let message = message_of(rt.alloc(), *unencoded)?;
+        let refusal = write_message(rt.alloc(), 1, &message).err();
+        same(&rt, "no bytes", &refusal, &Some(WriteError::NotEncoded));
+    }
+    Ok(())
 }
