@@ -19,7 +19,7 @@ const KINDS: usize = 30;
 const FEW: usize = 4;
 
 /// Where a set has its actions. Filling unused places takes time, so most sets have few.
-#[derive(Debug, Drop)]
+#[derive(Drop)]
 enum Stored {
     Few(ArrayVec<Action, FEW>),
     All(ArrayVec<Action, KINDS>),
@@ -28,7 +28,7 @@ enum Stored {
 /// The actions that a packet gathers on its way, at most one of a kind (OpenFlow 1.3.5, 5.10).
 ///
 /// It is of fixed size and needs no allocation.
-#[derive(Debug, Drop)]
+#[derive(Drop)]
 pub struct ActionSet {
     // none until the first is written: most packets write none
     actions: Option<Stored>,

@@ -8,7 +8,7 @@ use std::alloc::AllocError;
 use std::marker::Model;
 
 /// At most 64 actions, in the order in which they are executed (OpenFlow 1.3.5, 5.11).
-#[derive(Debug, Drop)]
+#[derive(Drop)]
 pub struct ActionList {
     pub(crate) actions: Vec<Action>,
 }

@@ -19,7 +19,7 @@ use of_wire::{Code, put_u16, put_u32};
 use std::alloc::AllocError;
 
 /// What an action says beside its type and its length.
-#[derive(Clone, Copy, Debug, PartialEq, Eq)]
+#[derive(Clone, Copy, PartialEq, Eq)]
 pub enum Argument {
     Nothing,
     Byte(u8),

@@ -5,7 +5,7 @@ ghost use Rattle.of_actions.specs.InstructionLists.{type_of_instruction, run_pla
 use crate::action_list::{ActionList, are_supported};
 
 /// What an entry does with a packet (OpenFlow 1.3.5, 5.9 and 7.2.4).
-#[derive(Debug, Drop)]
+#[derive(Drop)]
 pub enum Instruction {
     /// OFPIT_APPLY_ACTIONS: executes the actions at once, in their order.
     Apply(ActionList),

@@ -9,7 +9,7 @@ use std::alloc::{AllocError, Global};
 use std::marker::Model;
 
 /// The instructions of an entry, in the order of execution: at most one of a type (OpenFlow 1.3.5, 5.9).
-#[derive(Debug, Drop)]
+#[derive(Drop)]
 pub struct InstructionList {
     pub(crate) instructions: Vec<Instruction>,
 }

@@ -3,7 +3,7 @@ ghost use Rattle.std.specs.Prelude.{◌≡◌};
 ghost use Rattle.of_actions.specs.Rows.{action_row as row_of_type};
 
 /// What an action says beside its type and its length.
-#[derive(Clone, Copy, Debug, PartialEq, Eq)]
+#[derive(Clone, Copy, PartialEq, Eq)]
 pub enum Form {
     Nothing,
     /// A number of one byte.
@@ -19,7 +19,7 @@ pub enum Form {
 }
 
 /// One action.
-#[derive(Clone, Copy, Debug)]
+#[derive(Clone, Copy)]
 pub struct ActionRow {
     /// OFPAT_*: its type.
     pub kind: u16,

@@ -8,7 +8,7 @@ use of_machine::{Item, ToController};
 use std::alloc::{AllocError, Global};
 
 /// What of that which leaves two switches is compared.
-#[derive(Clone, Copy, Debug, PartialEq, Eq)]
+#[derive(Clone, Copy, PartialEq, Eq)]
 pub enum Compared {
     /// The frames that leave by each port.
     Frames,
@@ -17,7 +17,7 @@ pub enum Compared {
 }
 
 /// Where two switches send something else.
-#[derive(Clone, Copy, Debug, PartialEq, Eq)]
+#[derive(Clone, Copy, PartialEq, Eq)]
 pub enum Where {
     /// Out of the port of this number.
     Port(u32),

@@ -85,7 +85,7 @@ pub struct Changed {
 }
 
 // How to go on in two lists of entries.
-#[derive(Clone, Copy, Debug, PartialEq, Eq)]
+#[derive(Clone, Copy, PartialEq, Eq)]
 enum Move {
     // The first entries say the same.
     Both,

@@ -8,7 +8,7 @@ use of_trace::{Asked, Form};
 use std::alloc::AllocError;
 
 /// How it is told what a frame would do.
-#[derive(Clone, Copy, Debug, PartialEq, Eq)]
+#[derive(Clone, Copy, PartialEq, Eq)]
 pub enum Manner {
     /// In words, as `replay --explain` tells it.
     Words,
@@ -17,7 +17,7 @@ pub enum Manner {
 }
 
 /// What a comment asks. The bytes of a frame are in the buffer that it was read with.
-#[derive(Clone, Copy, Debug, PartialEq, Eq)]
+#[derive(Clone, Copy, PartialEq, Eq)]
 pub enum Question {
     /// The groups and flow tables.
     Flows,

@@ -9,7 +9,7 @@ use of_oxm::FieldMask;
 use std::hash::{Hash, Hasher};
 
 /// The field maps that look like a key under a mask.
-#[derive(Clone, Copy, Debug, PartialEq, Eq)]
+#[derive(Clone, Copy, PartialEq, Eq)]
 pub struct Region {
     pub key: FieldKey,
     pub mask: FieldMask,
@@ -27,7 +27,7 @@ impl Hash for Region {
 }
 
 /// The number of the entry that wins in a region, or `None` where no entry matches there.
-#[derive(Clone, Copy, Debug, PartialEq, Eq)]
+#[derive(Clone, Copy, PartialEq, Eq)]
 pub struct Row {
     pub region: Region,
     pub answer: Option<usize>,

@@ -36,7 +36,7 @@ impl Display for Ending {
 }
 
 /// What one write to a connection came to.
-#[derive(Clone, Copy, Debug, PartialEq, Eq)]
+#[derive(Clone, Copy, PartialEq, Eq)]
 pub enum Attempt {
     /// This many bytes, one at least, were taken from the start.
     Took(usize),

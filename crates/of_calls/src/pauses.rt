@@ -10,7 +10,7 @@ pub const LONGEST_PAUSE: u64 = 5_000;
 
 /// How long a switch pauses after each call of a controller that nobody answers: 100 ms, and then twice as long from call
 /// to call, up to 5 s.
-#[derive(Clone, Copy, Debug, PartialEq, Eq)]
+#[derive(Clone, Copy, PartialEq, Eq)]
 pub struct Pauses {
     // in milliseconds
     next: u64,

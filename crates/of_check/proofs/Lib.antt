@@ -2,6 +2,7 @@ pub mod WinnerLemmas
 pub mod CoverLemmas
 pub mod OverlapLemmas
 pub mod WalkLemmas
+pub mod OutlineLemmas
 pub mod RivalLemmas
 pub mod FindingLemmas
 pub mod Together

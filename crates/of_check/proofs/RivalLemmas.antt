@@ -2,6 +2,7 @@
 use Rattle.std.proofs.Common.{◌≡◌, ℕ, ◌+◌, ◌<◌, ◌≤◌, ◌⊎◌, ◌^◌, Bool, true, false, Option, Some, None, List, [], ◌∷◌, ◌++◌, length, refl, sym, ap, subst, ◌∙◌, arith, inl, inr, below_more}
 use Rattle.std.specs.Prelude.{slice_get}
 use Rattle.std.specs.List.{AllByRecursion, Contains}
+use Rattle.std.specs.Option.{option_map}
 use Rattle.std.proofs.lemmas.List.Elements.{Contains-append_left, Contains-push, Contains-push_cases}
 use Rattle.std.proofs.lemmas.Bool.{cases_lt}
 use Rattle.std.proofs.lemmas.Option.{slice_get_past}
@@ -20,12 +21,19 @@ use Rattle.of_regions.specs.Conditions.{AreConditions}
 use Rattle.of_regions.proofs.NarrowingLemmas.{kept_condition}
 use Rattle.of_regions.specs.Searching.{AreTaking, IsFreePacket, IsStart}
 use Rattle.of_regions.specs.Witness.{IsIngressPort, fields_in}
+use Rattle.of_check.specs.declared.outline.Outline.{Outline}
+use Rattle.of_check.specs.Outlines.{outline_of, outlines_agree}
+use Rattle.of_check.proofs.OutlineLemmas.{none_overlap}
 use Rattle.of_check.specs.Verdicts.{AreRivals, GoesBefore, IsPacket, Matches, NeverWins, Packet, SomeMatches, WinsWith, fields_of}
 use Rattle.of_check.proofs.WinnerLemmas.{wins_alone}
 
 -- a higher priority than the second, or the same and an earlier place
 abbrev Precedes : FlowEntry → FlowEntry → ℕ → ℕ → Type 0
 Precedes a b j k = (b.flow.priority < a.flow.priority) ⊎ ((a.flow.priority ≡ b.flow.priority) × (j < k))
+
+-- the same, by their outlines
+abbrev pub ComesFirst : Outline → Outline → ℕ → ℕ → Type 0
+ComesFirst a b j k = (b.priority < a.priority) ⊎ ((a.priority ≡ b.priority) × (j < k))
 
 one_entry : (flows : List FlowEntry) (j : ℕ) (a b : FlowEntry) → slice_get flows j ≡ Some a → slice_get flows j ≡ Some b → a ≡ b
 one_entry flows j a b at is = cc
@@ -48,18 +56,17 @@ module _ (flows : List FlowEntry) (k : ℕ) (own : FlowEntry) (own_there : slice
   pub none_kept : AreRivalsBelow flows k own [] 0
   none_kept = record { each = λ q c. absurd (omega (arith, c.1)); conditions = λ q c. absurd (omega (arith, c.1)); all = λ j lt. absurd (omega (arith, lt)) }
 
-  module _ (rivals : List Rival) (at : ℕ) (x : FlowEntry) (there : slice_get flows at ≡ Some x) (so_far : AreRivalsBelow flows k own rivals at) where
-    pub one_kept : (r : Rival) → r.name ≡ at → r.fields.now ≡ x.flow.fields → IsMatch x.flow.fields → Precedes x own at k → AreRivalsBelow flows k own (rivals ++ r ∷ []) (at + 1)
-    one_kept r name fields is_match precedes = record {
+  module _ (rivals : List Rival) (at : ℕ) (so_far : AreRivalsBelow flows k own rivals at) where
+    pub one_kept : (r : Rival) → r.name ≡ at → (b : GoesBefore flows at k) → r.fields.now ≡ b.first.flow.fields → IsMatch b.first.flow.fields → AreRivalsBelow flows k own (rivals ++ r ∷ []) (at + 1)
+    one_kept r name before fields is_match = record {
       conditions = λ q c. elim (Contains-push_cases rivals r q c) as (λ w. AreConditions q.fields.now) [
         | inl old ↦ so_far.conditions q old
-        | inr same ↦ subst (λ (y : Rival). AreConditions y.fields.now) same (subst AreConditions (sym fields) (match_conditions x.flow.fields is_match.each))
+        | inr same ↦ subst (λ (y : Rival). AreConditions y.fields.now) same (subst AreConditions (sym fields) (match_conditions before.first.flow.fields is_match.each))
       ];
       each = λ q c. elim (Contains-push_cases rivals r q c) as (λ w. (b : GoesBefore flows q.name k) × (q.fields.now ≡ b.first.flow.fields)) [
         | inl old ↦ so_far.each q old
         | inr same ↦ subst (λ (y : Rival). (b : GoesBefore flows y.name k) × (y.fields.now ≡ b.first.flow.fields)) same
-            (subst (λ (n : ℕ). (b : GoesBefore flows n k) × (r.fields.now ≡ b.first.flow.fields)) (sym name)
-            (record { first = x; first_there = there; second = own; second_there = own_there; before = precedes }, fields))
+            (subst (λ (n : ℕ). (b : GoesBefore flows n k) × (r.fields.now ≡ b.first.flow.fields)) (sym name) (before, fields))
       ];
       all = below_more (λ (j : ℕ). (b : GoesBefore flows j k) → ((q : Rival) × Contains (rivals ++ r ∷ []) q × (q.name ≡ j)) ⊎ (overlaps_match b.first.flow.fields own.flow.fields ≡ false)) at
           (λ j lt b. elim (so_far.all j lt b) as (λ w. ((q : Rival) × Contains (rivals ++ r ∷ []) q × (q.name ≡ j)) ⊎ (overlaps_match b.first.flow.fields own.flow.fields ≡ false)) [
@@ -69,25 +76,15 @@ module _ (flows : List FlowEntry) (k : ℕ) (own : FlowEntry) (own_there : slice
           (λ b. inl (r, Contains-push rivals r, name));
     }
 
-    pub one_passed : ¬ (Precedes x own at k × (overlaps_match x.flow.fields own.flow.fields ≡ true)) → AreRivalsBelow flows k own rivals (at + 1)
-    one_passed neither = record {
+    pub one_passed : ((b : GoesBefore flows at k) → overlaps_match b.first.flow.fields own.flow.fields ≡ false) → AreRivalsBelow flows k own rivals (at + 1)
+    one_passed apart = record {
       each = so_far.each;
       conditions = so_far.conditions;
       all = below_more (λ (j : ℕ). (b : GoesBefore flows j k) → ((q : Rival) × Contains rivals q × (q.name ≡ j)) ⊎ (overlaps_match b.first.flow.fields own.flow.fields ≡ false)) at so_far.all (λ b. inr (apart b));
     }
-      where
-        by_test : (y : FlowEntry) → y ≡ x → Precedes y own at k → (t : Bool) → overlaps_match y.flow.fields own.flow.fields ≡ t → overlaps_match y.flow.fields own.flow.fields ≡ false
-        by_test y e p false t = t
-        by_test y e p true t = absurd (neither (subst (λ (z : FlowEntry). Precedes z own at k × (overlaps_match z.flow.fields own.flow.fields ≡ true)) e (p, t)))
 
-        apart : (b : GoesBefore flows at k) → overlaps_match b.first.flow.fields own.flow.fields ≡ false
-        apart b =
-            let first : b.first ≡ x = one_entry flows at b.first x b.first_there there in
-            let second : b.second ≡ own = one_entry flows k b.second own b.second_there own_there in
-            by_test b.first first (subst (λ (z : FlowEntry). Precedes b.first z at k) second b.before) (overlaps_match b.first.flow.fields own.flow.fields) refl
-
-  pub all_kept : (rivals : List Rival) (n : ℕ) → slice_get flows n ≡ None → AreRivalsBelow flows k own rivals n → length flows ≤ n → AreRivals flows k own rivals
-  all_kept rivals n none r len = record {
+  pub all_kept : (rivals : List Rival) (n : ℕ) → AreRivalsBelow flows k own rivals n → length flows ≤ n → AreRivals flows k own rivals
+  all_kept rivals n r len = record {
     each = r.each;
     conditions = r.conditions;
     all = λ j b. elim (cases_lt j n) as (λ w. ((q : Rival) × Contains rivals q × (q.name ≡ j)) ⊎ (overlaps_match b.first.flow.fields own.flow.fields ≡ false)) [
@@ -95,6 +92,48 @@ module _ (flows : List FlowEntry) (k : ℕ) (own : FlowEntry) (own_there : slice
       | inr le ↦ (let past : Some b.first ≡ None = sym b.first_there ∙ slice_get_past flows j (omega (arith, len, le)) in absurd cc)
     ];
   }
+
+  -- ---- the entry at a place
+
+  module _ (at : ℕ) (b : GoesBefore flows at k) where
+    before_own : Precedes b.first own at k
+    before_own = subst (λ (z : FlowEntry). Precedes b.first z at k) (one_entry flows k b.second own b.second_there own_there) b.before
+
+    pub outlines_tell : (other outline : Outline) → option_map outline_of (slice_get flows at) ≡ Some other → outline ≡ outline_of own → ¬ (ComesFirst other outline at k × (outlines_agree other outline ≡ true)) → overlaps_match b.first.flow.fields own.flow.fields ≡ false
+    outlines_tell other outline there is neither = by_test (outlines_agree (outline_of b.first) (outline_of own)) refl
+      where
+        first : outline_of b.first ≡ other
+        first = let found : Some (outline_of b.first) ≡ Some other = ap (option_map outline_of) (sym b.first_there) ∙ there in cc
+
+        not_both : ¬ (ComesFirst (outline_of b.first) (outline_of own) at k × (outlines_agree (outline_of b.first) (outline_of own) ≡ true))
+        not_both = subst (λ (o : Outline). ¬ (ComesFirst o (outline_of own) at k × (outlines_agree o (outline_of own) ≡ true))) (sym first) (subst (λ (o : Outline). ¬ (ComesFirst other o at k × (outlines_agree other o ≡ true))) is neither)
+
+        by_test : (t : Bool) → outlines_agree (outline_of b.first) (outline_of own) ≡ t → overlaps_match b.first.flow.fields own.flow.fields ≡ false
+        by_test false t = none_overlap b.first own t
+        by_test true t = absurd (not_both (before_own, t))
+
+    pub matches_tell : (x : FlowEntry) → slice_get flows at ≡ Some x → overlaps_match x.flow.fields own.flow.fields ≡ false → overlaps_match b.first.flow.fields own.flow.fields ≡ false
+    matches_tell x there apart = ap (λ (y : FlowEntry). overlaps_match y.flow.fields own.flow.fields) (one_entry flows at b.first x b.first_there there) ∙ apart
+
+    pub entry_tells : slice_get flows at ≡ None → overlaps_match b.first.flow.fields own.flow.fields ≡ false
+    entry_tells none = let there = b.first_there in absurd cc
+
+  comes_before : (at : ℕ) (x : FlowEntry) → slice_get flows at ≡ Some x → (other outline : Outline) → option_map outline_of (slice_get flows at) ≡ Some other → outline ≡ outline_of own → ComesFirst other outline at k → GoesBefore flows at k
+  comes_before at x there other outline outlined is before = record {
+    first = x;
+    first_there = there;
+    second = own;
+    second_there = own_there;
+    before = subst (λ (o : Outline). ComesFirst o (outline_of own) at k) (sym first) (subst (λ (o : Outline). ComesFirst other o at k) is before);
+  }
+    where
+      first : outline_of x ≡ other
+      first = let found : Some (outline_of x) ≡ Some other = ap (option_map outline_of) (sym there) ∙ outlined in cc
+
+  pub is_rival : (at : ℕ) (x : FlowEntry) (fields : List MatchField) → slice_get flows at ≡ Some x → (other outline : Outline) → option_map outline_of (slice_get flows at) ≡ Some other → outline ≡ outline_of own → ComesFirst other outline at k →
+      fields ≡ x.flow.fields → IsMatch x.flow.fields → (b : GoesBefore flows at k) × (fields ≡ b.first.flow.fields) × IsMatch b.first.flow.fields
+  unfolding comes_before
+  is_rival at x fields there other outline outlined is before same is_match = (comes_before at x there other outline outlined is before, same, is_match)
 
   -- ---- what a search says
 

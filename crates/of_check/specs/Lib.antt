@@ -1,4 +1,5 @@
 pub mod Verdicts
+pub mod Outlines
 pub mod Findings
 pub mod Text
 pub mod Files

@@ -5,7 +5,8 @@ ghost use Rattle.of_check.specs.Findings.{AreFindings, Checks, entries_below};
 ghost use Rattle.of_check.specs.Text.{is_never as is_never_in, some_found as is_some_found, some_never as some_never_in};
 
 use crate::finding::Finding;
-use crate::search::check_entry;
+use crate::outline::outlines_of;
+use crate::search::check_among;
 use crate::verdict::Verdict;
 use of_classifier::Lookup;
 use of_remarks::Remark;
@@ -25,15 +26,14 @@ fn check_table<L: Lookup>(
     ensures { OnOk result (AreFindings (entries_below table switch.now.core.forwarding.tables) switch.now.core.forwarding.tables steps findings.old.items →
         AreFindings (entries_below (suc table) switch.now.core.forwarding.tables) switch.now.core.forwarding.tables steps findings.new.items) }
 {
-    let mut place = 0;
-    for _entry in switch.datapath().entries(table) {
-        let verdict = check_entry(alloc, switch, table, place, steps)?;
+    let outlines = outlines_of(alloc, switch, table)?;
+    for place in 0..outlines.len() {
+        let verdict = check_among(alloc, switch, table, place, steps, &outlines)?;
         findings.push(Finding {
             table,
             place,
             verdict,
         })?;
-        place += 1;
     }
     Ok(())
 }

@@ -6,6 +6,7 @@ mod checking_events;
 mod checking_file;
 mod finding;
 mod laws;
+mod outline;
 mod printing;
 mod rivals;
 mod search;

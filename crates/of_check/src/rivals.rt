@@ -1,11 +1,14 @@
 //! The entries that leave one fewer packets.
-ghost use Rattle.std.specs.Prelude.{◌≡◌, ◌<◌, ◌⊎◌, ◌↔◌, ℕ, Some, IfNone, IfOk, IfSome, IsTrue, true, slice_get};
+ghost use Rattle.std.specs.Prelude.{◌≡◌, ◌<◌, ◌⊎◌, ◌↔◌, ℕ, Some, IfNone, IfOk, IfSome, IsTrue, false, true, slice_get};
+ghost use Rattle.std.specs.Option.{option_map};
 ghost use Rattle.of_oxm.specs.NormalForm.{IsMatch};
 ghost use Rattle.of_oxm.specs.Relations.{overlaps_match};
 ghost use Rattle.of_table.specs.Entries.{entry_of};
 ghost use Rattle.of_table.specs.Tables.{table_at};
-ghost use Rattle.of_check.specs.Verdicts.{AreRivals, Covers, is_covering};
+ghost use Rattle.of_check.specs.Outlines.{outline_of, outlines_agree, outlines_of as outlines_in};
+ghost use Rattle.of_check.specs.Verdicts.{AreRivals, Covers, GoesBefore, is_covering};
 
+use crate::outline::{Outline, may_overlap, outlined};
 use of_classifier::Lookup;
 use of_oxm::{covers, overlaps};
 use of_regions::Rival;
@@ -14,19 +17,51 @@ use of_table::Entry;
 use std::alloc::{AllocError, Global};
 
 // Whether an entry goes before another: it has a higher priority, or the same and is older (OpenFlow 1.3.5, 5.3).
-fn goes_before(entry: &Entry, at: usize, own: &Entry, place: usize) -> bool
-    ensures { IsTrue result ↔ ((own.now.flow.priority < entry.now.flow.priority) ⊎ ((entry.now.flow.priority ≡ own.now.flow.priority) × (at < place))) }
+fn goes_before(other: &Outline, at: usize, outline: &Outline, place: usize) -> bool
+    ensures { IsTrue result ↔ ((outline.now.priority < other.now.priority) ⊎ ((other.now.priority ≡ outline.now.priority) × (at < place))) }
 {
-    own.flow.priority < entry.flow.priority
-        || entry.flow.priority == own.flow.priority && at < place
+    outline.priority < other.priority || other.priority == outline.priority && at < place
 }
 
-// Whether an entry goes before another, and a packet may have both matches (OpenFlow 1.3.5, 5.3 and 6.4).
-fn is_rival(entry: &Entry, at: usize, own: &Entry, place: usize) -> bool
-    ensures { IsTrue result ↔ (((own.now.flow.priority < entry.now.flow.priority) ⊎ ((entry.now.flow.priority ≡ own.now.flow.priority) × (at < place))) ×
-        (overlaps_match entry.now.flow.fields own.now.flow.fields ≡ true)) }
+// Whether an entry goes before another, and their outlines agree.
+fn may_be_rival(other: &Outline, at: usize, outline: &Outline, place: usize) -> bool
+    ensures { IsTrue result ↔ (((outline.now.priority < other.now.priority) ⊎ ((other.now.priority ≡ outline.now.priority) × (at < place))) ×
+        (outlines_agree other.now outline.now ≡ true)) }
 {
-    goes_before(entry, at, own, place) && overlaps(&entry.flow.fields, &own.flow.fields)
+    goes_before(other, at, outline, place) && may_overlap(other, outline)
+}
+
+// The entry at a place, if it goes before another, and a packet may have both matches (OpenFlow 1.3.5, 5.3 and 6.4).
+fn rival_at<'a, L: Lookup>(
+    switch: &'a Switch<L>,
+    table: u8,
+    at: usize,
+    other: &Outline,
+    place: usize,
+    own: &Entry,
+    outline: &Outline,
+) -> Option<Rival<'a>>
+    requires table { table < 16 }
+    requires there { slice_get (table_at table switch.now.core.forwarding.tables).flows place ≡ Some (entry_of own.now) }
+    requires other { option_map outline_of (slice_get (table_at table switch.now.core.forwarding.tables).flows at) ≡ Some other.now }
+    requires outline { outline.now ≡ outline_of (entry_of own.now) }
+    ensures some { IfSome result (λ r. (r.name ≡ at) × ((b : GoesBefore (table_at table switch.now.core.forwarding.tables).flows at place) ×
+        (r.fields.now ≡ b.first.flow.fields) × IsMatch b.first.flow.fields)) }
+    ensures none { IfNone result ((b : GoesBefore (table_at table switch.now.core.forwarding.tables).flows at place) →
+        overlaps_match b.first.flow.fields (entry_of own.now).flow.fields ≡ false) }
+{
+    if !may_be_rival(other, at, outline, place) {
+        return None;
+    }
+    let entry = switch.datapath().entry(table, at)?;
+    if !overlaps(&entry.flow.fields, &own.flow.fields) {
+        return None;
+    }
+    entry.flow.fields.known();
+    Some(Rival {
+        name: at,
+        fields: entry.flow.fields.fields(),
+    })
 }
 
 /// The entries that go before the one at a place, and may match some of what it matches, oldest first, each named by its place.
@@ -36,22 +71,19 @@ pub fn rivals_of<'a, L: Lookup>(
     table: u8,
     place: usize,
     own: &Entry,
+    outlines: &[Outline],
 ) -> Result<Vec<Rival<'a>>, AllocError>
     requires table { table < 16 }
     requires there { slice_get (table_at table switch.now.core.forwarding.tables).flows place ≡ Some (entry_of own.now) }
+    requires outlines { outlines.now ≡ outlines_in (table_at table switch.now.core.forwarding.tables).flows }
     ensures { IfOk result (λ rivals. AreRivals (table_at table switch.now.core.forwarding.tables).flows place (entry_of own.now) rivals.items) }
 {
+    let outline = outlined(own);
     let mut rivals = Vec::new(alloc);
-    let mut at = 0;
-    for entry in switch.datapath().entries(table) {
-        if is_rival(entry, at, own, place) {
-            entry.flow.fields.known();
-            rivals.push(Rival {
-                name: at,
-                fields: entry.flow.fields.fields(),
-            })?;
+    for (at, other) in outlines.iter().enumerate() {
+        if let Some(rival) = rival_at(switch, table, at, other, place, own, &outline) {
+            rivals.push(rival)?;
         }
-        at += 1;
     }
     Ok(rivals)
 }

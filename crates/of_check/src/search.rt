@@ -2,8 +2,10 @@
 ghost use Rattle.std.specs.Prelude.{◌≡◌, ◌<◌, ℕ, Some, IfOk, slice_get};
 ghost use Rattle.of_table.specs.Entries.{entry_of};
 ghost use Rattle.of_table.specs.Tables.{table_at};
+ghost use Rattle.of_check.specs.Outlines.{outlines_of as outlines_in};
 ghost use Rattle.of_check.specs.Verdicts.{AreRivals, Covers, VerdictHolds};
 
+use crate::outline::{Outline, outlines_of};
 use crate::rivals::{first_cover, rivals_of};
 use crate::ties::is_tied;
 use crate::verdict::Verdict;
@@ -73,6 +75,30 @@ fn searched<L: Lookup>(
     }
 }
 
+/// The verdict on the entry of a table at a place by age, from 0, as `check_entry` gives it; the entries of the table have these outlines.
+pub fn check_among<L: Lookup>(
+    alloc: Global,
+    switch: &Switch<L>,
+    table: u8,
+    place: usize,
+    steps: usize,
+    outlines: &[Outline],
+) -> Result<Verdict, AllocError>
+    requires table { table < 16 }
+    requires outlines { outlines.now ≡ outlines_in (table_at table switch.now.core.forwarding.tables).flows }
+    ensures { IfOk result (VerdictHolds (table_at table switch.now.core.forwarding.tables).flows place steps) }
+{
+    let Some(own) = switch.datapath().entry(table, place) else {
+        return Ok(Verdict::Open);
+    };
+    own.flow.fields.known();
+    let rivals = rivals_of(alloc, switch, table, place, own, outlines)?;
+    match first_cover(switch, table, place, own, &rivals) {
+        Some(at) => covered_by(alloc, switch, table, place, own, at),
+        None => searched(alloc, switch, table, place, own, &rivals, steps),
+    }
+}
+
 /// The verdict on the entry of a table at a place by age, from 0 (OpenFlow 1.3.5, 5.3). An entry that no one entry covers is searched: `Open`
 /// means that it was not decided in so many steps, or that it wins, but no packet that comes in by a port that a switch may have; or that there is
 /// no such entry.
@@ -86,13 +112,6 @@ pub fn check_entry<L: Lookup>(
     requires { table < 16 }
     ensures { IfOk result (VerdictHolds (table_at table switch.now.core.forwarding.tables).flows place steps) }
 {
-    let Some(own) = switch.datapath().entry(table, place) else {
-        return Ok(Verdict::Open);
-    };
-    own.flow.fields.known();
-    let rivals = rivals_of(alloc, switch, table, place, own)?;
-    match first_cover(switch, table, place, own, &rivals) {
-        Some(at) => covered_by(alloc, switch, table, place, own, at),
-        None => searched(alloc, switch, table, place, own, &rivals, steps),
-    }
+    let outlines = outlines_of(alloc, switch, table)?;
+    check_among(alloc, switch, table, place, steps, &outlines)
 }

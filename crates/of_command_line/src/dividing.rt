@@ -8,7 +8,7 @@ use std::alloc::Global;
 const DEFAULT_STEPS: u32 = 100_000;
 
 /// Which frames are divided, and how.
-#[derive(Debug, PartialEq, Eq, Drop)]
+#[derive(PartialEq, Eq, Drop)]
 pub struct PathsAsked {
     pub file: String,
     /// Only frames that come in by this port, 1 to 0xffffff00.
@@ -26,7 +26,7 @@ pub struct PathsAsked {
 }
 
 /// Where paths lead.
-#[derive(Clone, Copy, Debug, PartialEq, Eq)]
+#[derive(Clone, Copy, PartialEq, Eq)]
 pub enum Leading {
     /// Out of this port, 1 to 0xffffff00.
     Port(u32),

@@ -50,7 +50,7 @@ const NO_FRAME: &str =
 const PORT_WORDS: &str = "the port is --port N, or in_port=N in the words of the frame";
 
 /// What the user asks for.
-#[derive(Debug, PartialEq, Eq, Drop)]
+#[derive(PartialEq, Eq, Drop)]
 pub enum Request {
     /// To run an event file on a new switch and print what it gives; `-` is standard input.
     Replay {
@@ -100,7 +100,7 @@ pub enum Request {
 }
 
 /// What is printed of the rows of an event file.
-#[derive(Clone, Copy, Debug, PartialEq, Eq)]
+#[derive(Clone, Copy, PartialEq, Eq)]
 pub enum ReplayOutput {
     /// What the switch gives.
     Effects,
@@ -111,7 +111,7 @@ pub enum ReplayOutput {
 }
 
 /// Which frame is traced, and how.
-#[derive(Debug, PartialEq, Eq, Drop)]
+#[derive(PartialEq, Eq, Drop)]
 pub struct Trace {
     pub file: String,
     pub kind: FileKind,
@@ -131,7 +131,7 @@ pub struct Trace {
 }
 
 /// Which file is checked, and how.
-#[derive(Debug, PartialEq, Eq, Drop)]
+#[derive(PartialEq, Eq, Drop)]
 pub struct Check {
     pub file: String,
     pub kind: FileKind,
@@ -141,7 +141,7 @@ pub struct Check {
 }
 
 /// Which switches are compared, and how.
-#[derive(Debug, PartialEq, Eq, Drop)]
+#[derive(PartialEq, Eq, Drop)]
 pub struct Diff {
     /// The files of the switches, of which at most one is `-`, standard input.
     pub first: String,
@@ -155,7 +155,7 @@ pub struct Diff {
 }
 
 /// What is printed of a check.
-#[derive(Clone, Copy, Debug, PartialEq, Eq)]
+#[derive(Clone, Copy, PartialEq, Eq)]
 pub enum CheckOutput {
     /// A line for each flow and each remark, for programs.
     Lines,
@@ -170,7 +170,7 @@ pub enum CheckOutput {
 }
 
 /// Of which kind the file of a switch is.
-#[derive(Clone, Copy, Debug, PartialEq, Eq)]
+#[derive(Clone, Copy, PartialEq, Eq)]
 pub enum FileKind {
     /// Its content says it.
     Guessed,
@@ -183,7 +183,7 @@ pub enum FileKind {
 }
 
 /// Entries of which a trace says why they won or did not.
-#[derive(Clone, Copy, Debug, PartialEq, Eq)]
+#[derive(Clone, Copy, PartialEq, Eq)]
 pub enum Asked {
     /// All of each table that is looked up.
     All,
@@ -192,7 +192,7 @@ pub enum Asked {
 }
 
 /// How controllers are served.
-#[derive(Debug, PartialEq, Eq, Drop)]
+#[derive(PartialEq, Eq, Drop)]
 pub struct Serve {
     pub meeting: Meeting,
     /// An event file with ports and frames; `-` is standard input.
@@ -205,7 +205,7 @@ pub struct Serve {
 }
 
 /// How the frames of a network are forwarded.
-#[derive(Debug, PartialEq, Eq, Drop)]
+#[derive(PartialEq, Eq, Drop)]
 pub struct Live {
     /// Where datagrams are received.
     pub tunnel: SocketAddr,
@@ -227,14 +227,14 @@ pub struct Live {
 }
 
 /// Where the frames of a port go.
-#[derive(Clone, Copy, Debug, PartialEq, Eq)]
+#[derive(Clone, Copy, PartialEq, Eq)]
 pub struct PortPeer {
     pub port: u32,
     pub address: SocketAddr,
 }
 
 /// How a switch and its controller come together.
-#[derive(Clone, Copy, Debug, PartialEq, Eq)]
+#[derive(Clone, Copy, PartialEq, Eq)]
 pub enum Meeting {
     /// The controller connects to this address.
     Listen(SocketAddr),
@@ -243,7 +243,7 @@ pub enum Meeting {
 }
 
 /// Why the words are no request.
-#[derive(Debug, PartialEq, Eq, Drop)]
+#[derive(PartialEq, Eq, Drop)]
 pub enum NoRequest {
     /// They ask for help or the version, which is this text.
     Asked(String),

@@ -7,7 +7,7 @@ use of_messages::{AsyncMasks, Role, RoleMasks, RoleRequest, SwitchConfig};
 use of_session::Phase;
 
 /// What a controller has set in a switch.
-#[derive(Clone, Copy, Debug, PartialEq, Eq)]
+#[derive(Clone, Copy, PartialEq, Eq)]
 pub struct Control {
     /// Its role (OpenFlow 1.3.5, 7.3.9).
     pub role: Role,
@@ -21,7 +21,7 @@ pub struct Control {
 
 /// What a controller receives of asynchronous messages: for which reasons, as bits (OpenFlow 1.3.5, 7.3.10), and how many bytes of a
 /// frame where no OUTPUT says it (7.3.2).
-#[derive(Clone, Copy, Debug, PartialEq, Eq)]
+#[derive(Clone, Copy, PartialEq, Eq)]
 pub struct AsyncConfig {
     pub packet_in: u32,
     pub port_status: u32,

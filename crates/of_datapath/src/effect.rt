@@ -8,7 +8,7 @@ use smallvec::SmallVec;
 pub type Effects = SmallVec<Effect, 2>;
 
 /// One thing that a call gives: what leaves, or the end of the connection.
-#[derive(Debug, Default, Drop)]
+#[derive(Default, Drop)]
 pub enum Effect {
     /// A message to the controller.
     Answer(MessageBytes),

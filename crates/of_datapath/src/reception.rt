@@ -3,7 +3,7 @@
 use of_ports::PortCount;
 
 /// What a port counts of a frame that it received.
-#[derive(Clone, Copy, Debug, PartialEq, Eq)]
+#[derive(Clone, Copy, PartialEq, Eq)]
 pub struct Reception {
     pub port: u32,
     pub what: PortCount,

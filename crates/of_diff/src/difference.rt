@@ -31,7 +31,7 @@ pub struct Difference {
 }
 
 /// Why it is not known whether frames are treated alike.
-#[derive(Clone, Copy, Debug, PartialEq, Eq)]
+#[derive(Clone, Copy, PartialEq, Eq)]
 pub enum Why {
     /// A lookup asks what is not known of a VLAN tag: of one below the outermost tag, or of a PCP that PUSH_VLAN copied.
     UnknownTag,

@@ -10,7 +10,7 @@ use of_alike::{are_tasks_from, have_equal_tasks};
 use of_symbolic_run::{SymbolicState, SymbolicTask, Work};
 
 // What a state comes to next.
-#[derive(Clone, Copy, Debug, PartialEq, Eq)]
+#[derive(Clone, Copy, PartialEq, Eq)]
 enum Place {
     /// No packet is left.
     Ended,
@@ -52,7 +52,7 @@ fn place_of(tasks: &[SymbolicTask<'_>]) -> Place
 }
 
 /// Which of two runs takes the next step.
-#[derive(Clone, Copy, Debug, PartialEq, Eq)]
+#[derive(Clone, Copy, PartialEq, Eq)]
 pub enum Turn {
     First,
     Second,

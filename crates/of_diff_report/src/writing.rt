@@ -18,7 +18,7 @@ use of_switch::Switch;
 use std::alloc::{AllocError, Global};
 
 /// How the report on two switches is written.
-#[derive(Clone, Copy, Debug, PartialEq, Eq)]
+#[derive(Clone, Copy, PartialEq, Eq)]
 pub enum DiffForm {
     /// In words.
     Words,
@@ -27,7 +27,7 @@ pub enum DiffForm {
 }
 
 /// Whether two switches treat all frames alike.
-#[derive(Clone, Copy, Debug, PartialEq, Eq)]
+#[derive(Clone, Copy, PartialEq, Eq)]
 pub enum DiffVerdict {
     /// They do.
     Same,

@@ -10,7 +10,7 @@ use of_wire::part_at;
 use std::alloc::AllocError;
 
 /// What is named.
-#[derive(Clone, Copy, Debug, PartialEq, Eq)]
+#[derive(Clone, Copy, PartialEq, Eq)]
 pub enum Names {
     /// The types of messages (OpenFlow 1.3.5, 7.1).
     Types,

@@ -62,7 +62,7 @@ pub const GET_ASYNC_REPLY: u8 = 27;
 pub const SET_ASYNC: u8 = 28;
 
 /// How many bytes a message has, with its header.
-#[derive(Clone, Copy, Debug, PartialEq, Eq)]
+#[derive(Clone, Copy, PartialEq, Eq)]
 pub enum Size {
     Exact(usize),
     Least(usize),
@@ -81,7 +81,7 @@ impl Size {
 }
 
 /// Whether this switch reads a message, sends it, does both, or neither.
-#[derive(Clone, Copy, Debug, PartialEq, Eq)]
+#[derive(Clone, Copy, PartialEq, Eq)]
 pub enum Way {
     Read,
     Sent,
@@ -99,7 +99,7 @@ impl Way {
 }
 
 /// A type of messages.
-#[derive(Clone, Copy, Debug)]
+#[derive(Clone, Copy)]
 pub struct MessageRow {
     /// Its number.
     pub kind: u8,

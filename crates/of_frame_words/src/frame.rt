@@ -14,7 +14,7 @@ use of_oxm::MatchField;
 use std::alloc::{AllocError, Global};
 
 /// A frame, and the port at which it is received.
-#[derive(Debug, Drop)]
+#[derive(Drop)]
 pub struct Received {
     pub port: u32,
     pub frame: Vec<u8>,

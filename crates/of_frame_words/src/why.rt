@@ -20,14 +20,14 @@ pub enum Why {
 }
 
 /// A word that is refused, and why.
-#[derive(Debug, Drop)]
+#[derive(Drop)]
 pub struct Refusal {
     pub word: Vec<u8>,
     pub why: Why,
 }
 
 /// Why there is no frame, or no match.
-#[derive(Debug, Drop)]
+#[derive(Drop)]
 pub enum NoFrame {
     NoMemory,
     Refused(Refusal),

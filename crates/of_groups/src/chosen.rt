@@ -5,7 +5,7 @@ use arrayvec::ArrayVec;
 use std::marker::Model;
 
 /// The places of the buckets of a group that run, in their order, at most 16 (OpenFlow 1.3.5, 5.6.1).
-#[derive(Debug, Drop)]
+#[derive(Drop)]
 pub struct Chosen {
     places: ArrayVec<u8, 16>,
 }

@@ -27,7 +27,7 @@ pub enum FrameFault {
 }
 
 /// What was read of one frame: where its layers begin, and its fields.
-#[derive(Clone, Copy, Debug)]
+#[derive(Clone, Copy)]
 pub struct Headers {
     pub layout: Layout,
     pub key: FieldKey,

@@ -13,7 +13,7 @@ use crate::layout::{Layout, layout_in};
 use crate::reading::key_in;
 
 /// What is known of the headers of one frame.
-#[derive(Clone, Copy, Debug)]
+#[derive(Clone, Copy)]
 pub enum Known {
     /// Nothing: they are to be read.
     Nothing,

@@ -12,14 +12,14 @@ use crate::transport::{named_over_ipv4, transport_in};
 use of_layers::Transport;
 
 /// What an IP packet carries, and where it begins, from the packet's start.
-#[derive(Clone, Copy, Debug, PartialEq, Eq)]
+#[derive(Clone, Copy, PartialEq, Eq)]
 pub struct Payload {
     pub transport: Transport,
     pub at: usize,
 }
 
 /// What follows the type of a frame.
-#[derive(Clone, Copy, Debug, PartialEq, Eq)]
+#[derive(Clone, Copy, PartialEq, Eq)]
 pub enum Network {
     /// Bytes that are not read further.
     Plain,
@@ -32,7 +32,7 @@ pub enum Network {
 }
 
 /// Where the layers of a frame begin. The type follows the addresses and so many tags, and the network layer follows the type; so a tag that is pushed or popped changes the number of tags alone.
-#[derive(Clone, Copy, Debug, PartialEq, Eq)]
+#[derive(Clone, Copy, PartialEq, Eq)]
 pub struct Layout {
     /// How many VLAN tags the frame has.
     pub tags: usize,

@@ -3,7 +3,7 @@
 use std::fmt::{self, Display, Formatter, Write};
 
 /// What a word has to be.
-#[derive(Clone, Copy, Debug, PartialEq, Eq)]
+#[derive(Clone, Copy, PartialEq, Eq)]
 pub enum Word {
     /// A decimal number up to this one.
     Decimal(u64),
@@ -27,7 +27,7 @@ pub enum Word {
 }
 
 /// A row or a line: how it begins, its other words, and all as people write it.
-#[derive(Clone, Copy, Debug)]
+#[derive(Clone, Copy)]
 pub struct Form {
     pub name: &'static [u8],
     pub words: &'static [Word],

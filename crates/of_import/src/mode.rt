@@ -1,7 +1,7 @@
 //! How a table is read.
 
 /// How a table is read.
-#[derive(Clone, Copy, Debug)]
+#[derive(Clone, Copy)]
 pub struct Mode {
     /// Whether lines and actions that cannot be imported are left out.
     pub skip: bool,

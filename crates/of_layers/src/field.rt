@@ -4,7 +4,7 @@ ghost use Rattle.std.specs.Prelude.{◌≡◌, ◌≤◌, ◌<◌};
 ghost use Rattle.of_layers.specs.Fields.{name_of, row_of, number_of, field_at};
 
 /// The prerequisite of a field, elsewhere in its match (OpenFlow 1.3.5, 7.2.3.6).
-#[derive(Clone, Copy, Debug, PartialEq, Eq)]
+#[derive(Clone, Copy, PartialEq, Eq)]
 pub enum Prerequisite {
     Nothing,
     /// A VLAN_VID other than 0, which says that there is no tag.
@@ -61,7 +61,7 @@ pub enum Field {
 }
 
 /// What the table of fields says of one field (OpenFlow 1.3.5, 7.2.3.7).
-#[derive(Clone, Copy, Debug)]
+#[derive(Clone, Copy)]
 pub struct FieldRow {
     /// Its number in the class `OFPXMC_OPENFLOW_BASIC`.
     pub number: u8,

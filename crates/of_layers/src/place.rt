@@ -1,7 +1,7 @@
 //! Where a field is in a frame.
 
 /// Where a field is in a frame: its first bit, counted from the frame's start, and how many bits it has.
-#[derive(Clone, Copy, Debug, PartialEq, Eq)]
+#[derive(Clone, Copy, PartialEq, Eq)]
 pub struct Place {
     pub first: usize,
     pub bits: usize,

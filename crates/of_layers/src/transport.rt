@@ -1,7 +1,7 @@
 //! What an IP packet carries.
 
 /// The header at the start of what an IP packet carries.
-#[derive(Clone, Copy, Debug, PartialEq, Eq)]
+#[derive(Clone, Copy, PartialEq, Eq)]
 pub enum Transport {
     /// None of the others, or not the whole of one.
     Nothing,

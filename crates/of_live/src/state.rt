@@ -425,7 +425,7 @@ impl<L: Lookup> Live<L> {
 }
 
 /// What is known of the connection when what waits is offered to it.
-#[derive(Clone, Copy, Debug, PartialEq, Eq)]
+#[derive(Clone, Copy, PartialEq, Eq)]
 pub struct Asks {
     /// Whether there is one.
     pub is_open: bool,

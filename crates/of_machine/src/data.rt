@@ -13,7 +13,7 @@ use std::alloc::Global;
 use std::default::MadeWith;
 
 /// A packet on its way through the tables (OpenFlow 1.3.5, 5.1).
-#[derive(Debug, Drop)]
+#[derive(Drop)]
 pub struct Packet<'a> {
     pub frame: PacketFrame<'a>,
     /// The number of the port at which it was received.
@@ -29,7 +29,7 @@ pub struct Packet<'a> {
 }
 
 /// What is emitted.
-#[derive(Debug, Drop)]
+#[derive(Drop)]
 pub enum Item {
     /// A frame out of a port.
     Sent { port: u32, frame: Bytes },
@@ -38,7 +38,7 @@ pub enum Item {
 }
 
 /// A packet to the controller (OpenFlow 1.3.5, 7.4.1).
-#[derive(Debug, Drop)]
+#[derive(Drop)]
 pub struct ToController {
     pub reason: PacketInReason,
     /// The table of the last lookup that found an entry.
@@ -56,7 +56,7 @@ pub struct ToController {
 }
 
 /// What is counted (OpenFlow 1.3.5, 5.8).
-#[derive(Clone, Copy, Debug, PartialEq, Eq)]
+#[derive(Clone, Copy, PartialEq, Eq)]
 pub enum Count {
     /// A lookup in a table.
     Lookup(u8),
@@ -82,7 +82,7 @@ pub enum Count {
 }
 
 /// One step of a packet.
-#[derive(Clone, Copy, Debug, PartialEq, Eq)]
+#[derive(Clone, Copy, PartialEq, Eq)]
 pub enum Step {
     /// No entry of the table was found.
     Miss(u8),
@@ -114,7 +114,7 @@ pub type Items = SmallVec<Item, 2>;
 pub type Counts = SmallVec<Count, 8>;
 
 /// What a run gives.
-#[derive(Debug, Drop)]
+#[derive(Drop)]
 pub struct Outcome {
     pub items: Items,
     pub counts: Counts,

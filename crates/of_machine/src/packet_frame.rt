@@ -15,14 +15,14 @@ use std::alloc::{AllocError, Global};
 use std::marker::Model;
 
 /// Where the bytes are. Beside lent ones stands what is known of their headers, as a [`Frame`] knows it of its own.
-#[derive(Debug, Drop)]
+#[derive(Drop)]
 enum Held<'a> {
     Lent(&'a [u8], Known),
     Own(Frame),
 }
 
 /// The frame of a packet: borrowed from the caller, until an action changes it.
-#[derive(Debug, Drop)]
+#[derive(Drop)]
 pub struct PacketFrame<'a> {
     held: Held<'a>,
 }

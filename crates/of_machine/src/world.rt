@@ -67,7 +67,7 @@ pub trait StepLog {
 }
 
 /// Keeps no step.
-#[derive(Clone, Copy, Debug)]
+#[derive(Clone, Copy)]
 pub struct NoLog;
 
 impl StepLog for NoLog {
@@ -83,7 +83,7 @@ impl StepLog for NoLog {
 }
 
 /// Keeps each step.
-#[derive(Debug, Drop)]
+#[derive(Drop)]
 pub struct Steps {
     pub list: Vec<Step>,
 }

@@ -16,7 +16,7 @@ use std::alloc::{AllocError, Global};
 const SIZE: usize = 32;
 
 /// The reasons for which a kind of message is sent, each a bit.
-#[derive(Clone, Copy, Debug, PartialEq, Eq)]
+#[derive(Clone, Copy, PartialEq, Eq)]
 pub struct RoleMasks {
     /// To a controller that is master or equal.
     pub master: u32,
@@ -25,7 +25,7 @@ pub struct RoleMasks {
 }
 
 /// The reasons for which a controller is sent asynchronous messages.
-#[derive(Clone, Copy, Debug, PartialEq, Eq)]
+#[derive(Clone, Copy, PartialEq, Eq)]
 pub struct AsyncMasks {
     pub packet_in: RoleMasks,
     pub port_status: RoleMasks,

@@ -18,14 +18,14 @@ use std::alloc::{AllocError, Global};
 const SIZE: usize = 12;
 
 /// The configuration of a switch, whose flags are 0: fragments are treated as other frames are (OpenFlow 1.3.5, 7.3.2).
-#[derive(Clone, Copy, Debug, PartialEq, Eq)]
+#[derive(Clone, Copy, PartialEq, Eq)]
 pub struct SwitchConfig {
     /// How many bytes of a frame a PACKET_IN has that no action asked for; 0xffff for all.
     pub miss_send_len: u16,
 }
 
 /// A TABLE_MOD (OpenFlow 1.3.5, 7.3.3).
-#[derive(Clone, Copy, Debug, PartialEq, Eq)]
+#[derive(Clone, Copy, PartialEq, Eq)]
 pub struct TableMod {
     /// 0 to 15, or 255 for all tables.
     pub table: u8,

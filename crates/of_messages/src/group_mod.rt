@@ -33,7 +33,7 @@ pub enum GroupMod {
     Delete(Option<u32>),
 }
 
-#[derive(Clone, Copy, Debug, PartialEq, Eq)]
+#[derive(Clone, Copy, PartialEq, Eq)]
 enum GroupCommand {
     Add,
     Modify,

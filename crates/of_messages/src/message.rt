@@ -13,7 +13,7 @@ use of_oxm::Match;
 use of_wire::{Bytes, FlowRemovedReason, PacketInReason};
 
 /// What a FLOW_MOD does (OpenFlow 1.3.5, 7.3.4.1). A strict command is about the entry whose match and priority are the same.
-#[derive(Clone, Copy, Debug, PartialEq, Eq)]
+#[derive(Clone, Copy, PartialEq, Eq)]
 pub enum FlowModCommand {
     Add,
     Modify { strict: bool },
@@ -45,7 +45,7 @@ impl FlowModCommand {
 }
 
 /// A FLOW_MOD (OpenFlow 1.3.5, 7.3.4.1).
-#[derive(Debug, Drop)]
+#[derive(Drop)]
 pub struct FlowMod {
     pub cookie: u64,
     pub cookie_mask: u64,
@@ -69,7 +69,7 @@ pub struct FlowMod {
 }
 
 /// The packet that a PACKET_OUT sends (OpenFlow 1.3.5, 7.3.7).
-#[derive(Debug, Drop)]
+#[derive(Drop)]
 pub enum PacketData {
     /// The packet that is held under this id; what follows the actions is ignored.
     Buffered(u32),
@@ -78,7 +78,7 @@ pub enum PacketData {
 }
 
 /// A PACKET_OUT (OpenFlow 1.3.5, 7.3.7).
-#[derive(Debug, Drop)]
+#[derive(Drop)]
 pub struct PacketOut {
     /// The ingress port of the packet: a port of the switch, or OFPP_CONTROLLER.
     pub in_port: u32,
@@ -87,7 +87,7 @@ pub struct PacketOut {
 }
 
 /// What a PACKET_IN says of a frame, besides its data (OpenFlow 1.3.5, 7.4.1).
-#[derive(Clone, Copy, Debug, PartialEq, Eq)]
+#[derive(Clone, Copy, PartialEq, Eq)]
 pub struct PacketIn {
     /// The id under which the frame is held; OFP_NO_BUFFER, 0xffffffff, where it is not.
     pub buffer: u32,
@@ -101,7 +101,7 @@ pub struct PacketIn {
 }
 
 /// What a FLOW_REMOVED says of an entry, besides its match (OpenFlow 1.3.5, 7.4.2).
-#[derive(Clone, Copy, Debug, PartialEq, Eq)]
+#[derive(Clone, Copy, PartialEq, Eq)]
 pub struct FlowRemoved {
     pub cookie: u64,
     pub priority: u16,

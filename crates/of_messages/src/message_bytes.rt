@@ -7,7 +7,7 @@ use std::marker::Model;
 
 /// The bytes of one message that the switch sends: 8 to 65,535 of them, of version 4, and the header says how many
 /// (OpenFlow 1.3.5, 7.1).
-#[derive(Debug, Drop)]
+#[derive(Drop)]
 pub struct MessageBytes {
     bytes: Bytes,
 }

@@ -19,7 +19,7 @@ use of_wire::{Code, ReadError};
 use std::alloc::Global;
 
 /// Which flows are asked for (OpenFlow 1.3.5, 7.3.5.2 and 7.3.5.3).
-#[derive(Debug, Drop)]
+#[derive(Drop)]
 pub struct FlowStatsRequest {
     /// 0 to 15, or 255 for all tables.
     pub table: u8,
@@ -34,7 +34,7 @@ pub struct FlowStatsRequest {
 }
 
 /// A MULTIPART_REQUEST (OpenFlow 1.3.5, 7.3.5).
-#[derive(Debug, Drop)]
+#[derive(Drop)]
 pub enum MultipartRequest {
     Description,
     Flow(FlowStatsRequest),

@@ -25,7 +25,7 @@ pub struct PortMod {
 }
 
 /// A port as messages describe it, without features and speeds (OpenFlow 1.3.5, 7.2.1).
-#[derive(Clone, Copy, Debug, PartialEq, Eq)]
+#[derive(Clone, Copy, PartialEq, Eq)]
 pub struct PortDescription {
     pub number: u32,
     pub hw: [u8; 6],
@@ -38,7 +38,7 @@ pub struct PortDescription {
 }
 
 /// Why a PORT_STATUS is sent (OpenFlow 1.3.5, 7.4.3).
-#[derive(Clone, Copy, Debug, PartialEq, Eq)]
+#[derive(Clone, Copy, PartialEq, Eq)]
 pub enum PortStatusReason {
     Add,
     Delete,

@@ -17,7 +17,7 @@ use std::alloc::{AllocError, Global};
 const SIZE: usize = 24;
 
 /// The role of a controller (OpenFlow 1.3.5, 6.3.4).
-#[derive(Clone, Copy, Debug, PartialEq, Eq)]
+#[derive(Clone, Copy, PartialEq, Eq)]
 pub enum Role {
     Equal,
     Master,
@@ -25,7 +25,7 @@ pub enum Role {
 }
 
 /// The role that a ROLE_REQUEST asks for (OpenFlow 1.3.5, 7.3.9). `generation` is its generation_id.
-#[derive(Clone, Copy, Debug, PartialEq, Eq)]
+#[derive(Clone, Copy, PartialEq, Eq)]
 pub enum RoleRequest {
     NoChange,
     Equal,

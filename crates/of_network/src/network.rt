@@ -6,7 +6,7 @@ ghost use Rattle.of_network.specs.Inputs.{IsInput, came_of, is_fault as is_fault
 use of_switch::Event;
 
 /// Where datagrams are received: an address and a UDP port.
-#[derive(Clone, Copy, Debug, PartialEq, Eq)]
+#[derive(Clone, Copy, PartialEq, Eq)]
 pub struct Endpoint {
     /// An IPv6 address, or an IPv4 address as `::ffff:a.b.c.d`.
     pub address: u128,
@@ -14,7 +14,7 @@ pub struct Endpoint {
 }
 
 /// Why a datagram, or a frame that should leave, was dropped.
-#[derive(Clone, Copy, Debug, PartialEq, Eq)]
+#[derive(Clone, Copy, PartialEq, Eq)]
 pub enum Dropped {
     /// A datagram that is shorter than a header, or whose header names no network.
     NoNetwork,
@@ -27,7 +27,7 @@ pub enum Dropped {
 }
 
 /// What the network tells.
-#[derive(Debug, Drop)]
+#[derive(Drop)]
 pub enum Input {
     /// This many nanoseconds have passed since the start.
     Time(u64),
@@ -73,7 +73,7 @@ impl Input {
 }
 
 /// How a write to the connection ended.
-#[derive(Clone, Copy, Debug, PartialEq, Eq)]
+#[derive(Clone, Copy, PartialEq, Eq)]
 pub struct Written {
     /// How many bytes the connection took.
     pub taken: usize,

@@ -8,7 +8,7 @@ use crate::network::Endpoint;
 use std::alloc::AllocError;
 
 /// Where the frames of a port go.
-#[derive(Clone, Copy, Debug, PartialEq, Eq)]
+#[derive(Clone, Copy, PartialEq, Eq)]
 pub struct Peer {
     pub port: u32,
     pub endpoint: Endpoint,

@@ -9,7 +9,7 @@ use of_wire::Bytes;
 use std::alloc::{AllocError, Global};
 
 /// What a line is that is written while the switch runs.
-#[derive(Debug, Drop)]
+#[derive(Drop)]
 pub enum RunningRow {
     /// A frame or a change of ports.
     Happens(Event),

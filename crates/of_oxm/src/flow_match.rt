@@ -14,7 +14,7 @@ use std::marker::Model;
 ///
 /// It is a normal form: no mask of zeros alone or of ones alone, each field once, in ascending order
 /// of number, and the prerequisites of its fields are in it.
-#[derive(Debug, Drop)]
+#[derive(Drop)]
 pub struct Match {
     pub(crate) fields: Vec<MatchField>,
 }

@@ -15,7 +15,7 @@ use crate::relations::bits_of;
 use of_headers::FieldKey;
 
 /// For each field a mask, or none where the field is not looked at.
-#[derive(Clone, Copy, Debug, PartialEq, Eq, Hash)]
+#[derive(Clone, Copy, PartialEq, Eq, Hash)]
 pub struct FieldMask {
     pub masks: FieldKey,
 }

@@ -22,7 +22,7 @@ pub struct PathClass {
 }
 
 /// Which sets of frames are put into one class.
-#[derive(Clone, Copy, Debug, PartialEq, Eq)]
+#[derive(Clone, Copy, PartialEq, Eq)]
 pub enum Merging {
     /// All sets whose steps differ only in which entries are hit. A frame of the first one is searched.
     SameWay,
@@ -31,7 +31,7 @@ pub enum Merging {
 }
 
 /// Why it is not known which steps frames take.
-#[derive(Clone, Copy, Debug, PartialEq, Eq)]
+#[derive(Clone, Copy, PartialEq, Eq)]
 pub enum WhyUndecided {
     /// A lookup asks what is not known of a VLAN tag: of one below the outermost tag, or of a PCP that PUSH_VLAN copied.
     UnknownTag,

@@ -8,7 +8,7 @@ use of_paths::{Path, PathClass};
 use of_wire::limits::{OFPP_ALL, OFPP_CONTROLLER, OFPP_FLOOD, OFPP_IN_PORT};
 
 /// Where a path leads.
-#[derive(Clone, Copy, Debug, PartialEq, Eq)]
+#[derive(Clone, Copy, PartialEq, Eq)]
 pub enum Destination {
     /// Out of a port, for some ingress port: an OUTPUT names it, or is to FLOOD, ALL or IN_PORT (OpenFlow 1.3.5, 5.12).
     Port(u32),

@@ -10,7 +10,7 @@ use of_values::push_decimal;
 use std::alloc::{AllocError, Global};
 
 /// An entry that a path hits: its table, and its number there by age, from 0.
-#[derive(Clone, Copy, Debug, PartialEq, Eq)]
+#[derive(Clone, Copy, PartialEq, Eq)]
 pub struct Hit {
     pub table: u8,
     pub number: usize,

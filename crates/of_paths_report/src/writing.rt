@@ -19,7 +19,7 @@ use of_switch::Switch;
 use std::alloc::{AllocError, Global};
 
 /// How the report on the frames that a switch receives is written.
-#[derive(Clone, Copy, Debug, PartialEq, Eq)]
+#[derive(Clone, Copy, PartialEq, Eq)]
 pub enum PathsForm {
     /// In words.
     Words,
@@ -28,7 +28,7 @@ pub enum PathsForm {
 }
 
 /// Whether it is known of all frames which steps they take.
-#[derive(Clone, Copy, Debug, PartialEq, Eq)]
+#[derive(Clone, Copy, PartialEq, Eq)]
 pub enum PathsVerdict {
     /// It is.
     Complete,

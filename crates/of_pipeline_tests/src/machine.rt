@@ -139,7 +139,7 @@ fn logged(
 ) -> Result<Outcome, Fail> {
     let mut log = Steps::new(alloc);
     let outcome = run(alloc, world, packet(rt, row.frame), &mut log)?;
-    same(rt, row.what, &log.list.as_slice(), &steps);
+    assert!(rt; log.list.as_slice() == steps, "steps at {}", row.what);
     Ok(outcome)
 }
 
@@ -154,7 +154,7 @@ fn packet_out(
     let mut log = Steps::new(alloc);
     let packet = packet(rt, row.frame);
     let outcome = run_actions(alloc, world, packet, actions.as_slice(), &mut log)?;
-    same(rt, row.what, &log.list.as_slice(), &steps);
+    assert!(rt; log.list.as_slice() == steps, "steps at {}", row.what);
     Ok(outcome)
 }
 
@@ -196,7 +196,7 @@ fn are_wanted(rt: &impl Abort, row: &Row, items: &[Item]) {
 
 fn are_counted(rt: &impl Abort, row: &Row, counts: &[Count]) {
     if let Some(wanted) = row.counts {
-        same(rt, row.what, &counts, &wanted);
+        assert!(rt; counts == wanted, "counts at {}", row.what);
     }
 }
 

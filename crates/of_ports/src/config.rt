@@ -15,7 +15,7 @@ const NO_FORWARD: u32 = 32;
 const NO_PACKET_IN: u32 = 64;
 
 /// What a controller sets in a port (OpenFlow 1.3.5, 7.2.1).
-#[derive(Clone, Copy, Debug, Default, PartialEq, Eq)]
+#[derive(Clone, Copy, Default, PartialEq, Eq)]
 pub struct PortConfig {
     /// OFPPC_PORT_DOWN: the port is administratively down.
     pub is_down: bool,

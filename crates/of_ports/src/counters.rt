@@ -3,7 +3,7 @@ ghost use Rattle.std.specs.Prelude.{◌≡◌};
 ghost use Rattle.of_ports.specs.Counters.{no_counters, plus, tally};
 
 /// What a port has counted since it was added (OpenFlow 1.3.5, 5.8). Counters wrap.
-#[derive(Clone, Copy, Debug, PartialEq, Eq)]
+#[derive(Clone, Copy, PartialEq, Eq)]
 pub struct PortCounters {
     pub rx_packets: u64,
     pub tx_packets: u64,
@@ -15,7 +15,7 @@ pub struct PortCounters {
 }
 
 /// What a port counts (OpenFlow 1.3.5, 5.8).
-#[derive(Clone, Copy, Debug, PartialEq, Eq)]
+#[derive(Clone, Copy, PartialEq, Eq)]
 pub enum PortCount {
     /// A frame of this many bytes was received.
     Received(usize),

@@ -13,7 +13,7 @@ const LINK_DOWN: u32 = 1;
 const LIVE: u32 = 4;
 
 /// A port of the switch.
-#[derive(Clone, Copy, Debug, PartialEq, Eq)]
+#[derive(Clone, Copy, PartialEq, Eq)]
 pub struct Port {
     /// 1 to 0xffffff00.
     pub number: u32,

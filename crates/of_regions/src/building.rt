@@ -22,7 +22,7 @@ use of_oxm::{FieldMask, Match, key_of, mask_of, matched_is_seen};
 use of_shapes::{Rule, Shape, Tagging};
 
 /// What is known of each field so far.
-#[derive(Clone, Copy, Debug)]
+#[derive(Clone, Copy)]
 pub struct Fields {
     pub masks: FieldMask,
     pub known: FieldKey,

@@ -9,7 +9,7 @@ ghost use Rattle.of_regions.specs.Joining.{IsAsked, IsRule, Joined};
 use of_shapes::Rule;
 
 /// What is known of a field: its mask and its bits under the mask, if it is there.
-#[derive(Clone, Copy, Debug)]
+#[derive(Clone, Copy)]
 pub struct Bits {
     pub mask: Option<u128>,
     pub known: Option<u128>,

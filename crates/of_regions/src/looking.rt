@@ -10,14 +10,14 @@ use crate::rival::Rival;
 use of_oxm::MatchField;
 
 /// A region that is left. None of the rivals before an index matches any of it.
-#[derive(Clone, Copy, Debug)]
+#[derive(Clone, Copy)]
 pub struct Rest {
     pub region: Region,
     pub from: usize,
 }
 
 /// What rivals do with a region.
-#[derive(Clone, Copy, Debug)]
+#[derive(Clone, Copy)]
 pub enum Look {
     /// None matches any of it.
     Free,

@@ -9,7 +9,7 @@ use crate::region::Region;
 use of_oxm::{MatchField, bits_of};
 
 /// What a match does with a region.
-#[derive(Clone, Copy, Debug)]
+#[derive(Clone, Copy)]
 pub enum Meeting {
     /// It matches none of its packets.
     Apart,

@@ -11,7 +11,7 @@ use of_shapes::{Shape, Tagging};
 /// Packets of one shape. Of each field that has a mask it is known whether they have it, and its bits under the mask.
 ///
 /// If something is known about tags, the tagging is known.
-#[derive(Clone, Copy, Debug)]
+#[derive(Clone, Copy)]
 pub struct Region {
     pub shape: Shape,
     pub tagging: Option<Tagging>,

@@ -1,5 +1,5 @@
 /// What is remarked of a configuration. A flow entry is named by its table, and its index there by age, from 0.
-#[derive(Clone, Copy, Debug, PartialEq, Eq)]
+#[derive(Clone, Copy, PartialEq, Eq)]
 pub enum Remark {
     /// The table has entries, and no packet comes to it: no GOTO_TABLE leads there from table 0 (OpenFlow 1.3.5, 5.1).
     Unreachable {

@@ -4,7 +4,7 @@ ghost use Rattle.of_replay.specs.declared.halt.Halt.TheVariants.{Memory};
 use std::alloc::AllocError;
 
 /// What stops a run before the end.
-#[derive(Clone, Copy, Debug, PartialEq, Eq)]
+#[derive(Clone, Copy, PartialEq, Eq)]
 pub enum Halt {
     /// The line of this number, from 1, is a bad row.
     Bad(u64),

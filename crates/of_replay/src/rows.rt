@@ -11,7 +11,7 @@ use of_text::{is, is_passed_over};
 use std::alloc::AllocError;
 
 /// A row of an event file. The bytes of a chunk or a frame are in the buffer that it was read with.
-#[derive(Clone, Copy, Debug, PartialEq, Eq)]
+#[derive(Clone, Copy, PartialEq, Eq)]
 pub enum Row {
     /// An empty line or a comment.
     Passed,

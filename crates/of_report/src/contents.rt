@@ -5,7 +5,7 @@ ghost use Rattle.of_report.specs.Contents.{begins_events as is_event_word, begin
 use of_text::{cut, is, is_passed_over};
 
 /// What a file is taken for.
-#[derive(Clone, Copy, Debug, PartialEq, Eq)]
+#[derive(Clone, Copy, PartialEq, Eq)]
 pub enum Content {
     FlowText,
     EventFile,

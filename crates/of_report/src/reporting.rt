@@ -17,7 +17,7 @@ use of_values::Origin;
 use std::alloc::{AllocError, Global};
 
 /// How a report is written.
-#[derive(Clone, Copy, Debug, PartialEq, Eq)]
+#[derive(Clone, Copy, PartialEq, Eq)]
 pub enum Form {
     /// In words: what is found, and a summary.
     Findings,

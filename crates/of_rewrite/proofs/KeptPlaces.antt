@@ -1,5 +1,5 @@
 -- Where the layers of a frame begin stays where a number is replaced.
-use Rattle.std.proofs.Common.{◌≡◌, ℕ, ◌+◌, ◌-◌, ◌*◌, ◌^◌, ◌<◌, ◌≤◌, List, [], ◌∷◌, ◌++◌, length, take, drop, Option, Some, None, refl, sym, ap, ◌∙◌, arith, true, false, cond}
+use Rattle.std.proofs.Common.{◌≡◌, ℕ, ◌+◌, ◌-◌, ◌*◌, ◌^◌, ◌<◌, ◌≤◌, List, [], ◌∷◌, ◌++◌, length, take, drop, Option, Some, None, refl, sym, ap, subst, ◌∙◌, arith, true, false, cond}
 use Rattle.std.specs.Prelude.{nat_le}
 use Rattle.std.proofs.lemmas.List.{append-nil, take_all, drop_all}
 use Rattle.of_layers.specs.Layers.{Layers, Body, Plain, Arp, Ipv4, Ipv6, header_checksum, checksum, ttl}
@@ -52,6 +52,11 @@ written_back : (len : ℕ) (old new : List ℕ) → len ≡ length old → lengt
 written_back len old new e h =
     let none : drop (length new) old ≡ [] = drop_all (length new) old (omega (arith, h)) in
     ap (λ (r : List ℕ). take len (new ++ r)) none ∙ ap (take len) (append-nil new) ∙ take_all len new (omega (arith, e, h))
+
+-- what holds of the bytes that were lent and what was written to them holds of the frame before and after
+pub written : (P : List ℕ → List ℕ → Type 0) (len : ℕ) (frame old lent new : List ℕ) → old ≡ frame → lent ≡ old → len ≡ length old → length new ≡ length old → P lent new →
+    P frame (take len (new ++ drop (length new) old))
+written P len frame old lent new is same e h p = subst (λ (s : List ℕ). P frame s) (sym (written_back len old new e h)) (subst (λ (s : List ℕ). P s new) (same ∙ is) p)
 
 pub kept : (len : ℕ) (old new : List ℕ) (y : Layout) → len ≡ length old → length new ≡ length old → 14 ≤ length old → length old < 2 ^ 61 → y ≡ layout_of (layers_of new) →
     (14 ≤ length (take len (new ++ drop (length new) old))) × (length (take len (new ++ drop (length new) old)) < 2 ^ 61) × (y ≡ layout_of (layers_of (take len (new ++ drop (length new) old))))

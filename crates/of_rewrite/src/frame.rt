@@ -39,7 +39,7 @@ pub enum Ttl {
 ///
 /// What is known of its headers stands beside them, so that they are read once: by the type's invariant it is what a new reading
 /// would give. A tag that is pushed or popped moves the places of all layers alike, and no field that is set decides them.
-#[derive(Debug, Drop)]
+#[derive(Drop)]
 pub struct Frame {
     bytes: Vec<u8>,
     known: Known,

@@ -7,7 +7,7 @@ ghost use Rattle.of_rewrite.specs.Spans.{with_word, stepped_sum, followed, both_
 use crate::checksum::{change_of, renewed_by};
 
 /// Words of a frame, each of two bytes: the byte where they begin, and how many there are.
-#[derive(Clone, Copy, Debug)]
+#[derive(Clone, Copy)]
 pub struct Span {
     pub at: usize,
     pub words: usize,
@@ -23,7 +23,7 @@ impl Span {
 }
 
 /// A checksum, whether words under it changed, and the words that it covers.
-#[derive(Clone, Copy, Debug)]
+#[derive(Clone, Copy)]
 pub struct Sum {
     pub value: u16,
     pub differs: bool,
@@ -59,7 +59,7 @@ impl Sum {
 }
 
 /// The checksums of a frame: that of the IPv4 header, and that of what an IP packet carries.
-#[derive(Clone, Copy, Debug)]
+#[derive(Clone, Copy)]
 pub struct Sums {
     pub header: Sum,
     pub carried: Sum,

@@ -6,7 +6,7 @@ ghost use Rattle.of_serve.specs.Told.{PeerCame, accept_came, Answered, then_told
 use of_replay::{Reading, Writing};
 
 /// What an accept answered.
-#[derive(Clone, Copy, Debug, PartialEq, Eq)]
+#[derive(Clone, Copy, PartialEq, Eq)]
 pub enum Accepted {
     /// A peer connected: its connection is open from now on.
     Open,

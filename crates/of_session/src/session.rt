@@ -55,7 +55,7 @@ pub enum Next {
 }
 
 /// A controller's connection, or that there is none.
-#[derive(Debug, Drop)]
+#[derive(Drop)]
 pub struct Session {
     phase: Phase,
     stream: Stream,

@@ -23,7 +23,7 @@ pub enum Beginning {
 /// The bytes that were received and not yet taken.
 ///
 /// Bytes that were taken are dropped where they are more than those that are left.
-#[derive(Debug, Drop)]
+#[derive(Drop)]
 pub struct Stream {
     bytes: Vec<u8>,
     start: usize,

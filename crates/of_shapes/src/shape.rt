@@ -6,7 +6,7 @@ use of_headers::Field;
 use of_layers::Prerequisite;
 
 /// The headers of a frame behind its type.
-#[derive(Clone, Copy, Debug, PartialEq, Eq)]
+#[derive(Clone, Copy, PartialEq, Eq)]
 pub enum Shape {
     /// No header that OpenFlow knows.
     Bare,
@@ -23,14 +23,14 @@ pub enum Shape {
 }
 
 /// Whether a frame has a VLAN tag.
-#[derive(Clone, Copy, Debug, PartialEq, Eq)]
+#[derive(Clone, Copy, PartialEq, Eq)]
 pub enum Tagging {
     Untagged,
     Tagged,
 }
 
 /// What is known about a field.
-#[derive(Clone, Copy, Debug)]
+#[derive(Clone, Copy)]
 pub enum Rule {
     /// Nothing.
     Free,

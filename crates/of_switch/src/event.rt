@@ -4,7 +4,7 @@ use of_datapath::Effects;
 use of_wire::Bytes;
 
 /// What happens to a switch.
-#[derive(Debug, Drop)]
+#[derive(Drop)]
 pub enum Event {
     /// A controller connects.
     Connect,
@@ -21,7 +21,7 @@ pub enum Event {
 }
 
 /// What an event gave.
-#[derive(Debug, Drop)]
+#[derive(Drop)]
 pub enum Report {
     /// These effects, in order.
     Gives(Effects),

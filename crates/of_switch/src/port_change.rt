@@ -1,5 +1,5 @@
 /// A change of the switch's ports (OpenFlow 1.3.5, 7.2.1).
-#[derive(Clone, Copy, Debug, PartialEq, Eq)]
+#[derive(Clone, Copy, PartialEq, Eq)]
 pub enum PortChange {
     /// A port is added.
     Add {

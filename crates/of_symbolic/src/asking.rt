@@ -13,7 +13,7 @@ use of_oxm::MatchField;
 const PRESENT: u128 = 0x1000;
 
 /// What one field of a match asks of the frame that came in.
-#[derive(Clone, Copy, Debug)]
+#[derive(Clone, Copy)]
 pub enum Asked {
     /// No frame agrees.
     Never,

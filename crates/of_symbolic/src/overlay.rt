@@ -12,7 +12,7 @@ use of_headers::{Field, FieldKey};
 use std::alloc::{AllocError, Global};
 
 /// The VID or the PCP of a tag that was pushed.
-#[derive(Clone, Copy, Debug, PartialEq, Eq)]
+#[derive(Clone, Copy, PartialEq, Eq)]
 pub enum TagNumber {
     /// This number.
     Value(u16),
@@ -25,21 +25,21 @@ pub enum TagNumber {
 }
 
 /// What is known of a tag that was pushed.
-#[derive(Clone, Copy, Debug, PartialEq, Eq)]
+#[derive(Clone, Copy, PartialEq, Eq)]
 pub struct PushedTag {
     pub vid: TagNumber,
     pub pcp: TagNumber,
 }
 
 /// What the outermost tag of the frame that came in was set to, if there is one. None is as it was received.
-#[derive(Clone, Copy, Debug, PartialEq, Eq)]
+#[derive(Clone, Copy, PartialEq, Eq)]
 pub struct ReceivedTag {
     pub vid: Option<u16>,
     pub pcp: Option<u16>,
 }
 
 /// What is known of a packet that actions rewrote, in terms of the frame that came in (OpenFlow 1.3.5, 5.12).
-#[derive(Debug, Drop)]
+#[derive(Drop)]
 pub struct Overlay {
     /// The last value that each field was set to. Those of tags are in the tags too.
     pub set: FieldKey,

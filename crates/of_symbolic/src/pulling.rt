@@ -11,7 +11,7 @@ use of_oxm::{Match, MatchField};
 use std::alloc::{AllocError, Global};
 
 /// What a match on a packet asks of the frame that came in.
-#[derive(Debug, Drop)]
+#[derive(Drop)]
 pub enum Pulled {
     /// No frame that came in makes it match.
     Never,

@@ -13,7 +13,7 @@ use of_machine::Step;
 use std::alloc::{AllocError, Global};
 
 /// What came of the first work of the first packet.
-#[derive(Clone, Copy, Debug, PartialEq, Eq)]
+#[derive(Clone, Copy, PartialEq, Eq)]
 pub enum Advance {
     /// It is done. If there was no work, the packet is removed.
     Done,

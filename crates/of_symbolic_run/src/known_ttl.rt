@@ -5,7 +5,7 @@ ghost use Rattle.of_symbolic_run.specs.TimesToLive.{IsBelowMost, known_ttl, ttl_
 use of_actions::Action;
 
 /// What is known of the TTL of a packet that actions rewrote, in terms of that of the frame that came in (OpenFlow 1.3.5, 5.12).
-#[derive(Clone, Copy, Debug, PartialEq, Eq)]
+#[derive(Clone, Copy, PartialEq, Eq)]
 pub enum KnownTtl {
     /// That of the frame that came in, less so much, but not below 1. A TTL of 0 stays 0.
     Less(usize),

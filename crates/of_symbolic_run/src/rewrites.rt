@@ -11,7 +11,7 @@ use std::alloc::{AllocError, Global};
 use std::marker::Model;
 
 /// The rewriting actions that were applied to a frame, the first one first (OpenFlow 1.3.5, 5.12).
-#[derive(Debug, Drop)]
+#[derive(Drop)]
 pub struct Rewrites {
     actions: Vec<Action>,
 }

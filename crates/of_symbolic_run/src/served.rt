@@ -7,7 +7,7 @@ use of_actions::{Action, Instruction};
 use std::marker::Model;
 
 /// An action that an instruction or a bucket may have. It is supported.
-#[derive(Clone, Copy, Debug)]
+#[derive(Clone, Copy)]
 pub struct ServedAction {
     action: Action,
 }

@@ -11,7 +11,7 @@ use of_machine::Step;
 use std::alloc::{AllocError, Global};
 
 /// A packet, for each frame that came in: all except its frame and its ingress port is the same for each (OpenFlow 1.3.5, 5.1).
-#[derive(Debug, Drop)]
+#[derive(Drop)]
 pub struct SymbolicPacket {
     pub rewrites: Rewrites,
     pub metadata: u64,
@@ -44,7 +44,7 @@ pub struct SymbolicTask<'a> {
 }
 
 /// What a packet emits. What an OUTPUT sends depends on the frame's ingress port, and on the ports of the switch.
-#[derive(Debug, Drop)]
+#[derive(Drop)]
 pub enum Emission {
     Output {
         packet: SymbolicPacket,

@@ -8,7 +8,7 @@ use std::alloc::{AllocError, Global};
 use std::marker::Model;
 
 /// The actions that WRITE_ACTIONS wrote since the action set was empty, in order (OpenFlow 1.3.5, 5.9 and 5.10). Each is supported.
-#[derive(Debug, Drop)]
+#[derive(Drop)]
 pub struct Written {
     actions: Vec<Action>,
 }

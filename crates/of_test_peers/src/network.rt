@@ -10,7 +10,7 @@ use of_wire::Bytes;
 use std::alloc::{AllocError, Global};
 
 /// What a script tells at one time.
-#[derive(Debug, Drop)]
+#[derive(Drop)]
 pub enum Line {
     Time(u64),
     Datagram { from: Endpoint, bytes: Bytes },
@@ -24,7 +24,7 @@ pub enum Line {
 }
 
 /// What passed between a network and a switch.
-#[derive(Debug, Drop)]
+#[derive(Drop)]
 pub enum Passed {
     /// The network told one of these.
     Time(u64),
@@ -62,7 +62,7 @@ pub enum Passed {
 }
 
 /// How the connection and the log take bytes.
-#[derive(Clone, Copy, Debug, PartialEq, Eq)]
+#[derive(Clone, Copy, PartialEq, Eq)]
 pub struct Taking {
     /// How many bytes a write takes at most.
     pub most: usize,

@@ -10,7 +10,7 @@ use std::alloc::{AllocError, Global};
 use std::marker::Model;
 
 /// What one accept or one read of a script answers.
-#[derive(Debug, Drop)]
+#[derive(Drop)]
 pub enum Line {
     /// A peer connects.
     Open,
@@ -25,7 +25,7 @@ pub enum Line {
 }
 
 /// Which calls of peers fail, beside those that their script says. Accepts, reads and writes are counted together, from 1.
-#[derive(Clone, Copy, Debug, PartialEq, Eq)]
+#[derive(Clone, Copy, PartialEq, Eq)]
 pub enum Failing {
     /// None of them.
     Never,

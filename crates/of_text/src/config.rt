@@ -14,7 +14,7 @@ use std::marker::Model;
 /// Groups in ascending order of number, and the flows of sixteen tables, oldest first (OpenFlow 1.3.5, 5.1, 5.2 and 5.6).
 ///
 /// They are groups and flows that some text encodes, and none of them is refused.
-#[derive(Debug, Drop)]
+#[derive(Drop)]
 pub struct Config {
     pub(crate) groups: Vec<GroupText>,
     pub(crate) tables: Vec<Vec<FlowText>>,

@@ -14,14 +14,14 @@ use of_lines::{BucketHead, GroupHead, Row};
 use std::alloc::{AllocError, Global};
 
 /// A bucket of a group in text. Its actions need not be ones that a switch supports.
-#[derive(Debug, Drop)]
+#[derive(Drop)]
 pub struct BucketText {
     pub head: BucketHead,
     pub actions: Vec<Action>,
 }
 
 /// A group in text. It need not be one that a switch accepts.
-#[derive(Debug, Drop)]
+#[derive(Drop)]
 pub struct GroupText {
     pub head: GroupHead,
     /// Its buckets, in their order.

@@ -1,7 +1,7 @@
 //! How much the text of a trace says.
 
 /// Of which entries a trace says why they won or did not, of the tables that were looked at.
-#[derive(Clone, Copy, Debug, PartialEq, Eq)]
+#[derive(Clone, Copy, PartialEq, Eq)]
 pub enum Asked {
     Nothing,
     All,
@@ -10,7 +10,7 @@ pub enum Asked {
 }
 
 /// How the text of a trace says it.
-#[derive(Clone, Copy, Debug, PartialEq, Eq)]
+#[derive(Clone, Copy, PartialEq, Eq)]
 pub enum Style {
     /// In the rows of flow text and of event output, for programs.
     Lines,
@@ -19,7 +19,7 @@ pub enum Style {
 }
 
 /// What is written of a trace.
-#[derive(Clone, Copy, Debug, PartialEq, Eq)]
+#[derive(Clone, Copy, PartialEq, Eq)]
 pub enum Output {
     /// Text in lines for programs.
     Lines(Form),
@@ -30,7 +30,7 @@ pub enum Output {
 }
 
 /// How much the text of a trace says.
-#[derive(Clone, Copy, Debug, PartialEq, Eq)]
+#[derive(Clone, Copy, PartialEq, Eq)]
 pub enum Form {
     /// The steps and the effects, a line each.
     Plain,

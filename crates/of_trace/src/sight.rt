@@ -13,7 +13,7 @@ use of_rewrite::Frame;
 use std::alloc::{AllocError, Global};
 
 /// What tables see of a packet (OpenFlow 1.3.5, 5.3).
-#[derive(Debug, Drop)]
+#[derive(Drop)]
 pub struct Sight {
     pub frame: Frame,
     /// The number of the port at which it was received.

@@ -3,7 +3,7 @@
 use of_oxm::MatchField;
 
 /// Why an entry won or did not (OpenFlow 1.3.5, 5.3). Entries are named by their index by age, from 0.
-#[derive(Clone, Copy, Debug, PartialEq, Eq)]
+#[derive(Clone, Copy, PartialEq, Eq)]
 pub enum Reason {
     /// It is the entry that the packet hits.
     Won,

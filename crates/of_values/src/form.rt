@@ -5,7 +5,7 @@ ghost use Rattle.of_values.specs.Values.{form_of as form_in};
 use of_layers::Field;
 
 /// How a value of a field is written.
-#[derive(Clone, Copy, Debug, PartialEq, Eq)]
+#[derive(Clone, Copy, PartialEq, Eq)]
 pub enum Form {
     /// In decimal.
     Number,

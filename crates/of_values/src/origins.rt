@@ -7,7 +7,7 @@ use crate::characters::push_printable;
 use std::alloc::AllocError;
 
 /// Where a flow entry comes from.
-#[derive(Debug, Drop)]
+#[derive(Drop)]
 pub struct Origin {
     /// The line of a file that it begins at, from 1.
     pub line: usize,

@@ -5,7 +5,7 @@ use std::alloc::{AllocError, Global};
 use std::marker::Model;
 
 /// Owned bytes, as a message or a frame.
-#[derive(Debug, Drop)]
+#[derive(Drop)]
 pub struct Bytes {
     bytes: Vec<u8>,
 }

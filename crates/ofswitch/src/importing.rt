@@ -14,7 +14,7 @@ use std::alloc::Global;
 use std::io::Read;
 
 /// Why nothing was printed, or not all.
-#[derive(Debug, Drop)]
+#[derive(Drop)]
 pub enum NotImported {
     /// Lines are refused, which standard error names.
     Faults,
@@ -23,7 +23,7 @@ pub enum NotImported {
 }
 
 /// How often a keyword was refused.
-#[derive(Debug, Drop)]
+#[derive(Drop)]
 struct Tally {
     name: Vec<u8>,
     lines: usize,

@@ -3,11 +3,7 @@ use Rattle.of_table.specs.Tables.{table_at}
 use Rattle.of_check.specs.Findings.{AreFindings, entries_below, first_entries}
 use Rattle.of_check.proofs.checking.check_table.Given as goal
 
-abbrev pub invariant-loop-entry : goal.invariant-loop-entry
-invariant-loop-entry g l =
+abbrev pub invariant-loop-place : goal.invariant-loop-place
+invariant-loop-place g l =
     let ts = l.switch.core.forwarding.tables in
-    record {
-      few : l.place + length l._entry-iterator ≤ 4096;
-      left : l.place + length l._entry-iterator ≡ length (table_at l.table ts).flows;
-      found : AreFindings (entries_below l.table ts) ts l.steps l.fn.findings.items → AreFindings (entries_below l.table ts ++ first_entries l.table l.place) ts l.steps l.findings.items;
-    }
+    AreFindings (entries_below l.table ts) ts l.steps l.fn.findings.items → AreFindings (entries_below l.table ts ++ first_entries l.table l.place) ts l.steps l.findings.items

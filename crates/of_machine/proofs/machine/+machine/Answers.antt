@@ -1,7 +1,7 @@
-use Rattle.std.proofs.Common.{◌≡◌, ◌+◌, ◌++◌, ◌∷◌, [], false, rules, drop, get_or, ◌∙◌, ap}
+use Rattle.std.proofs.Common.{◌≡◌, ◌+◌, ◌++◌, ◌∷◌, [], false, rules, drop, get_or, refl, ◌∙◌, ap}
 use Rattle.std.specs.Prelude.{IsTrue}
 use Rattle.std.proofs.lemmas.List.{drop_all}
-use Rattle.std.proofs.lemmas.Result.{err_from_is_err_and, on_ok_weaker, on_err_weaker}
+use Rattle.std.proofs.lemmas.Result.{IfOk-weaker, err_from_is_err_and, on_ok_weaker, on_err_weaker}
 use Rattle.of_actions.specs.declared.action.Action.TheVariants.{Output}
 use Rattle.of_actions.specs.Supported.{is_supported}
 use Rattle.of_action_set.specs.Sets.{in_order}
@@ -125,3 +125,68 @@ pub to_group-returns-in_ok-step-in-Some-clause-err : goal.to_group-returns-in_ok
 to_group-returns-in_ok-step-in-Some-clause-err g t c =
     let counts = rw (c.as_slice.ensures.places, c.len.ensures) at c.in_ok-count_uses-in-Some.ensures.counts in
     on_err_weaker c.run_buckets.result (λ m rest others start h. m (task c.args.packet.now rest ∷ others) start (rw c.as_slice-in-Some.ensures.places (groups (g.W.World.view c.args.world.now) g.S.StepLog.KEEPS c.args.packet.now rest others c.args.outcome.now (g.S.StepLog.list c.args.log.now) (g.S.StepLog.list c.step-in-Some.new.self) c.count_uses.new.outcome c.args.group c.in-Some.places c.in-Some.ensures c.in_ok-count_uses-in-Some.ensures.items counts c.in_ok-step-in-Some.ensures.ok start h))) c.run_buckets.ensures.err
+
+pub act-returns-in_err-emit-in-Output-clause-err : goal.act-returns-in_err-emit-in-Output-clause-err
+act-returns-in_err-emit-in-Output-clause-err g t c =
+    let p = err_from_is_err_and c.from_residual.result c.from_residual.ensures.1 in
+    rw p.1 (λ rest others. stays (g.W.World.view c.args.world.now) g.S.StepLog.KEEPS _ (g.S.StepLog.list c.args.log.now) refl)
+
+pub act-returns-in_err-step-in-Output-clause-err : goal.act-returns-in_err-step-in-Output-clause-err
+act-returns-in_err-step-in-Output-clause-err g t c =
+    let p = err_from_is_err_and c.from_residual-in_err-step-in-Output.result c.from_residual-in_err-step-in-Output.ensures.1 in
+    rw p.1 (λ rest others. stays (g.W.World.view c.args.world.now) g.S.StepLog.KEEPS _ (g.S.StepLog.list c.step.new.self) c.in_err-step-in-Output.ensures.err)
+
+pub act-returns-in_err-rewrite-in_default : goal.act-returns-in_err-rewrite-in_default
+act-returns-in_err-rewrite-in_default g t c =
+    let p = err_from_is_err_and c.from_residual-in_err-rewrite-in_default.result c.from_residual-in_err-rewrite-in_default.ensures.1 in
+    rw p.1 (record { ok = tt; err = λ rest others. stays (g.W.World.view c.args.world.now) g.S.StepLog.KEEPS _ (g.S.StepLog.list c.args.log.now) refl })
+
+pub act-returns-in_err-step-in_default : goal.act-returns-in_err-step-in_default
+act-returns-in_err-step-in_default g t c =
+    let p = err_from_is_err_and c.from_residual-in_err-step-in_default.result c.from_residual-in_err-step-in_default.ensures.1 in
+    rw p.1 (record { ok = tt; err = λ rest others. stays (g.W.World.view c.args.world.now) g.S.StepLog.KEEPS _ (g.S.StepLog.list c.step-in_default.new.self) c.in_err-step-in_default.ensures.err })
+
+pub act-returns-in_ok-to_group-in-Group-clause-ok : goal.act-returns-in_ok-to_group-in-Group-clause-ok
+act-returns-in_ok-to_group-in-Group-clause-ok g t c = rw c.in-Group.is c.in_ok-to_group-in-Group.ensures.ok
+
+pub act-returns-in-DecNwTtl-clause-ok : goal.act-returns-in-DecNwTtl-clause-ok
+act-returns-in-DecNwTtl-clause-ok g t c =
+    rw c.in-DecNwTtl.is (IfOk-weaker c.age.result _ _ (λ going h. h (g.W.World.view c.args.world.now)) c.age.ensures.ok)
+
+pub act_all-returns-in-Ended-clause-ok : goal.act_all-returns-in-Ended-clause-ok
+act_all-returns-in-Ended-clause-ok g t c =
+    let l = c.args.actions.now in
+    let i = c.loop-action.action-index in
+    λ rest others start h. rw c.in-Ended.is at (c.in_ok-act.ensures.ok (acts (drop (i + 1) l) ++ rest) others start
+    (rw (acts_at l i (Output 0 0) c.loop-action-test.true) at (c.loop-action.invariant rest others start h)))
+
+pub act_all-loop-action-preserved : goal.act_all-loop-action-preserved
+act_all-loop-action-preserved g t c =
+    let l = c.args.actions.now in
+    let i = c.loop-action.action-index in
+    λ rest others start h. rw c.in-Continues.is at (c.in_ok-act.ensures.ok (acts (drop (i + 1) l) ++ rest) others start
+    (rw (acts_at l i (Output 0 0) c.loop-action-test.true) at (c.loop-action.invariant rest others start h)))
+
+pub act_all-returns-clause-ok : goal.act_all-returns-clause-ok
+act_all-returns-clause-ok g t c =
+    let gone : drop c.loop-action.action-index c.args.actions.now ≡ [] = drop_all c.loop-action.action-index c.args.actions.now c.loop-action-test.false in
+    λ rest others start h. rw gone at (c.loop-action.invariant rest others start h)
+
+pub run_set-returns-in_err-step-clause-err : goal.run_set-returns-in_err-step-clause-err
+run_set-returns-in_err-step-clause-err g t c =
+    let p = err_from_is_err_and c.from_residual.result c.from_residual.ensures.1 in
+    rw p.1 (λ rest others. stays (g.W.World.view c.args.world.now) g.S.StepLog.KEEPS _ (g.S.StepLog.list c.step.new.self) c.in_err-step.ensures.err)
+
+pub to_group-returns-in_err-count_uses-in-Some-clause-err : goal.to_group-returns-in_err-count_uses-in-Some-clause-err
+to_group-returns-in_err-count_uses-in-Some-clause-err g t c =
+    let p = err_from_is_err_and c.from_residual.result c.from_residual.ensures.1 in
+    rw p.1 (λ rest others. stays (g.W.World.view c.args.world.now) g.S.StepLog.KEEPS _ (g.S.StepLog.list c.args.log.now) refl)
+
+pub to_group-returns-in_err-step-in-Some-clause-err : goal.to_group-returns-in_err-step-in-Some-clause-err
+to_group-returns-in_err-step-in-Some-clause-err g t c =
+    let p = err_from_is_err_and c.from_residual-in_err-step-in-Some.result c.from_residual-in_err-step-in-Some.ensures.1 in
+    rw p.1 (λ rest others. stays (g.W.World.view c.args.world.now) g.S.StepLog.KEEPS _ (g.S.StepLog.list c.step-in-Some.new.self) c.in_err-step-in-Some.ensures.err)
+
+pub to_group-returns-in-None-clause-err : goal.to_group-returns-in-None-clause-err
+to_group-returns-in-None-clause-err g t c =
+    on_err_weaker c.step.result (λ same rest others. stays (g.W.World.view c.args.world.now) g.S.StepLog.KEEPS _ (g.S.StepLog.list c.step.new.self) same) c.step.ensures.err

@@ -1,4 +1,5 @@
-use Rattle.std.proofs.Common.{◌+◌, ◌++◌, true, drop}
+use Rattle.std.proofs.Common.{◌≡◌, ◌+◌, ◌++◌, ◌∙◌, [], true, drop}
+use Rattle.std.proofs.lemmas.List.{drop_all}
 use Rattle.std.proofs.lemmas.Result.{err_from_is_err_and}
 use Rattle.of_actions.specs.declared.action.Action.TheVariants.{Output}
 use Rattle.of_actions.specs.Supported.{is_supported}
@@ -19,3 +20,28 @@ returns-in_err-act_outside-clause-err g c =
     let i = c.loop-action.action-index in
     rw p.1 (λ rest others start h. failed (acts (drop (i + 1) l) ++ rest) others start
     (rw (acts_at l i (Output 0 0) c.loop-action-test.true) at (c.loop-action.invariant.so_far rest others start h)))
+
+pub returns-in-Ended-clause-ok : goal.returns-in-Ended-clause-ok
+returns-in-Ended-clause-ok g c =
+    let acted = rw c.loop-action.invariant.kept at c.in_ok-act_outside.ensures.ok in
+    let l = c.args.actions.now in
+    let i = c.loop-action.action-index in
+    λ rest others start h. rw c.in-Ended.is at (acted (acts (drop (i + 1) l) ++ rest) others start
+    (rw (acts_at l i (Output 0 0) c.loop-action-test.true) at (c.loop-action.invariant.so_far rest others start h)))
+
+pub loop-action-preserved : goal.loop-action-preserved
+loop-action-preserved g c =
+    let acted = rw c.loop-action.invariant.kept at c.in_ok-act_outside.ensures.ok in
+    let l = c.args.actions.now in
+    let i = c.loop-action.action-index in
+    record {
+      kept = c.in_ok-act_outside.ensures.kept ∙ c.loop-action.invariant.kept;
+      content = c.in_ok-act_outside.ensures.content ∙ c.loop-action.invariant.content;
+      so_far = λ rest others start h. rw c.in-Continues.is at (acted (acts (drop (i + 1) l) ++ rest) others start
+          (rw (acts_at l i (Output 0 0) c.loop-action-test.true) at (c.loop-action.invariant.so_far rest others start h)));
+    }
+
+pub returns-clause-ok : goal.returns-clause-ok
+returns-clause-ok g c =
+    let gone : drop c.loop-action.action-index c.args.actions.now ≡ [] = drop_all c.loop-action.action-index c.args.actions.now c.loop-action-test.false in
+    λ rest others start h. rw gone at (c.loop-action.invariant.so_far rest others start h)

@@ -1,4 +1,5 @@
-use Rattle.std.proofs.Common.{◌+◌, drop}
+use Rattle.std.proofs.Common.{◌≡◌, ◌+◌, [], drop}
+use Rattle.std.proofs.lemmas.List.{drop_all}
 use Rattle.std.proofs.lemmas.Result.{err_from_is_err_and}
 use Rattle.of_actions.specs.InstructionLists.{is_served_body, is_for}
 use Rattle.of_machine.proofs.Promises.{all_at}
@@ -20,3 +21,29 @@ returns-in_err-instruct-clause-err g c =
     let i = c.loop-instruction.instruction-index in
     rw p.1 (λ others start h. c.in_err-instruct.ensures.err (drop (i + 1) l) others start
     (rw (instructions_at l i c.instruction-item.result c.instruction-item.is c.loop-instruction-test.true) at (c.loop-instruction.invariant others start h)))
+
+pub returns-in-Ended-clause-ok : goal.returns-in-Ended-clause-ok
+returns-in-Ended-clause-ok g c =
+    let l = c.args.instructions.now in
+    let i = c.loop-instruction.instruction-index in
+    λ others start h. rw c.in-Ended.is at (c.in_ok-instruct.ensures.ok (drop (i + 1) l) others start
+    (rw (instructions_at l i c.instruction-item.result c.instruction-item.is c.loop-instruction-test.true) at (c.loop-instruction.invariant others start h)))
+
+pub returns-in-Lookup-clause-ok : goal.returns-in-Lookup-clause-ok
+returns-in-Lookup-clause-ok g c =
+    let l = c.args.instructions.now in
+    let i = c.loop-instruction.instruction-index in
+    λ others start h. rw c.in-Lookup.is at (c.in_ok-instruct.ensures.ok (drop (i + 1) l) others start
+    (rw (instructions_at l i c.instruction-item.result c.instruction-item.is c.loop-instruction-test.true) at (c.loop-instruction.invariant others start h)))
+
+pub loop-instruction-preserved : goal.loop-instruction-preserved
+loop-instruction-preserved g c =
+    let l = c.args.instructions.now in
+    let i = c.loop-instruction.instruction-index in
+    λ others start h. rw c.in-Continues.is at (c.in_ok-instruct.ensures.ok (drop (i + 1) l) others start
+    (rw (instructions_at l i c.instruction-item.result c.instruction-item.is c.loop-instruction-test.true) at (c.loop-instruction.invariant others start h)))
+
+pub returns-clause-ok : goal.returns-clause-ok
+returns-clause-ok g c =
+    let gone : drop c.loop-instruction.instruction-index c.args.instructions.now ≡ [] = drop_all c.loop-instruction.instruction-index c.args.instructions.now c.loop-instruction-test.false in
+    λ others start h. rw gone at (c.loop-instruction.invariant others start h)

@@ -3,7 +3,7 @@ use Rattle.std.proofs.lemmas.List.{length-set}
 use Rattle.of_table.specs.Copies.{Supply}
 use Rattle.of_table.specs.Tables.{modified_numbered}
 use Rattle.of_table.proofs.CopyLemmas.{supply_less, supply_room}
-use Rattle.of_table.proofs.TablesLemmas.{each_more, wanted_then, wanted_part}
+use Rattle.of_table.proofs.TablesLemmas.{each_more, each_all, wanted_then, wanted_part}
 use Rattle.of_table.proofs.Soundness.{step_sound}
 use Rattle.of_table.proofs.each_table.modify_tables.Goals as goal
 
@@ -24,3 +24,16 @@ loop-number-preserved g c =
       length = length-set c.loop-number.tables c.loop-number.number c.modify.new.self ∙ c.loop-number.invariant.length;
       sound = λ given goes all. step_sound c.loop-number.number c.loop-number.tables c.modify.new.self _ (omega (arith, c.loop-number-test.true, c.loop-number.invariant.length)) (λ s. c.modify.ensures.sound (λ for. rw same (given c.loop-number.number for)) (rw same goes) s) (c.loop-number.invariant.sound given goes all);
     }
+
+pub overflow_cast-number : goal.overflow_cast-number
+overflow_cast-number g c = omega (arith, c.requires.few, c.loop-number-test.true)
+
+pub returns-clause-tables : goal.returns-clause-tables
+returns-clause-tables g c =
+    c.loop-number.invariant.changed ∙ each_all (modified_numbered c.args.which.now c.args.copies.now.instructions c.args.reset) c.loop-number.number c.args.tables.now c.loop-number-test.false
+
+pub returns-clause-length : goal.returns-clause-length
+returns-clause-length g c = c.loop-number.invariant.length
+
+pub returns-clause-sound : goal.returns-clause-sound
+returns-clause-sound g c = c.loop-number.invariant.sound

@@ -1,5 +1,7 @@
-use Rattle.std.proofs.Common.{arith}
-use Rattle.of_text.proofs.WriteLemmas.{flow_fits, flow_written}
+use Rattle.std.proofs.Common.{refl, arith}
+use Rattle.of_text.proofs.WriteLemmas.{flow_fits, flow_written, flows_text}
+use Rattle.of_text.proofs.PushLemmas.{all_written}
+use Rattle.of_text.specs.Views.{view_flows}
 use Rattle.of_text.proofs.disassembling.write_flows.Goals as goal
 
 pub write_flow-requires : goal.write_flow-requires
@@ -10,3 +12,6 @@ loop-flow-preserved c = record {
   fits = (flow_fits c.args.flows.now c.loop-flow.flow-index c.flow-item.result (omega arith) c.flow-item.is c.loop-flow.invariant.fits).1;
   text = flow_written c.args.flows.now c.loop-flow.flow-index c.flow-item.result _ _ _ (omega arith) c.flow-item.is c.in_ok-write_flow.ensures c.loop-flow.invariant.text;
 }
+
+pub returns : goal.returns
+returns c = all_written (λ fs. flows_text (view_flows fs)) c.loop-flow.out.items _ c.args.flows.now c.loop-flow.flow-index c.loop-flow-test.false refl c.loop-flow.invariant.text

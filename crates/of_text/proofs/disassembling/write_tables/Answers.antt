@@ -1,5 +1,7 @@
-use Rattle.std.proofs.Common.{arith}
-use Rattle.of_text.proofs.WriteLemmas.{table_fits, table_written}
+use Rattle.std.proofs.Common.{refl, arith}
+use Rattle.of_text.proofs.WriteLemmas.{table_fits, table_written, tables_text}
+use Rattle.of_text.proofs.PushLemmas.{all_written}
+use Rattle.of_text.specs.Configs.{view_tables}
 use Rattle.of_text.proofs.disassembling.write_tables.Goals as goal
 
 pub write_flows-requires : goal.write_flows-requires
@@ -10,3 +12,6 @@ loop-table-preserved c = record {
   fits = (table_fits c.args.tables.now c.loop-table.table-index c.table-item.result (omega arith) c.table-item.is c.loop-table.invariant.fits).1;
   text = table_written c.args.tables.now c.loop-table.table-index c.table-item.result _ _ _ (omega arith) c.table-item.is (rw c.deref.ensures.value at c.in_ok-write_flows.ensures) c.loop-table.invariant.text;
 }
+
+pub returns : goal.returns
+returns c = all_written (λ ts. tables_text (view_tables ts)) c.loop-table.out.items _ c.args.tables.now c.loop-table.table-index c.loop-table-test.false refl c.loop-table.invariant.text
