@@ -1,7 +1,6 @@
 pub mod WinnerLemmas
 pub mod CoverLemmas
 pub mod OverlapLemmas
-pub mod WalkLemmas
 pub mod OutlineLemmas
 pub mod RivalLemmas
 pub mod FindingLemmas

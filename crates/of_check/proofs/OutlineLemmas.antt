@@ -1,6 +1,6 @@
 -- Where two outlines do not agree, the matches do not overlap.
-use Rattle.std.proofs.Common.{◌≡◌, ℕ, zero, suc, ◌<◌, Bool, true, false, cond, eqb, List, [], ◌∷◌, Option, Some, None, length, refl, sym, ap, subst, ◌∙◌, arith}
-use Rattle.std.specs.Prelude.{bit_and, map, not, ◌&&◌, ◌||◌, slice_get}
+use Rattle.std.proofs.Common.{◌≡◌, ℕ, zero, suc, Bool, true, false, cond, eqb, List, [], ◌∷◌, Option, Some, None, length, refl, sym, ap, subst, ◌∙◌}
+use Rattle.std.specs.Prelude.{bit_and, not, ◌&&◌, ◌||◌, slice_get}
 use Rattle.std.specs.Int.Bits.{and_comm}
 use Rattle.std.specs.List.{list_all}
 use Rattle.std.specs.Option.{option_map}

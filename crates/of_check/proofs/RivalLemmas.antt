@@ -13,7 +13,7 @@ use Rattle.of_oxm.specs.Relations.{matches_map, overlaps_match}
 use Rattle.of_layers.specs.Reading.{layers_of}
 use Rattle.of_shapes.specs.Rules.{shape_of, tagging_of}
 use Rattle.of_shapes.proofs.Shapes.{shaped, tags_seen}
-use Rattle.of_table.specs.Table.{FlowEntry, winner_place}
+use Rattle.of_table.specs.Table.{FlowEntry}
 use Rattle.of_regions.specs.declared.rival.Rival.{Rival}
 use Rattle.of_regions.specs.declared.witness.Packet.{Packet as PacketFound}
 use Rattle.of_regions.specs.declared.region.Region.{Region}
@@ -24,7 +24,7 @@ use Rattle.of_regions.specs.Witness.{IsIngressPort, fields_in}
 use Rattle.of_check.specs.declared.outline.Outline.{Outline}
 use Rattle.of_check.specs.Outlines.{outline_of, outlines_agree}
 use Rattle.of_check.proofs.OutlineLemmas.{none_overlap}
-use Rattle.of_check.specs.Verdicts.{AreRivals, GoesBefore, IsPacket, Matches, NeverWins, Packet, SomeMatches, WinsWith, fields_of}
+use Rattle.of_check.specs.Verdicts.{AreRivals, GoesBefore, NeverWins, WinsWith, fields_of}
 use Rattle.of_check.proofs.WinnerLemmas.{wins_alone}
 
 -- a higher priority than the second, or the same and an earlier place

@@ -1,5 +1,5 @@
 -- WHAT OF AN ENTRY IS COMPARED FIRST: its priority, and a few fields of its match, each as its value and the bits that are looked at.
-use Rattle.std.specs.Prelude.{ℕ, ◌==◌, ◌&&◌, Bool, List, Option, Some, None, bit_and, map}
+use Rattle.std.specs.Prelude.{◌==◌, ◌&&◌, Bool, List, Option, Some, None, bit_and, map}
 use Rattle.of_layers.specs.declared.field.Field.TheVariants as field
 use Rattle.of_oxm.specs.declared.match_field.MatchField.{MatchField}
 use Rattle.of_oxm.specs.Masks.{first_at}

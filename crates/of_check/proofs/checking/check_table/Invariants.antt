@@ -1,5 +1,4 @@
-use Rattle.std.proofs.Common.{◌≡◌, ◌++◌, ◌+◌, ◌≤◌, length}
-use Rattle.of_table.specs.Tables.{table_at}
+use Rattle.std.proofs.Common.{◌++◌}
 use Rattle.of_check.specs.Findings.{AreFindings, entries_below, first_entries}
 use Rattle.of_check.proofs.checking.check_table.Given as goal
 

@@ -1,7 +1,6 @@
-use Rattle.std.proofs.Common.{◌≡◌, ◌∙◌, ap, inl, inr, subst}
+use Rattle.std.proofs.Common.{◌∙◌, ap, inl, inr, subst}
 use Rattle.of_table.specs.Entries.{entry_of}
 use Rattle.of_table.specs.Tables.{table_at}
-use Rattle.of_regions.specs.declared.searching.Found.{Found}
 use Rattle.of_regions.specs.declared.searching.Found.TheVariants as found
 use Rattle.of_regions.specs.Searching.{Finds}
 use Rattle.of_check.specs.Verdicts.{is_tie}
