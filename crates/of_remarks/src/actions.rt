@@ -1,9 +1,9 @@
 //! Actions without effect.
-ghost use Rattle.std.specs.Prelude.{◌≡◌, take};
+ghost use Rattle.std.specs.Prelude.{◌≡◌, ◌&&◌, ◌||◌, not, take};
 ghost use Rattle.std.specs.List.{list_any};
 ghost use Rattle.of_text.specs.Refusals.{some_action};
 ghost use Rattle.of_text.specs.Views.{view, view_flows, view_instruction};
-ghost use Rattle.of_remarks.specs.Actions.{is_clear as is_clearing, is_goto as is_going_on, is_in_port as is_ingress_field, is_output_to_port as is_sending_to, is_used_later as is_looked_at_later, may_send_packet as may_be_sent, required_port as ingress_required, silent as silent_count, some_output_to as is_some_output, some_writes_sending, writes_sending as is_writing};
+ghost use Rattle.of_remarks.specs.Actions.{is_clear as is_clearing, is_goto as is_going_on, is_in_port as is_ingress_field, is_output_to_port as is_sending_to, may_send_packet as may_be_sent, required_port as ingress_required, silent as silent_count, some_output_to as is_some_output, some_writes_sending, writes_sending as is_writing};
 
 use crate::tables::flows_of;
 use of_actions::{Action, is_number};
@@ -191,9 +191,11 @@ fn clears(flow: &FlowText) -> bool
     clear(&flow.instructions)
 }
 
-/// Whether the packet may go on or be sent after the APPLY_ACTIONS of an entry, where it is known what earlier tables write (OpenFlow 1.3.5, 5.9).
-pub fn is_used_later(config: &Config, table: u8, flow: &FlowText) -> bool
-    ensures { result ≡ is_looked_at_later config.now.tables table (view flow.now).instructions }
+/// Whether the packet may go on or be sent after the APPLY_ACTIONS of an entry (OpenFlow 1.3.5, 5.9). `written` is the answer of `is_written_before`
+/// for its table.
+pub fn is_used_later(flow: &FlowText, written: bool) -> bool
+    ensures { result ≡ (list_any is_going_on (view flow.now).instructions || (list_any is_writing (view flow.now).instructions ||
+        (not (list_any is_clearing (view flow.now).instructions) && written))) }
 {
-    goes_on(flow) || flow_writes_sending(flow) || !clears(flow) && is_written_before(config, table)
+    goes_on(flow) || flow_writes_sending(flow) || !clears(flow) && written
 }

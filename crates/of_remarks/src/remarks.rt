@@ -1,11 +1,12 @@
 //! The remarks on a configuration.
-ghost use Rattle.std.specs.Prelude.{◌≡◌, ◌++◌, ◌<◌, IfOk, OnOk};
-ghost use Rattle.std.specs.List.{flat_map};
+ghost use Rattle.std.specs.Prelude.{◌≡◌, ◌++◌, ◌<◌, IfOk, OnOk, take};
+ghost use Rattle.std.specs.List.{flat_map, list_any};
 ghost use Rattle.of_text.specs.Views.{view, view_flows, view_group, view_groups, view_instruction};
+ghost use Rattle.of_remarks.specs.Actions.{some_writes_sending};
 ghost use Rattle.of_remarks.specs.Tables.{flows_at, reached_below};
 ghost use Rattle.of_remarks.specs.Remarks.{end_remarks, flow_remarks, flows_remarks, goto_remarks, group_remarks, ingress_remarks, remarks_below, remarks_on as all_remarks, table_remarks, unseen_remarks, where_so};
 
-use crate::actions::{is_used_later, required_port, silent, some_output_to};
+use crate::actions::{is_used_later, is_written_before, required_port, silent, some_output_to};
 use crate::groups::is_named;
 use crate::remark::Remark;
 use crate::tables::{flows_of, has_miss, is_among, reached_tables};
@@ -148,10 +149,12 @@ fn push_end(
     table: u8,
     place: usize,
     flow: &FlowText,
+    written: bool,
 ) -> Result<(), AllocError>
+    requires { written ≡ list_any some_writes_sending (take table config.now.tables) }
     ensures { OnOk result (out.new.items ≡ out.old.items ++ end_remarks config.now.tables table place (view flow.now).instructions) }
 {
-    if is_used_later(config, table, flow) {
+    if is_used_later(flow, written) {
         return Ok(());
     }
     push_all_unseen(out, table, place, flow)
@@ -164,12 +167,14 @@ fn push_flow(
     table: u8,
     place: usize,
     flow: &FlowText,
+    written: bool,
 ) -> Result<(), AllocError>
+    requires { written ≡ list_any some_writes_sending (take table config.now.tables) }
     ensures { OnOk result (out.new.items ≡ out.old.items ++ flow_remarks config.now.tables table place (view flow.now)) }
 {
     push_gotos(out, config, table, place, flow)?;
     push_ports(out, table, place, flow)?;
-    push_end(out, config, table, place, flow)
+    push_end(out, config, table, place, flow, written)
 }
 
 fn push_flows(
@@ -177,11 +182,13 @@ fn push_flows(
     config: &Config,
     table: u8,
     flows: &[FlowText],
+    written: bool,
 ) -> Result<(), AllocError>
+    requires { written ≡ list_any some_writes_sending (take table config.now.tables) }
     ensures { OnOk result (out.new.items ≡ out.old.items ++ flows_remarks config.now.tables table 0 (view_flows flows.now)) }
 {
     for (place, flow) in flows.iter().enumerate() {
-        push_flow(out, config, table, place, flow)?;
+        push_flow(out, config, table, place, flow, written)?;
     }
     Ok(())
 }
@@ -201,7 +208,7 @@ fn push_table(
     let unreachable = some && !is_among(reached, table);
     push_where(out, unreachable, Remark::Unreachable { table })?;
     push_where(out, some && !has_miss(flows), Remark::NoTableMiss { table })?;
-    push_flows(out, config, table, flows)
+    push_flows(out, config, table, flows, is_written_before(config, table))
 }
 
 #[tactic(auto, unfolding(crate::specs::Remarks::remarks_below))]
