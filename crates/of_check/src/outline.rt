@@ -21,7 +21,7 @@ pub struct Part {
 
 /// The priority of an entry, and the fields in which matches differ most often, those first that tell the most apart.
 ///
-/// All fields of two matches are compared only if their outlines agree: that takes twenty times as long.
+/// All fields of two matches are compared only if their outlines agree, since that takes much longer (OpenFlow 1.3.5, 7.2.3, for the fields).
 #[derive(Clone, Copy)]
 pub struct Outline {
     pub priority: u16,
