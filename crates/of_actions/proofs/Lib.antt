@@ -11,3 +11,4 @@ pub mod Computed
 pub mod InstructionsAgain
 pub mod InstructionLengths
 pub mod RowLemmas
+mod WithActions

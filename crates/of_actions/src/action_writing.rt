@@ -9,7 +9,8 @@ use crate::action::{Action, put_action};
 use crate::action_list::ActionList;
 use std::alloc::{AllocError, Global};
 
-fn put_actions(out: &mut Vec<u8>, actions: &[Action]) -> Result<(), AllocError>
+/// Appends the one encoding of actions that is written.
+pub(crate) fn put_actions(out: &mut Vec<u8>, actions: &[Action]) -> Result<(), AllocError>
     requires { list_all (is_supported true) actions.now ≡ true }
     ensures { OnOk result (out.new.items ≡ out.old.items ++ canonical_actions actions.now) }
 {

@@ -15,6 +15,7 @@ use of_wire::codes::{
     OFPBIC_UNSUP_INST,
 };
 use of_wire::{Code, ReadError};
+use smallvec::SmallVec;
 use std::alloc::Global;
 
 fn is_known(kind: u16) -> bool
@@ -128,19 +129,18 @@ fn read_header<'a>(
     Ok((header, len))
 }
 
+/// The headers of a message's instructions, of which there are at most five: one of a type.
+pub(crate) type Headers<'a> = SmallVec<UnreadInstruction<'a>, 5>;
+
 /// The headers of all instructions, none of which is refused by its header.
-pub(crate) fn read_headers(
-    alloc: Global,
-    bytes: &[u8],
-    table: u8,
-) -> Result<Vec<UnreadInstruction>, ReadError>
+pub(crate) fn read_headers(alloc: Global, bytes: &[u8], table: u8) -> Result<Headers<'_>, ReadError>
     ensures found { IfOk result (λ v. AreHeaders table [] bytes.now v.items None) }
     ensures sound { IfOk result (λ v. list_all is_sound_header v.items ≡ true) }
     ensures leads_on { IfOk result (λ v. list_all (leads_on table) v.items ≡ true) }
     ensures once { IfOk result (λ v. is_distinct kind_of v.items ≡ true) }
     ensures refused { IfErr result (Fails (λ code. (before : List AHeader) × AreHeaders table [] bytes.now before (Some code))) }
 {
-    let mut headers = Vec::new(alloc);
+    let mut headers = SmallVec::new(alloc);
     let mut rest = bytes;
     while !rest.is_empty() {
         match read_header(rest, &headers, table) {

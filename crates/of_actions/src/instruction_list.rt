@@ -86,7 +86,7 @@ impl InstructionList {
 fn copy_all(alloc: Global, instructions: &[Instruction]) -> Result<Vec<Instruction>, AllocError>
     ensures { IfOk result (λ v. v.items ≡ instructions.now) }
 {
-    let mut copies = Vec::new(alloc);
+    let mut copies = Vec::with_capacity(alloc, instructions.len())?;
     for instruction in instructions {
         copies.push(copy_instruction(instruction)?)?;
     }
@@ -140,7 +140,8 @@ fn is_before(first: &Instruction, after: &[Instruction]) -> bool
     after.iter().all(|other| place < other.run_place())
 }
 
-fn are_rising(instructions: &[Instruction]) -> bool
+/// Whether they are in the order of execution, one of a type.
+pub(crate) fn are_rising(instructions: &[Instruction]) -> bool
     ensures { result ≡ is_ascending run_place instructions.now }
 {
     let mut rest = instructions;

@@ -40,7 +40,7 @@ fn read_bodies(alloc: Global, headers: &[UnreadInstruction]) -> Result<Vec<Instr
     ensures served { IfOk result (λ v. list_all is_served_body v.items ≡ true) }
     ensures refused { IfErr result (Fails (λ code. (before : List AnInstruction) × AreBodies headers.now before (Some code))) }
 {
-    let mut instructions = Vec::new(alloc);
+    let mut instructions = Vec::with_capacity(alloc, headers.len())?;
     for header in headers {
         let instruction = read_body(alloc, header)?;
         instructions.push(instruction)?;

@@ -27,6 +27,6 @@ pub use flow_check::{are_needs_met, check_flow};
 pub use instruction::Instruction;
 pub use instruction_list::InstructionList;
 pub use instruction_reading::{one_instruction_reading, read_instructions};
-pub use instruction_writing::write_instructions;
+pub use instruction_writing::{put_instructions, write_instructions};
 pub use port_number::{is_number, is_port};
 pub use rows::{ACTIONS, ActionRow, Form, row_of};

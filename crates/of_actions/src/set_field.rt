@@ -1,5 +1,5 @@
 //! A set-field action from bytes and as bytes (OpenFlow 1.3.5, 7.2.5).
-ghost use Rattle.std.specs.Prelude.{◌≡◌, ◌≤◌, ◌<◌, ◌++◌, Bool, length, replicate, IsTrue, IfOk, OnOk, IfErr, Some, None};
+ghost use Rattle.std.specs.Prelude.{◌≡◌, ◌≤◌, ◌<◌, ◌++◌, Bool, length, IsTrue, IfOk, OnOk, IfErr, Some, None};
 ghost use Rattle.of_wire.specs.Refusals.{first_of};
 ghost use Rattle.of_actions.specs.Beginnings.{len_at};
 ghost use Rattle.of_actions.specs.SetField.{set_field_at, set_refusals};
@@ -13,7 +13,7 @@ use crate::argument::Argument;
 use byteorder::{BigEndian, ByteOrder};
 use of_layers::Field;
 use of_wire::codes::{OFPBAC_BAD_SET_ARGUMENT, OFPBAC_BAD_SET_LEN, OFPBAC_BAD_SET_TYPE};
-use of_wire::{Code, put_number};
+use of_wire::{Code, put_number, put_zeros};
 use std::alloc::AllocError;
 
 fn field_to_set(rest: &[u8]) -> Option<Field>
@@ -53,16 +53,6 @@ pub(crate) fn read_set_field(rest: &[u8], len: usize) -> Result<Argument, Code>
         return Err(OFPBAC_BAD_SET_ARGUMENT);
     }
     Ok(Argument::Field { field, value })
-}
-
-#[tactic(auto, using(crate::proofs::SetFieldText::front_zeros))]
-fn put_zeros(out: &mut Vec<u8>, count: usize) -> Result<(), AllocError>
-    requires { count ≤ 8 }
-    ensures { OnOk result (out.new.items ≡ out.old.items ++ replicate count 0) }
-{
-    let zeros = [0u8; 8];
-    let (padding, _) = zeros.split_at(count);
-    out.extend_from_slice(padding)
 }
 
 #[tactic(auto, using(of_layers::proofs::Table::value_below), unfolding(crate::specs::CanonicalActions::canonical_set_field))]

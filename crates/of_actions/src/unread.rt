@@ -5,7 +5,9 @@ ghost use Rattle.of_actions.specs.Headers.{kind_of};
 use std::marker::Model;
 
 /// An instruction whose actions are not read yet.
-#[derive(Drop)]
+///
+/// The default means nothing: it fills unused places of lists.
+#[derive(Default, Drop)]
 pub(crate) enum Header<'a> {
     Goto(u8),
     Metadata { value: u64, mask: u64 },
@@ -13,11 +15,12 @@ pub(crate) enum Header<'a> {
     Write(&'a [u8]),
     /// The bytes of its actions.
     Apply(&'a [u8]),
+    #[default]
     Clear,
 }
 
 /// The same, as contracts see it.
-#[derive(Drop)]
+#[derive(Default, Drop)]
 pub(crate) struct UnreadInstruction<'a> {
     pub(crate) header: Header<'a>,
 }

@@ -1,9 +1,9 @@
 -- What covers, from the field maps that are matched: each field of a match is looked at by what covers nothing else, once with no further bit set and once with all of them.
 use Rattle.std.proofs.Common.{◌≡◌, ℕ, ◌^◌, ◌+◌, ◌-◌, ◌<◌, ◌≤◌, Bool, true, false, cond, eqb, List, [], ◌∷◌, Option, Some, None, refl, sym, ap, subst, ◌∙◌, arith}
-use Rattle.std.specs.Prelude.{bit_and, bit_or, ◌&&◌, ◌||◌, unwrap_or, IfSome}
+use Rattle.std.specs.Prelude.{bit_and, bit_or, ◌||◌, unwrap_or, IfSome}
 use Rattle.std.specs.Int.{bit_at}
 use Rattle.std.specs.Int.Bits.{and_self, and_comm}
-use Rattle.std.specs.List.{list_any, list_all, AllByRecursion}
+use Rattle.std.specs.List.{list_any, AllByRecursion}
 use Rattle.std.specs.Option.{option_map}
 use Rattle.std.proofs.lemmas.Bool.{eqb-true, eq-eqb}
 use Rattle.std.proofs.lemmas.Nat.{and-not, and_or_apart, pow_pos}

@@ -1,9 +1,9 @@
 -- What is written is an encoding.
-use Rattle.std.proofs.Common.{◌≡◌, ℕ, suc, ◌+◌, ◌-◌, ◌*◌, ◌^◌, ◌<◌, ◌≤◌, Bool, false, eqb, List, [], ◌∷◌, ◌++◌, length, take, replicate, Option, Some, None, refl, sym, ap, ◌∙◌, arith, inl}
+use Rattle.std.proofs.Common.{◌≡◌, ℕ, suc, ◌+◌, ◌-◌, ◌*◌, ◌^◌, ◌<◌, ◌≤◌, Bool, false, eqb, List, [], ◌∷◌, ◌++◌, length, take, drop, replicate, Option, Some, None, refl, sym, ap, ◌∙◌, arith, inl}
 use Rattle.std.specs.Prelude.{IfSome, ◌||◌}
 use Rattle.std.specs.List.{AllByRecursion}
 use Rattle.std.proofs.lemmas.Bool.{lt-ltb, ne_eqb}
-use Rattle.std.proofs.lemmas.List.{append_assoc, length-append, length-replicate, take-replicate}
+use Rattle.std.proofs.lemmas.List.{append_assoc, length-append, length-replicate}
 use Rattle.byteorder.specs.Endian.{big_bytes}
 use Rattle.byteorder.specs.Numbers.{length-bytes_high_first}
 use Rattle.of_layers.specs.declared.field.Field.{Field}
@@ -15,6 +15,7 @@ use Rattle.of_oxm.specs.MatchGrammar.{AreFieldsAfter, encodings, padded, Encodes
 use Rattle.of_oxm.specs.MatchFieldWire.{is_among}
 use Rattle.of_oxm.specs.Canonical.{written_len, canonical}
 use Rattle.of_layers.proofs.Table.{number_below, bytes_most, value_below}
+use Rattle.of_wire.proofs.Replacing.{replaced_behind}
 use Rattle.of_oxm.proofs.Normal.{among_append}
 
 -- ---- a field of a match has an encoding
@@ -121,15 +122,19 @@ canonical_encodes m h =
       met = h.met;
     }
 
-pub is_canonical : (m kept_fields : List MatchField) (fields copied s1 s2 s3 s4 padding : List ℕ) (n k : ℕ) → kept_fields ≡ m → fields ≡ encodings kept_fields → n ≡ length fields → copied ≡ fields → s1 ≡ 0 ∷ 1 ∷ []
-    → s2 ≡ s1 ++ big_bytes 2 (4 + n) → s3 ≡ s2 ++ copied → s4 ≡ s3 ++ padding → k ≡ padded (4 + n) - (4 + n) → padding ≡ take k (replicate 8 0) → s4 ≡ canonical m
+-- a match that is appended: its type and two zeros, its fields, their length in the place of the zeros, and padding
+pub is_canonical : (m fields : List MatchField) (out s1 s2 s3 s4 : List ℕ) (at n k : ℕ) → fields ≡ m → s1 ≡ out ++ 0 ∷ 1 ∷ 0 ∷ 0 ∷ [] → s2 ≡ s1 ++ encodings fields → n ≡ length s2 - length out
+    → at ≡ length out + 2 → s3 ≡ take at s2 ++ (big_bytes 2 n ++ drop (at + 2) s2) → k ≡ padded n - n → s4 ≡ s3 ++ replicate k 0 → s4 ≡ out ++ canonical m
 unfolding canonical
-is_canonical m kept_fields fields copied s1 s2 s3 s4 padding n k same fields_is n_is copied_is e1 e2 e3 e4 k_is pad_is =
-    let text : fields ≡ encodings m = fields_is ∙ ap encodings same in
-    let len : 4 + n ≡ written_len m = ap (λ (x : ℕ). 4 + x) (n_is ∙ ap length text) in
-    let few : k ≤ 8 = omega arith in
-    let zeros : padding ≡ replicate (padded (written_len m) - written_len m) 0 = pad_is ∙ take-replicate k 8 0 few ∙ ap (λ (x : ℕ). replicate x 0) (k_is ∙ ap (λ (x : ℕ). padded x - x) len) in
-    let front : s2 ≡ 0 ∷ 1 ∷ big_bytes 2 (written_len m) = e2 ∙ ap (λ (x : List ℕ). x ++ big_bytes 2 (4 + n)) e1 ∙ ap (λ (x : ℕ). 0 ∷ 1 ∷ big_bytes 2 x) len in
-    let body : s3 ≡ 0 ∷ 1 ∷ (big_bytes 2 (written_len m) ++ encodings m) = e3 ∙ ap (λ (x : List ℕ). x ++ copied) front ∙ ap (λ (x : List ℕ). 0 ∷ 1 ∷ (big_bytes 2 (written_len m) ++ x)) (copied_is ∙ text) in
-    e4 ∙ ap (λ (x : List ℕ). x ++ padding) body ∙ ap (λ (x : List ℕ). (0 ∷ 1 ∷ (big_bytes 2 (written_len m) ++ encodings m)) ++ x) zeros
-    ∙ ap (λ (x : List ℕ). 0 ∷ 1 ∷ x) (append_assoc (big_bytes 2 (written_len m)) (encodings m) (replicate (padded (written_len m) - written_len m) 0))
+is_canonical m fields out s1 s2 s3 s4 at n k same e1 e2 n_is at_is e3 k_is e4 =
+    let text : s2 ≡ (out ++ 0 ∷ 1 ∷ []) ++ 0 ∷ 0 ∷ encodings m = e2 ∙ ap (λ (x : List ℕ). x ++ encodings fields) e1 ∙ ap (λ (x : List MatchField). (out ++ 0 ∷ 1 ∷ 0 ∷ 0 ∷ []) ++ encodings x) same ∙ append_assoc out (0 ∷ 1 ∷ 0 ∷ 0 ∷ []) (encodings m) ∙ sym (append_assoc out (0 ∷ 1 ∷ []) (0 ∷ 0 ∷ encodings m)) in
+    let place : at ≡ length (out ++ 0 ∷ 1 ∷ []) = omega (arith, at_is, length-append out (0 ∷ 1 ∷ [])) in
+    let size : length s2 ≡ length out + (4 + length (encodings m)) = omega (arith, ap length text, length-append (out ++ 0 ∷ 1 ∷ []) (0 ∷ 0 ∷ encodings m), length-append out (0 ∷ 1 ∷ [])) in
+    let len : n ≡ written_len m = omega (arith, n_is, size) in
+    let whole : s3 ≡ (out ++ 0 ∷ 1 ∷ []) ++ (big_bytes 2 n ++ encodings m) = e3 ∙ replaced_behind (out ++ 0 ∷ 1 ∷ []) (encodings m) (big_bytes 2 n) s2 0 0 at text place in
+    let zeros : replicate {A = ℕ} k 0 ≡ replicate (padded (written_len m) - written_len m) 0 = ap (λ (x : ℕ). replicate x 0) (k_is ∙ ap (λ (x : ℕ). padded x - x) len) in
+    e4 ∙ ap (λ (x : List ℕ). x ++ replicate k 0) whole ∙ ap (λ (x : List ℕ). ((out ++ 0 ∷ 1 ∷ []) ++ (big_bytes 2 n ++ encodings m)) ++ x) zeros
+    ∙ append_assoc (out ++ 0 ∷ 1 ∷ []) (big_bytes 2 n ++ encodings m) (replicate (padded (written_len m) - written_len m) 0)
+    ∙ append_assoc out (0 ∷ 1 ∷ []) ((big_bytes 2 n ++ encodings m) ++ replicate (padded (written_len m) - written_len m) 0)
+    ∙ ap (λ (x : List ℕ). out ++ 0 ∷ 1 ∷ x) (append_assoc (big_bytes 2 n) (encodings m) (replicate (padded (written_len m) - written_len m) 0))
+    ∙ ap (λ (x : ℕ). out ++ 0 ∷ 1 ∷ (big_bytes 2 x ++ (encodings m ++ replicate (padded (written_len m) - written_len m) 0))) len

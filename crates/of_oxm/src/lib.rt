@@ -21,4 +21,4 @@ pub use relations::{
     bits_of, covered_has_prerequisites, covered_is_matched, covers, matched_is_covered, matches,
     normal_form_is_meant, overlap_is_common_match, overlaps,
 };
-pub use writing::write_match;
+pub use writing::{put_match, write_match};

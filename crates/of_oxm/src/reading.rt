@@ -15,14 +15,28 @@ use crate::normal_form::normal_form;
 use crate::prerequisites::prerequisites_met;
 use byteorder::{BigEndian, ByteOrder};
 use of_wire::codes::{OFPBMC_BAD_LEN, OFPBMC_BAD_PREREQ, OFPBMC_BAD_TYPE};
-use of_wire::{Code, ReadError};
+use of_wire::{Code, ReadError, rest_from};
 use std::alloc::Global;
+
+/// How many fields a match has at most.
+const MOST_FIELDS: usize = 28;
+
+// How many fields the bytes have, if the lengths of all are right.
+fn count_fields(body: &[u8]) -> usize {
+    let mut count: usize = 0;
+    let mut rest = body;
+    while let [_, _, _, len, after @ ..] = rest {
+        count = count.saturating_add(1);
+        rest = rest_from(after, after.len().min(*len as usize));
+    }
+    count
+}
 
 fn read_fields(alloc: Global, body: &[u8]) -> Result<Vec<MatchField>, ReadError>
     ensures found { IfOk result (λ v. Fields [] body.now v.items None) }
     ensures refused { IfErr result (Fails (IsFaulty body.now)) }
 {
-    let mut fields = Vec::new(alloc);
+    let mut fields = Vec::with_capacity(alloc, count_fields(body).min(MOST_FIELDS))?;
     let mut rest = body;
     while !rest.is_empty() {
         match read_match_field(rest, &fields) {

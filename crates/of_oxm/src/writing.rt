@@ -8,7 +8,7 @@ ghost use Rattle.of_oxm.specs.Canonical.{canonical};
 
 use crate::flow_match::Match;
 use crate::match_field::MatchField;
-use of_wire::put_number;
+use of_wire::{put_number, put_zeros, replace_u16};
 use std::alloc::{AllocError, Global};
 
 #[tactic(auto, using(of_layers::proofs::Table::value_below), unfolding(crate::specs::MatchFieldWire::encoding))]
@@ -40,22 +40,29 @@ fn put_fields(out: &mut Vec<u8>, fields: &[MatchField]) -> Result<(), AllocError
     Ok(())
 }
 
-/// The one encoding of a match that is written: fields in ascending order, and zeros for padding (OpenFlow 1.3.5, 7.2.3).
+/// Appends the one encoding of a match that is written: fields in ascending order, and zeros for padding (OpenFlow 1.3.5, 7.2.3). It has at
+/// most 1,128 bytes.
+pub fn put_match(out: &mut Vec<u8>, m: &Match) -> Result<(), AllocError>
+    ensures canonical { OnOk result (out.new.items ≡ out.old.items ++ canonical m.now) }
+    ensures encodes { OnOk result (EncodesMatch (canonical m.now) m.now) }
+    ensures short { OnOk result (length (canonical m.now) ≤ 1128) }
+{
+    let start = out.len();
+    out.extend_from_slice(&[0, 1, 0, 0])?;
+    put_fields(out, &m.fields)?;
+    let len = out.len() - start;
+    replace_u16(out, start + 2, len as u16);
+    put_zeros(out, (len + 7) / 8 * 8 - len)?;
+    Ok(())
+}
+
+/// The same bytes, in a list of their own.
 pub fn write_match(alloc: Global, m: &Match) -> Result<Vec<u8>, AllocError>
     ensures canonical { IfOk result (λ v. v.items ≡ canonical m.now) }
     ensures encodes { IfOk result (λ v. EncodesMatch v.items m.now) }
     ensures short { IfOk result (λ v. length v.items ≤ 1128) }
 {
-    let mut fields = Vec::new(alloc);
-    put_fields(&mut fields, &m.fields)?;
-    let len = 4 + fields.len();
-    let size = (len + 7) / 8 * 8;
     let mut out = Vec::new(alloc);
-    out.extend_from_slice(&[0, 1])?;
-    put_number(&mut out, 2, len as u128)?;
-    out.extend_from_slice(&fields)?;
-    let zeros = [0u8; 8];
-    let (padding, _) = zeros.split_at(size - len);
-    out.extend_from_slice(padding)?;
+    put_match(&mut out, m)?;
     Ok(out)
 }

@@ -1,5 +1,5 @@
 //! FLOW (OpenFlow 1.3.5, 7.3.5.2).
-ghost use Rattle.std.specs.Prelude.{◌≡◌, ◌<◌, ◌≤◌, ◌++◌, length, map, OnOk, IfOk};
+ghost use Rattle.std.specs.Prelude.{◌≡◌, ◌<◌, ◌≤◌, ◌++◌, [], length, map, OnOk, IfOk};
 ghost use Rattle.of_table.specs.Entries.{entry_of, flows_of};
 ghost use Rattle.of_table.specs.Tables.{table_at, tables_of};
 ghost use Rattle.of_statistics.specs.Replies.{with_rows};
@@ -7,13 +7,13 @@ ghost use Rattle.of_statistics.specs.Flows.{flow_bytes, flow_counts, flow_row as
 
 use crate::replies::Replies;
 use crate::writing::put_duration;
-use of_actions::write_instructions;
+use of_actions::put_instructions;
 use of_classifier::Lookup;
 use of_messages::MessageBytes;
-use of_oxm::write_match;
+use of_oxm::put_match;
 use of_table::{Entries, Entry, FlowTables, Selector, is_in, selects};
 use of_wire::limits::TABLES;
-use of_wire::{put_u16, put_u64};
+use of_wire::{put_u16, put_u64, replace_u16};
 use std::alloc::{AllocError, Global};
 
 /// OFPMP_FLOW.
@@ -41,27 +41,25 @@ fn put_counts(out: &mut Vec<u8>, entry: &Entry) -> Result<(), AllocError>
 }
 
 // The row of an entry: 48 bytes, its match and its instructions.
-fn flow_row(alloc: Global, now: u64, table: u8, entry: &Entry) -> Result<Vec<u8>, AllocError>
-    ensures row { IfOk result (λ v. v.items ≡ row_of now (record { table = table; entry = entry_of entry.now })) }
-    ensures short { IfOk result (λ v. length v.items ≤ 65519) }
+fn put_row(row: &mut Vec<u8>, now: u64, table: u8, entry: &Entry) -> Result<(), AllocError>
+    requires { row.old.items ≡ [] }
+    ensures row { OnOk result (row.new.items ≡ row_of now (record { table = table; entry = entry_of entry.now })) }
+    ensures short { OnOk result (length row.new.items ≤ 65519) }
 {
-    let fields = write_match(alloc, &entry.flow.fields)?;
-    let instructions = write_instructions(alloc, &entry.flow.instructions)?;
-    let size = 48 + fields.len() + instructions.len();
-    let mut row = Vec::with_capacity(alloc, size)?;
-    put_u16(&mut row, size as u16)?;
-    row.extend_from_slice(&[table, 0])?;
-    put_times(&mut row, now, entry)?;
-    put_counts(&mut row, entry)?;
-    row.extend_from_slice(&fields)?;
-    row.extend_from_slice(&instructions)?;
-    Ok(row)
+    row.extend_from_slice(&[0, 0, table, 0])?;
+    put_times(row, now, entry)?;
+    put_counts(row, entry)?;
+    put_match(row, &entry.flow.fields)?;
+    put_instructions(row, &entry.flow.instructions)?;
+    let size = row.len();
+    replace_u16(row, 0, size as u16);
+    Ok(())
 }
 
-// The row of an entry, if it is asked for.
+// The row of an entry, if it is asked for; it is written into `row` first.
 fn put_entry(
     out: &mut Replies,
-    alloc: Global,
+    row: &mut Vec<u8>,
     now: u64,
     table: u8,
     entry: &Entry,
@@ -70,7 +68,9 @@ fn put_entry(
     ensures { OnOk result (out.new ≡ with_rows out.old (rows_of_one now which.now table (entry_of entry.now))) }
 {
     if selects(which, entry) {
-        out.push(&flow_row(alloc, now, table, entry)?)
+        row.clear();
+        put_row(row, now, table, entry)?;
+        out.push(row)
     } else {
         Ok(())
     }
@@ -78,7 +78,7 @@ fn put_entry(
 
 fn put_entries(
     out: &mut Replies,
-    alloc: Global,
+    row: &mut Vec<u8>,
     now: u64,
     table: u8,
     entries: Entries<'_>,
@@ -87,7 +87,7 @@ fn put_entries(
     ensures { OnOk result (out.new ≡ with_rows out.old (rows_of_entries now which.now table (flows_of entries.entry))) }
 {
     for entry in entries {
-        put_entry(out, alloc, now, table, entry, which)?;
+        put_entry(out, row, now, table, entry, which)?;
     }
     Ok(())
 }
@@ -95,7 +95,7 @@ fn put_entries(
 // The rows of a table, if it is asked for.
 fn put_table<L: Lookup>(
     out: &mut Replies,
-    alloc: Global,
+    row: &mut Vec<u8>,
     tables: &FlowTables<L>,
     table: u8,
     which: &Selector,
@@ -106,7 +106,7 @@ fn put_table<L: Lookup>(
     if is_in(which, table) {
         put_entries(
             out,
-            alloc,
+            row,
             tables.latest(),
             table,
             tables.entries(table),
@@ -128,8 +128,9 @@ pub fn flow_replies<L: Lookup>(
 {
     tables.known();
     let mut out = Replies::new(alloc, xid, FLOW)?;
+    let mut row = Vec::new(alloc);
     for table in 0..TABLES {
-        put_table(&mut out, alloc, tables, table, which)?;
+        put_table(&mut out, &mut row, tables, table, which)?;
     }
     out.close()
 }

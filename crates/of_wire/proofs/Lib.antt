@@ -6,3 +6,4 @@ pub mod NumberedLemmas
 pub mod HighestLemmas
 pub mod FirstLemmas
 pub mod Changing
+pub mod Replacing

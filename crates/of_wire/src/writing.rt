@@ -1,5 +1,5 @@
 //! Numbers as bytes, the most significant first (OpenFlow 1.3.5, 7).
-ghost use Rattle.std.specs.Prelude.{◌≡◌, ◌≤◌, ◌<◌, ◌^◌, ◌++◌, OnOk};
+ghost use Rattle.std.specs.Prelude.{◌≡◌, ◌≤◌, ◌<◌, ◌+◌, ◌^◌, ◌++◌, drop, length, replicate, take, OnOk};
 ghost use Rattle.byteorder.specs.Endian.{big_bytes};
 
 use byteorder::{BigEndian, ByteOrder};
@@ -44,4 +44,24 @@ pub fn put_number(out: &mut Vec<u8>, len: usize, number: u128) -> Result<(), All
     BigEndian::write_uint128(&mut bytes, number, len);
     let (front, _) = bytes.split_at(len);
     out.extend_from_slice(front)
+}
+
+/// Appends zeros, eight at most.
+#[tactic(auto, using(crate::proofs::Replacing::front_zeros))]
+pub fn put_zeros(out: &mut Vec<u8>, count: usize) -> Result<(), AllocError>
+    requires { count ≤ 8 }
+    ensures { OnOk result (out.new.items ≡ out.old.items ++ replicate count 0) }
+{
+    let zeros = [0u8; 8];
+    let (padding, _) = zeros.split_at(count);
+    out.extend_from_slice(padding)
+}
+
+/// Replaces two bytes by a number: the length of a struct is known when all that it counts is written.
+pub fn replace_u16(out: &mut Vec<u8>, at: usize, number: u16)
+    requires { at + 2 ≤ length out.old.items }
+    ensures { out.new.items ≡ take at out.old.items ++ (big_bytes 2 number ++ drop (at + 2) out.old.items) }
+{
+    let (_, rest) = out.split_at_mut(at);
+    BigEndian::write_u16(rest, number);
 }

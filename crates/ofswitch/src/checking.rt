@@ -3,7 +3,6 @@ use crate::hinting::Seen;
 use crate::importing::{NotImported, import_of, read_whole, text_of};
 use crate::lookups::Lookups;
 use crate::parts::print_part;
-use crate::standard_input::StandardInput;
 use of_classifier::Scan;
 use of_command_line::{Check, CheckOutput, FileKind};
 use of_import::{Import, ImportText, Mode};
@@ -11,6 +10,7 @@ use of_import_report::table_origins;
 use of_replay::Ended;
 use of_replay::streams::{ReaderSource, WriterSink};
 use of_report::{Content, Form, Origin, content_of, report_events, report_flows, text_origins};
+use of_sockets::StandardInput;
 use std::fs::File;
 use std::io;
 

@@ -1,24 +1,14 @@
 //! A switch that forwards the frames of a network.
 use crate::drawing::draw_seed;
+use crate::hinting::bytes_of;
 use crate::lookups::Lookups;
-use network::Sockets;
 use of_command_line::{Live as Asked, PortPeer};
 use of_live::{Live, live};
 use of_network::Peer;
 use of_replay::Ended;
+use of_sockets::live::{PortRows, Sockets, endpoint_of};
 use of_switch::{Event, PortChange, Switch};
-use port_rows::PortRows;
 use std::alloc::AllocError;
-
-mod controller;
-mod endpoints;
-mod lines;
-mod log;
-mod network;
-mod outside;
-mod port_rows;
-mod standard_rows;
-mod tunnel;
 
 // The change that adds port N: 02:00:00:00:00:NN, pN, up.
 fn port_of(alloc: std::alloc::Global, number: u32) -> Result<Event, AllocError> {
@@ -57,7 +47,9 @@ fn watched_ports<'r>(
     }
     let mut ports = PortRows::new(rt, &first_ports(rt, asked.ports)?)?;
     if let Some(path) = &asked.events {
-        ports.read(path.as_str(), rows)?;
+        if let Some(file) = bytes_of(rt, path.as_str()) {
+            ports.read(&file, rows)?;
+        }
     }
     Ok(Some(ports))
 }
@@ -67,7 +59,7 @@ fn set_peers(rt: &HostRuntime, asked: &[PortPeer]) -> Result<Vec<Peer>, AllocErr
     for peer in asked {
         peers.push(Peer {
             port: peer.port,
-            endpoint: endpoints::endpoint_of(&peer.address),
+            endpoint: endpoint_of(&peer.address),
             is_set: true,
         })?;
     }

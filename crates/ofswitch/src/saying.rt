@@ -1,9 +1,9 @@
 //! Messages of OpenFlow in words.
 use crate::importing::read_whole;
-use crate::standard_input::StandardInput;
 use of_explain::say_messages;
 use of_replay::streams::WriterSink;
 use of_replay::{Ended, write_all};
+use of_sockets::StandardInput;
 use std::alloc::AllocError;
 use std::fs::File;
 use std::io::{self, Read};

@@ -2,12 +2,12 @@
 use crate::drawing::draw_seed;
 use crate::hinting::bytes_of;
 use crate::lookups::Lookups;
-use crate::sockets::{MachineClock, Sockets};
 use of_calls::Refusals;
 use of_command_line::Serve;
 use of_replay::Ended;
 use of_replay::streams::WriterSink;
 use of_serve::serve_on;
+use of_sockets::serving::{MachineClock, Sockets};
 use of_switch::{Event, Switch};
 use std::alloc::AllocError;
 

@@ -5,10 +5,10 @@ use Rattle.of_statistics.specs.Flows.{rows_of_one}
 use Rattle.of_statistics.proofs.Cutting.{row_put, none_put}
 use Rattle.of_statistics.proofs.flows.put_entry.Goals as goal
 
-pub returns-in_ok-flow_row : goal.returns-in_ok-flow_row
-returns-in_ok-flow_row c =
+pub returns-in_ok-put_row : goal.returns-in_ok-put_row
+returns-in_ok-put_row c =
     let asked : selects c.args.which.now (entry_of c.args.entry.now) ≡ true = sym c.selects.ensures ∙ c.if-selects.true in
-    row_put c.push.result c.args.out.now c.push.new.self _ (rows_of_one c.args.now c.args.which.now c.args.table (entry_of c.args.entry.now)) (rw asked refl) (rw (c.deref.ensures.value, c.in_ok-flow_row.ensures.row) at c.push.ensures)
+    row_put c.push.result c.args.out.now c.push.new.self _ (rows_of_one c.args.now c.args.which.now c.args.table (entry_of c.args.entry.now)) (rw asked refl) (rw (c.deref.ensures.value, c.in_ok-put_row.ensures.row) at c.push.ensures)
 
 pub returns-else-selects : goal.returns-else-selects
 returns-else-selects c =

@@ -1,7 +1,6 @@
 //! Rows of ports that the switch refuses.
-use crate::hinting::bytes_of;
-use crate::lookups::Lookups;
 use of_calls::{later_of, refusal_of, row_numbers};
+use of_classifier::Scan;
 use of_switch::{Event, PortChange, Switch};
 use std::alloc::AllocError;
 
@@ -19,7 +18,7 @@ struct DueRow {
 #[derive(Drop)]
 pub struct PortRows<'r> {
     rt: &'r HostRuntime,
-    switch: Switch<Lookups>,
+    switch: Switch<Scan>,
     // those of the event file, and how many of them came
     rows: Vec<DueRow>,
     came: usize,
@@ -30,7 +29,7 @@ impl<'r> PortRows<'r> {
     pub fn new(rt: &'r HostRuntime, first: &[Event]) -> Result<Self, AllocError> {
         let mut ports = PortRows {
             rt,
-            switch: Switch::<Lookups>::new(rt.alloc(), 1)?,
+            switch: Switch::<Scan>::new(rt.alloc(), 1)?,
             rows: Vec::new(rt.alloc()),
             came: 0,
         };
@@ -42,12 +41,9 @@ impl<'r> PortRows<'r> {
         Ok(ports)
     }
 
-    /// The rows of an event file, which are these events.
-    pub fn read(&mut self, path: &str, events: &[Event]) -> Result<(), AllocError> {
-        let Some(file) = bytes_of(self.rt, path) else {
-            return Ok(());
-        };
-        let lines = row_numbers(self.rt.alloc(), &file)?;
+    /// The rows of the bytes of an event file, which are these events.
+    pub fn read(&mut self, file: &[u8], events: &[Event]) -> Result<(), AllocError> {
+        let lines = row_numbers(self.rt.alloc(), file)?;
         let mut due: u64 = 0;
         for (event, line) in events.iter().zip(lines.iter()) {
             if let Event::Ports(change) = event {
