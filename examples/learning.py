@@ -1,6 +1,7 @@
 """A learning switch for os-ken: `osken-manager learning.py`.
 
-It has a table of addresses for each switch, and adds a flow for each pair of addresses. In a ring, a flooded frame would circulate
+It has a table of addresses for each switch, and adds a flow for each pair of addresses. If an address comes from another port than
+before, its host has moved, and the flows to it and from it are deleted (without this, see learning_faulty.py). In a ring, a flooded frame would circulate
 for ever: BLOCKED=1:4,16:4 turns off port 4 of the switches with the datapath ids 1 and 16, so the link between them is not used.
 """
 import os
@@ -31,12 +32,17 @@ class Learning(app_manager.OSKenApp):
         todo = [parser.OFPInstructionActions(of.OFPIT_APPLY_ACTIONS, actions)]
         path.send_msg(parser.OFPFlowMod(path, priority=priority, match=match, instructions=todo))
 
+    def delete(self, path, match):
+        of, parser = path.ofproto, path.ofproto_parser
+        every = {"table_id": of.OFPTT_ALL, "out_port": of.OFPP_ANY, "out_group": of.OFPG_ANY}
+        path.send_msg(parser.OFPFlowMod(path, command=of.OFPFC_DELETE, match=match, **every))
+
     @set_ev_cls(ofp_event.EventOFPSwitchFeatures, CONFIG_DISPATCHER)
     def features(self, event):
         path = event.msg.datapath
         of, parser = path.ofproto, path.ofproto_parser
         # the flows of an earlier run name addresses that this one has not learned
-        path.send_msg(parser.OFPFlowMod(path, command=of.OFPFC_DELETE, table_id=of.OFPTT_ALL, out_port=of.OFPP_ANY, out_group=of.OFPG_ANY))
+        self.delete(path, parser.OFPMatch())
         self.add(path, 0, parser.OFPMatch(), [parser.OFPActionOutput(of.OFPP_CONTROLLER, of.OFPCML_NO_BUFFER)])
         if path.id in BLOCKED:
             path.send_msg(parser.OFPPortDescStatsRequest(path))
@@ -59,6 +65,10 @@ class Learning(app_manager.OSKenApp):
         if eth.ethertype == LLDP:
             return
         learned = self.learned.setdefault(path.id, {})
+        if learned.get(eth.src, port) != port:
+            self.delete(path, parser.OFPMatch(eth_dst=eth.src))
+            # from its old port, to which it may return: its frames have to come here then
+            self.delete(path, parser.OFPMatch(eth_src=eth.src))
         learned[eth.src] = port
         out = learned.get(eth.dst, of.OFPP_FLOOD)
         actions = [parser.OFPActionOutput(out)]

@@ -38,7 +38,7 @@ def build_sdist(sdist_directory, config_settings=None):
 
 
 def sources():
-    return sorted(it for it in (TOP / PROJECT["name"]).iterdir() if it.suffix == ".py" or it.name == "py.typed")
+    return sorted(it for it in (TOP / PROJECT["name"]).iterdir() if it.suffix in (".py", ".html", ".css", ".js") or it.name == "py.typed")
 
 
 def without_owner(entry):

@@ -9,18 +9,23 @@
         switch.feed(message)              # the answers, and the frames that leave
         switch.frame(1, frame)            # [Sent(port=2, frame=..)], or [Answer(PACKET_IN xid 0, ..)]
 
-`Bridge` connects a real controller in its own process. `Network` has several switches with links between them. `diff` finds the
-frames that two switches treat differently, and `paths` the steps that the frames take that a switch receives. The manuals are docs/TESTING.md and docs/LAB.md of the repository.
+`Bridge` connects a real controller in its own process. `Network` has several switches with links between them. `check` finds flows
+that never win, `diff` the frames that two switches treat differently, and `paths` the steps that the frames take that a switch
+receives. `shrink` finds the fewest rows of a log that show a fault. The manuals are docs/TESTING.md and docs/LAB.md of the repository.
 """
 
 from .bridge import Bridge
+from .checking import check
 from .difference import diff
 from .dividing import paths
 from .effects import Answer, Closed, Effect, Refused, Sent
+from .flattening import NetworkPath, NetworkPaths, NotFlat
+from .hops import Arrived, Crossing, Hop, NetworkTrace
 from .message_types import MessageType
-from .network import Arrived, Crossing, Looped, Network
+from .network import Looped, Network
 from .pcap import CaptureError
 from .program import ProgramError
+from .shrinking import NotShown, Shrunk, shrink
 from .switch import Switch
 
 # also in pyproject.toml
@@ -34,13 +39,22 @@ __all__ = [
     "Closed",
     "Crossing",
     "Effect",
+    "Hop",
     "Looped",
     "MessageType",
     "Network",
+    "NetworkPath",
+    "NetworkPaths",
+    "NetworkTrace",
+    "NotFlat",
+    "NotShown",
     "ProgramError",
     "Refused",
     "Sent",
+    "Shrunk",
     "Switch",
+    "check",
     "diff",
     "paths",
+    "shrink",
 ]

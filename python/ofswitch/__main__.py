@@ -1,4 +1,4 @@
-"""`python -m ofswitch bridge`: a switch whose rows are typed and whose controller connects over TCP; also `live`, `mininet`, `draw`, `capture`."""
+"""`python -m ofswitch bridge`: a switch whose rows are typed and whose controller connects over TCP; also `live`, `mininet`, `draw`, `view`, `capture`, `shrink`."""
 
 from __future__ import annotations
 
@@ -6,6 +6,7 @@ import argparse
 import ipaddress
 import logging
 import os
+import re
 import signal
 import sys
 import threading
@@ -13,7 +14,7 @@ from collections.abc import Iterable
 from types import FrameType
 from typing import NoReturn, TextIO
 
-from . import capture, interfaces, picture, rows
+from . import capture, interfaces, picture, rows, shrink_file, view
 from .bridge import Bridge
 from .connection import Address
 from .effects import Effect
@@ -55,6 +56,18 @@ Exit status: 0 drawn; 1 bad arguments; 2 the file is at fault; 3 a file cannot b
 """
 
 
+VIEW_DESCRIPTION = """
+Writes a page that shows an event file (docs/EVENTS.md) in a browser, without a server: its rows in words on a line of time, what each
+answered and sent, and the groups and flow tables after each row, with what it changed (docs/VIEW.md). With --frame it also shows where
+a frame would go after each row, and the rows at which that changes.
+"""
+
+VIEW_STATUSES = """
+Exit status: 0 written; 1 bad arguments, or a bad frame; 2 a line of the event file is not a valid row; 3 a file cannot be read or written,
+or the program is missing or ended.
+"""
+
+
 CAPTURE_DESCRIPTION = """
 Reads and writes captures (pcap and pcapng files; docs/CAPTURES.md). Converts an OpenFlow 1.3 connection of any switch to an event
 file, or compares it, message by message, with the answers of the specified switch; converts frames to event rows; and writes
@@ -88,6 +101,18 @@ Prints the file that Mininet has to read: sudo mn --custom $(python -m ofswitch 
 """
 
 
+SHRINK_DESCRIPTION = """
+Prints the fewest rows of an event file (docs/EVENTS.md) that still show something, as an event file with the lines of LOG as comments
+(docs/TESTING.md): a change of what becomes of a frame, what a row prints, or a row that prints a pattern. Without any one of the rows
+it is not shown any more. Rows after the comment `# keep` stay.
+"""
+
+SHRINK_STATUSES = """
+Exit status: 0 shrunk; 1 bad arguments; 2 a line is not a valid row; 3 a file cannot be opened, or the program is missing or ended;
+4 LOG does not show it.
+"""
+
+
 class Parser(argparse.ArgumentParser):
     def error(self, message: str) -> NoReturn:
         self.print_usage(sys.stderr)
@@ -110,7 +135,9 @@ def parser() -> argparse.ArgumentParser:
     add_live(commands)
     commands.add_parser("mininet", help="the file for `mn --custom`", description=MININET_DESCRIPTION)
     add_draw(commands)
+    add_view(commands)
     add_capture(commands)
+    add_shrink(commands)
     return whole
 
 
@@ -144,6 +171,16 @@ def add_draw(commands: argparse._SubParsersAction[Parser]) -> None:
     draw.add_argument("frame", metavar="HEX", nargs="?", help="a frame whose path is drawn, two hexadecimal digits per byte")
 
 
+def add_view(commands: argparse._SubParsersAction[Parser]) -> None:
+    view = commands.add_parser("view", help="a page that shows an event file", description=VIEW_DESCRIPTION, epilog=VIEW_STATUSES)
+    view.add_argument("log", metavar="LOG", help="an event file; - is standard input")
+    view.add_argument("-o", dest="out", metavar="PAGE", required=True, help="the HTML file that is written")
+    view.add_argument("--frame", metavar="FRAME", help="a frame whose fate is shown, in hexadecimal digits or in words (docs/TRACE.md)")
+    view.add_argument("--port", metavar="N", type=port, help="the port at which the frame comes in, unless its words say it")
+    view.add_argument("--dpid", metavar="N", type=dpid, help="the datapath_id (by default 1)")
+    view.add_argument("--program", metavar="PATH", help="the program ofswitch (by default OFSWITCH, or the one on the PATH)")
+
+
 def add_capture(commands: argparse._SubParsersAction[Parser]) -> None:
     capture = commands.add_parser("capture", help="captures of OpenFlow connections and of frames", description=CAPTURE_DESCRIPTION, epilog=CAPTURE_STATUSES)
     what = capture.add_subparsers(dest="what", required=True, parser_class=Parser)
@@ -170,6 +207,34 @@ def add_capture(commands: argparse._SubParsersAction[Parser]) -> None:
     pcap.add_argument("--dpid", metavar="N", type=dpid, help="the datapath_id (by default 1)")
     for it in (compare, pcap):
         it.add_argument("--program", metavar="PATH", help="the program ofswitch (by default OFSWITCH, or the one on the PATH)")
+
+
+def add_shrink(commands: argparse._SubParsersAction[Parser]) -> None:
+    shrink = commands.add_parser("shrink", help="the fewest rows that show a fault", description=SHRINK_DESCRIPTION, epilog=SHRINK_STATUSES)
+    shrink.add_argument("file", metavar="LOG", help="an event file")
+    what = shrink.add_mutually_exclusive_group(required=True)
+    what.add_argument("--change", metavar="FRAME", help="the last change of what becomes of this frame, in hexadecimal digits or in words as `ofswitch trace` takes it")
+    what.add_argument("--row", metavar="N", type=count, help="what the row in line N prints, without xids and buffer ids")
+    what.add_argument("--prints", metavar="REGEX", type=pattern, help="a pattern in a line that is printed, or in its effect in words, such as BAD_PREREQ")
+    shrink.add_argument("--port", metavar="N", type=port, help="the port of the frame, unless its words have in_port")
+    shrink.add_argument("--nth", metavar="K", type=count, help="change K of the frame, from 1, instead of the last one")
+    shrink.add_argument("--fields", action="store_true", help="also leave out fields of FLOW_MODs, and cut frames at their headers")
+    shrink.add_argument("--test", metavar="OUT", help="write a test for pytest with the rows, and what the last one does, to this file")
+    shrink.add_argument("--dpid", metavar="N", type=dpid, default=1, help="the datapath_id (by default 1)")
+    shrink.add_argument("--program", metavar="PATH", help="the program ofswitch (by default OFSWITCH, or the one on the PATH)")
+
+
+def count(word: str) -> int:
+    if not (word.isascii() and word.isdigit() and int(word) > 0):
+        raise argparse.ArgumentTypeError("a number from 1")
+    return int(word)
+
+
+def pattern(word: str) -> re.Pattern[str]:
+    try:
+        return re.compile(word)
+    except re.error as fault:
+        raise argparse.ArgumentTypeError(f"not a regular expression: {fault}") from None
 
 
 def port(word: str) -> int:
@@ -311,12 +376,22 @@ def main() -> int:
             parser().error("a path has its own frame: give --path or a frame")
         if asked.path is None and (asked.port is None) != (asked.frame is None):
             parser().error("a frame needs its port, and a port its frame")
+    if asked.command == "view" and asked.frame is None and asked.port is not None:
+        parser().error("a port needs its frame")
     logging.basicConfig(level=logging.INFO, format="%(message)s")
     try:
-        commands = {"draw": picture.run, "capture": capture.run, "bridge": run, "live": run_live, "mininet": run_mininet}
+        commands = {
+            "draw": picture.run,
+            "view": view.run,
+            "capture": capture.run,
+            "bridge": run,
+            "live": run_live,
+            "mininet": run_mininet,
+            "shrink": shrink_file.run,
+        }
         return commands[asked.command](asked)
     except (ProgramError, CaptureError, InterfaceError, OSError) as fault:
-        if asked.command == "draw" and isinstance(fault, ProgramError) and fault.status is not None and fault.status > 0:
+        if asked.command in ("draw", "view") and isinstance(fault, ProgramError) and fault.status is not None and fault.status > 0:
             # the program says what is wrong with the file
             print(fault.said, file=sys.stderr)
             return fault.status

@@ -72,20 +72,21 @@ def _mask(name: str, hexadecimal: str) -> str:
     return f"/{_value(name, hexadecimal)}"
 
 
-def _field(words: Words) -> str:
+def field_text(words: Words) -> str:
+    """A match field in its usual notation, such as `ipv4_dst=10.0.0.0/8`."""
     name, value, *mask = words
     if value == "absent":
         return f"no {name}"
     return f"{name}={_value(name, value)}{_mask(name, mask[0]) if mask else ''}"
 
 
-def _action(words: Words) -> str:
-    return f"set {_field(words[1:])}" if words[0] == "set" else " ".join(words)
+def action_text(words: Words) -> str:
+    return f"set {field_text(words[1:])}" if words[0] == "set" else " ".join(words)
 
 
 def _actions(actions: list[Words]) -> str:
     """The actions that change the packet; outputs are arrows."""
-    return ", ".join(_action(it) for it in actions if it[0] not in ("output", "to_group"))
+    return ", ".join(action_text(it) for it in actions if it[0] not in ("output", "to_group"))
 
 
 def _does(flow: Flow) -> list[str]:
@@ -112,7 +113,7 @@ def _cell(lines: list[str], attributes: str = "", color: str = "") -> str:
 
 def _row(flow: Flow, is_never: bool, ground: str) -> str:
     color = _GRAY if is_never else ""
-    fields = [" ".join(_field(it) for it in flow.match) or "any packet"]
+    fields = [" ".join(field_text(it) for it in flow.match) or "any packet"]
     does = _does(flow) + ["never wins"] * is_never
     cells = [
         _cell([str(flow.priority)], ground, color),
@@ -149,7 +150,7 @@ def _table(configuration: Configuration, table: int, never: set[tuple[int, int]]
         rows.append(_wide(["no flows"]))
     seen = walk.sees.get(table, [])
     if seen:
-        rows.append(_wide([f"the packet has {_field(tuple(it.split()))}" for it in seen], color="#0060c0"))
+        rows.append(_wide([f"the packet has {field_text(tuple(it.split()))}" for it in seen], color="#0060c0"))
     return _labelled(f"t{table}", f"table {table}", "#eeeeee", rows)
 
 

@@ -23,7 +23,7 @@ from .program import ProgramError, find
 # What `dpctl` answers, each by a command of the program about the log.
 _ANSWERS = {
     "dump-flows": ["dis"],
-    "check": ["check", "--events"],
+    "check": ["check"],
     "explain": ["replay", "--explain"],
 }
 

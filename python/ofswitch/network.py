@@ -7,36 +7,16 @@ import threading
 import time
 from collections import deque
 from collections.abc import Callable, Iterable, Iterator, Mapping
-from dataclasses import dataclass
 from types import TracebackType
 from typing import Any, NamedTuple
 
 from .bridge import Bridge
 from .connection import Address
 from .effects import Effect, Refused, Sent
-from .rows import Octets
+from .flattening import MOST_HOPS, NetworkPaths, network_paths
+from .hops import Arrived, Crossing, NetworkTrace, follow
+from .rows import Octets, as_bytes
 from .switch import Switch
-
-
-@dataclass(frozen=True)
-class Arrived:
-    """A frame that left by a port without a link, and so reached a host."""
-
-    switch: str
-    port: int
-    frame: bytes
-
-
-class Crossing(NamedTuple):
-    """A link in one direction: from the port by which a frame leaves to the port at which it is received."""
-
-    switch: str
-    port: int
-    to_switch: str
-    to_port: int
-
-    def __str__(self) -> str:
-        return f"{self.switch} port {self.port} to {self.to_switch} port {self.to_port}"
 
 
 class Looped(Exception):
@@ -183,6 +163,24 @@ class Network:
         """For all switches the time is this many nanoseconds after the start."""
         for switch in self.switches.values():
             switch.at(nanoseconds)
+
+    # ---- queries, which send nothing
+
+    def trace(self, switch: str, port: int, frame: Octets | str) -> NetworkTrace:
+        """The hops that a frame of a host would take now, at most `hops`, each with its steps, until it rests or comes to a place again.
+
+        `frame` may be in words, as for `Switch.frame`.
+        """
+        octets = self.switches[switch].frame_of(frame) if isinstance(frame, str) else as_bytes(frame)
+        return follow(self.switches, self._links, self.hops, (switch, port), octets)
+
+    def paths(self, switch: str, port: int, *, match: str | None = None, hops: int = MOST_HOPS, steps: int | None = None) -> NetworkPaths:
+        """The paths of all frames that a host sends to a port, over at most so many switches (docs/LAB.md).
+
+        With `match`, only of frames that match: `"ip,nw_dst=10.0.0.0/8"`. `steps` is that of `ofswitch paths`. Raises NotFlat if a
+        switch has what one switch cannot do for all, such as a second table, and ValueError if an argument has a fault.
+        """
+        return network_paths(self.switches, self._links, (switch, port), match, hops, steps)
 
     # ---- controllers
 

@@ -35,7 +35,7 @@ def run(asked: argparse.Namespace) -> int:
     if frame is not None:
         # after an event file the frame meets the switch's own ports; a flow text gets ports 1 to 64
         kind = ["--flows", "-"] if asked.events is None else ["--events", asked.events]
-        words = [program, "trace", *kind, "--port", str(port), frame, "--explain"]
+        words = [program, "trace", "--lines", *kind, "--port", str(port), frame, "--explain"]
         walk = trace_text.read(run_to_end(words, text.encode(), _TIMEOUT), configuration)
     graph = draw(configuration, never_winning(program, text), walk, also)
     if asked.svg is None:
@@ -67,16 +67,22 @@ def path_of(program: str, asked: argparse.Namespace, text: str) -> tuple[int, st
 
 def never_winning(program: str, text: str) -> set[tuple[int, int]]:
     """Table and place of each flow that never wins, from `ofswitch check`."""
-    found = run_to_end([program, "check", "--flows", "-"], text.encode(), _TIMEOUT, good=(0, _FOUND))
-    words = [line.split() for line in found.splitlines()]
-    return {(int(it[1]), int(it[2])) for it in words if it[0] == "flow" and it[3] == "never:"}
+    found = json.loads(run_to_end([program, "check", "--json", "--flows", "-"], text.encode(), _TIMEOUT, good=(0, _FOUND, _UNDECIDED)))
+    return {(it["table"], it["entry"]) for it in found["flows"] if it["verdict"] == "never wins"}
 
 
 def render(graph: str, path: str) -> None:
+    svg = svg_of(graph)
+    with open(path, "wb") as picture:
+        picture.write(svg)
+
+
+def svg_of(graph: str) -> bytes:
+    """The picture of a graph. ProgramError if `dot` is missing or fails."""
     dot = shutil.which("dot")
     if dot is None:
         raise ProgramError("there is no program dot: install Graphviz, or leave --svg out and keep the graph")
-    with open(path, "wb") as picture:
-        done = subprocess.run([dot, "-Tsvg"], input=graph.encode(), stdout=picture, stderr=subprocess.PIPE, timeout=_TIMEOUT)
+    done = subprocess.run([dot, "-Tsvg"], input=graph.encode(), capture_output=True, timeout=_TIMEOUT)
     if done.returncode:
         raise ProgramError(f"dot ended with status {done.returncode}: {done.stderr.decode(errors='replace').strip()}")
+    return done.stdout

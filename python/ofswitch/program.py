@@ -5,6 +5,7 @@ from __future__ import annotations
 import contextlib
 import json
 import os
+import re
 import select
 import shutil
 import subprocess
@@ -217,3 +218,14 @@ def _end(process: subprocess.Popen[bytes], owner: int) -> bytes:
         process.wait()
     with process.stderr as stream:
         return stream.read()
+
+
+def received(program: str, words: str, port: int | None = None, timeout: float = 60.0) -> tuple[int, bytes]:
+    """The port and the bytes of a frame, which may be in words (docs/TRACE.md), as `ofswitch trace` reads them. ProgramError if they have a fault."""
+    said = re.search(r"(?:^|[,\s])in_port=(\d+)", words)
+    chosen = [] if port is None else ["--port", str(port)]
+    # the switch has to have the port
+    number = str(port) if port is not None else said[1] if said else "1"
+    trace = run_to_end([program, "trace", "--flows", "-", "--ports", number, "--json", *chosen, words], b"", timeout)
+    found = json.loads(trace)
+    return found["in_port"], bytes.fromhex(found["frame"])

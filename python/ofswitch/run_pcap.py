@@ -8,6 +8,7 @@ from collections.abc import Iterable, Mapping
 from .effects import Answer, Effect, Sent
 from .pcap import WIRESHARK_UPPER_PDU, Writer
 from .program import StrPath
+from .units import messages_of
 
 # The bytes before a message that is not a packet of a network: the tag of a dissector's name (12), and the end of tags.
 _OPENFLOW = struct.pack("!HH8sI", 12, 8, b"openflow", 0)
@@ -41,7 +42,7 @@ def write_pcap(path: StrPath, run_of: Iterable[tuple[str, list[Effect]]], names:
             elif word == "f" and words[1] != "-":
                 frame(int(words[0]), bytes.fromhex(words[1]), False)
             elif word == "c" and words[0] != "-":
-                whole, rest = _messages(rest + bytes.fromhex(words[0]))
+                whole, rest = messages_of(rest + bytes.fromhex(words[0]))
                 for data in whole:
                     writer.packet(channel, now, _OPENFLOW + data, is_outbound=False)
             for it in effects:
@@ -49,12 +50,3 @@ def write_pcap(path: StrPath, run_of: Iterable[tuple[str, list[Effect]]], names:
                     frame(it.port, it.frame, True)
                 elif isinstance(it, Answer):
                     writer.packet(channel, now, _OPENFLOW + it.data, is_outbound=True)
-
-
-def _messages(data: bytes) -> tuple[list[bytes], bytes]:
-    """The complete messages at the beginning, and the bytes after them."""
-    whole = []
-    while len(data) >= 8 and len(data) >= (size := max(8, int.from_bytes(data[2:4], "big"))):
-        whole.append(data[:size])
-        data = data[size:]
-    return whole, data

@@ -3,7 +3,7 @@
 from __future__ import annotations
 
 import contextlib
-import json
+import functools
 import os
 import tempfile
 import threading
@@ -13,12 +13,14 @@ from types import TracebackType
 from typing import IO, Any, Protocol, cast
 
 from . import rows
+from .checking import check
 from .difference import diff
 from .dividing import paths
-from .effects import Closed, Effect, Refused, effect_of
-from .program import MARK_ROW, ProgramError, Run, StrPath, find, reads_of, run_to_end
+from .effects import Answer, Closed, Effect, Refused, effect_of
+from .program import MARK_ROW, ProgramError, Run, StrPath, file_of, find, reads_of, received, run_to_end
 from .rows import Octets
 from .run_pcap import write_pcap
+from .view import write_page
 
 Watcher = Callable[[str, "list[Effect]"], None]
 
@@ -30,16 +32,25 @@ class Controller(Protocol):
         """Gets the effects of each row, as soon as it is played."""
 
 
+# A HELLO, and a MULTIPART_REQUEST of the type PORT_DESC.
+_PORT_DESC = bytes.fromhex("0400000800000000" "0412001000000001" "000d000000000000")
+
 # The most bytes of a log that stay in memory; a longer log goes to a temporary file.
 _LOG_IN_MEMORY = 1 << 24
 
 # How much of a log a new run of the program gets at a time, in bytes.
 _BLOCK_SIZE = 1 << 20
 
-# Exit statuses: an argument or a file has a fault; `ofswitch check` found something.
+# A HELLO, and a MULTIPART_REQUEST of the type PORT_DESC.
+_PORT_DESC = bytes.fromhex("0400000800000000" "0412001000000001" "000d000000000000")
+
+# Exit statuses: an argument or a file has a fault; `ofswitch import --skip` left lines out.
 _BAD_ARGUMENT = 1
 _BAD_FILE = 2
-_FOUND = 4
+_LEFT_OUT = 4
+
+# How many frames in words are kept as bytes.
+_FRAMES_KEPT = 1024
 
 
 class Switch:
@@ -146,18 +157,22 @@ class Switch:
             effects += self._play_all(part)
         return effects
 
-    def load(self, text: str) -> list[Effect]:
-        """Adds the groups and flows of a flow text (docs/FLOWTEXT.md), by the messages of a controller.
+    def load(self, text: str | os.PathLike[str]) -> list[Effect]:
+        """Adds the groups and flows of a flow text (docs/FLOWTEXT.md), or of a file (a `pathlib.Path`), by the messages of a controller.
 
         If there is a connection, its HELLO must have been fed, and the messages come over it; otherwise a connection is made and
         closed again. Returns the answers: none, or an ERROR for each message that the switch refuses now. ValueError, with the
         line, if the text has a fault.
         """
-        return self._load(self._converted("asm", text))
+        return self._load(self._converted(["asm"], text))
 
-    def import_(self, text: str) -> list[Effect]:
-        """Adds the groups and flows of a text in the syntax of `ovs-ofctl` (docs/IMPORT.md), as `load` does."""
-        return self.load(self._converted("import", text))
+    def import_(self, text: str | os.PathLike[str], *, skip: bool = False, renumber: bool = False) -> list[Effect]:
+        """Adds the groups and flows of a text in the syntax of `ovs-ofctl` (docs/IMPORT.md), or of a file, as `load` does.
+
+        With `skip` lines that this switch does not support are left out. With `renumber` the tables get the numbers 0, 1, 2 and so on.
+        """
+        options = [*(["--skip"] if skip else []), *(["--renumber"] if renumber else [])]
+        return self.load(self._converted(["import", *options], text, good=(0, _LEFT_OUT)))
 
     def watch(self, watcher: Watcher) -> None:
         """From now on, calls this function with each row and its effects, in the order of the rows, also for rows that a bridge plays."""
@@ -171,9 +186,9 @@ class Switch:
         with self._played:
             return self._log_bytes().decode()
 
-    def check(self) -> str:
-        """The flows that never win, and other likely mistakes, as `ofswitch check` prints them (docs/CHECK.md)."""
-        return self._ask(["check", "--events", "-"], b"", good=(0, _FOUND))
+    def check(self, *, steps: int | None = None) -> dict[str, Any]:
+        """The flows that never win, and other likely mistakes (docs/CHECK.md), as `ofswitch.check` returns them."""
+        return check(self._events(), steps=steps, program=self._program)
 
     def diff(self, other: Switch, *, frames: bool = False, steps: int | None = None) -> dict[str, Any]:
         """The frames that this switch and another one treat differently, as they are now (docs/DIFF.md), as `ofswitch.diff` returns them."""
@@ -198,13 +213,7 @@ class Switch:
         """
         if "in_port" in words:
             raise ValueError("in_port: the port is an argument of its own")
-        try:
-            trace = run_to_end([self._program, "trace", "--flows", "-", "--json", "--port", "1", words], b"", self._timeout)
-        except ProgramError as fault:
-            if fault.status != _BAD_ARGUMENT:
-                raise
-            raise ValueError(fault.said) from None
-        return bytes.fromhex(json.loads(trace)["frame"])
+        return _frame_in_words(self._program, words, self._timeout)
 
     def steps(self, port: int, frame: Octets | str, *, explain: bool = False) -> str:
         """Each step that this frame would take now, one per line, and then what leaves (docs/TRACE.md); with notes if `explain`."""
@@ -216,9 +225,19 @@ class Switch:
         return self._log is not None
 
     @property
+    def program(self) -> str:
+        """The path of the program."""
+        return self._program
+
+    @property
     def port_names(self) -> dict[int, str]:
         """The names that were passed to `port_add`, by the port's number."""
         return dict(self._port_names)
+
+    @property
+    def dpid(self) -> int:
+        """The datapath_id."""
+        return self._dpid
 
     @property
     def replay_options(self) -> list[str]:
@@ -255,6 +274,24 @@ class Switch:
         lines = log.split("\n")[:-1]
         with Switch(self._program, dpid=self._dpid, log=False, timeout=self._timeout) as again:
             write_pcap(path, zip(lines, again.play_all(lines)), self._port_names)
+
+    def ports(self) -> list[dict[str, Any]]:
+        """The ports now, as a PORT_DESC reply has them (OpenFlow 1.3.5, 7.3.5.7). The program plays the log again."""
+        with self._played:
+            log = self._log_bytes().decode()
+        with Switch(self._program, dpid=self._dpid, log=False, timeout=self._timeout) as again:
+            again.play_all(log.split("\n")[:-1])
+            again.lost()
+            again.connect()
+            [answer] = cast("list[Any]", again.feed(_PORT_DESC))
+            return cast("list[dict[str, Any]]", answer.fields["body"])
+
+    def view(self, path: StrPath, *, frame: tuple[int, Octets | str] | None = None) -> None:
+        """Writes a page that shows the rows so far in a browser (docs/VIEW.md), with the fate of a frame, if its port and itself are given."""
+        shown = None if frame is None else (frame[0], rows.as_bytes(self._octets(frame[1])).hex())
+        with self._played:
+            log = self._log_bytes()
+        write_page(path, log, f"switch {self._dpid}", self._program, self._options, shown)
 
     @property
     def pid(self) -> int:
@@ -381,23 +418,15 @@ class Switch:
         finally:
             self._log.seek(0, os.SEEK_END)
 
-    def _ask(self, words: list[str], more: bytes, good: tuple[int, ...] = (0,)) -> str:
-        """The output of the program for the log and one more row."""
-        with self._played:
-            text = self._log_bytes() + more
-        return run_to_end([self._program, *words], text, self._timeout, good)
-
     def _octets(self, frame: Octets | str) -> Octets:
         return self.frame_of(frame) if isinstance(frame, str) else frame
 
-    def _converted(self, word: str, text: str) -> str:
-        """The output of the program for a text. ValueError if the text has a fault."""
+    def _converted(self, words: list[str], text: str | os.PathLike[str], good: tuple[int, ...] = (0,)) -> str:
+        """The output of the program for a text or a file. ValueError if it has a fault."""
         # for a file, but not for standard input, the program explains the fault in words
-        with tempfile.NamedTemporaryFile(suffix=".txt") as file:
-            file.write(text.encode())
-            file.flush()
+        with file_of(text) as file:
             try:
-                return run_to_end([self._program, word, file.name], b"", self._timeout)
+                return run_to_end([self._program, *words, file], b"", self._timeout, good)
             except ProgramError as fault:
                 if fault.status != _BAD_FILE:
                     raise
@@ -437,6 +466,17 @@ class _Story:
 
     def close(self) -> None:
         self._run.close()
+
+
+@functools.lru_cache(maxsize=_FRAMES_KEPT)
+def _frame_in_words(program: str, words: str, timeout: float) -> bytes:
+    """The frame that has the fields of these words. ValueError if there is none."""
+    try:
+        return received(program, words, 1, timeout)[1]
+    except ProgramError as fault:
+        if fault.status != _BAD_ARGUMENT:
+            raise
+        raise ValueError(fault.said) from None
 
 
 def _parts(many: list[str]) -> Iterator[list[str]]:

@@ -1,4 +1,4 @@
-"""The examples of docs/TESTING.md, docs/LAB.md and docs/CAPTURES.md do what they say."""
+"""The examples of docs/TESTING.md, docs/LAB.md, docs/EXPLORE.md, docs/TUTORIAL.md and docs/CAPTURES.md do what they say."""
 
 import pathlib
 import re
@@ -13,6 +13,8 @@ pytest_plugins = ["pytester"]
 TOP = pathlib.Path(__file__).resolve().parents[2]
 MANUAL = TOP / "docs" / "TESTING.md"
 LAB = TOP / "docs" / "LAB.md"
+EXPLORE = TOP / "docs" / "EXPLORE.md"
+TUTORIAL = TOP / "docs" / "TUTORIAL.md"
 CAPTURES = TOP / "docs" / "CAPTURES.md"
 
 
@@ -90,7 +92,47 @@ def test_an_application_over_three_switches(of_lab, run, pytester):
 
 def test_there_is_no_other_of_the_lab(of_lab):
     # the last one needs root and Mininet: tools/try-mininet runs it
-    assert len(of_lab) == 4 and "mininet" in of_lab[3]
+    assert len(of_lab) == 5 and "mininet" in of_lab[4]
+
+
+def test_where_all_frames_go(of_lab, run, pytester):
+    result = run(of_lab[3].replace("    print(", "    open('said', 'w').write(str(").replace('10.0.2.7"))', '10.0.2.7")))'))
+    result.assert_outcomes(passed=1)
+    shown = LAB.read_text(encoding="utf-8").partition("    s1 port 2: ")
+    said = (pytester.path / "said").read_text().splitlines()
+    assert [f"    {it}" for it in said] == (shown[1] + shown[2]).splitlines()[: len(said)]
+
+
+def test_schedules(run, pytester):
+    pytest.importorskip("os_ken")
+    (pytester.path / "examples").symlink_to(TOP / "examples")
+    learning, firewall = examples_of(EXPLORE)
+    result = run(learning)
+    result.assert_outcomes(failed=1)
+    shown = EXPLORE.read_text(encoding="utf-8").partition("after a few schedules:\n\n```\n")[2].partition("```")[0].splitlines()
+    result.stdout.fnmatch_lines([f"*{line}" for line in shown], consecutive=True)
+    run(learning.replace("_faulty", "").replace("explore(", "explore(most=10,")).assert_outcomes(passed=1)
+    result = run(firewall)
+    result.assert_outcomes(failed=1)
+    shown = EXPLORE.read_text(encoding="utf-8").partition("takes it for an attack.\n\n")[2].partition("\n\n")[0].splitlines()
+    result.stdout.fnmatch_lines(["*answers_come: *", *(f"*{line}" for line in shown)])
+
+
+def test_the_office(run, pytester):
+    (pytester.path / "examples").symlink_to(TOP / "examples")
+    [office] = examples_of(TUTORIAL)
+    run(office).assert_outcomes(passed=1)
+    run(office.replace("-mended", "")).assert_outcomes(failed=1)
+
+
+def test_the_fewest_rows(tmp_path):
+    """The command of docs/TESTING.md, and the last line that it prints, except for the time."""
+    (tmp_path / "examples").symlink_to(TOP / "examples")
+    text = MANUAL.read_text(encoding="utf-8")
+    [command] = re.findall(r"^    (python -m ofswitch shrink .*)$", text, re.M)
+    done = subprocess.run(command.replace("python", sys.executable, 1), shell=True, cwd=tmp_path, capture_output=True, text=True, timeout=60)
+    [shown] = re.findall(r"^    (\d+ rows, .*)$", text, re.M)
+    assert done.returncode == 0 and re.sub(r"in .* s:", "", done.stderr.strip()) == re.sub(r"in .* s:", "", shown)
 
 
 def test_commands_on_captures(tmp_path):

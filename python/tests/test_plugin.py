@@ -27,9 +27,9 @@ def in_process(pytester, pytestconfig):
     """Runs the tests of a text, with the plugin, whether it is installed or not."""
     plugin = [] if pytestconfig.pluginmanager.has_plugin("ofswitch") else ["-p", "ofswitch.pytest_plugin"]
 
-    def run(text):
+    def run(text, *options):
         pytester.makepyfile(text)
-        return pytester.runpytest("-p", "no:cacheprovider", *plugin)
+        return pytester.runpytest("-p", "no:cacheprovider", *plugin, *options)
 
     return run
 
@@ -87,3 +87,41 @@ def test_the_switches_end_with_the_test(in_process):
     before = subprocess.run(["pgrep", "-cf", "replay -$"], capture_output=True, text=True).stdout
     in_process("def test_that_passes(new_switch): [new_switch() for _ in range(5)]").assert_outcomes(passed=1)
     assert subprocess.run(["pgrep", "-cf", "replay -$"], capture_output=True, text=True).stdout == before
+
+
+SHRUNK = """
+def test_that_fails(switch):
+    for port in range(1, 9):
+        switch.port_add(port)
+    switch.load("flow 0 9 0x0000000000000000 0 0 0\\nmatch in_port 0x00000001\\napply\\noutput 2 0\\n")
+    for n in range(50):
+        switch.at(n)
+    %s
+    assert False
+"""
+
+
+def test_a_failure_shows_the_rows_that_matter(in_process):
+    result = in_process(SHRUNK % "switch.frame(1, bytes(60))", "--ofswitch-shrink")
+    result.assert_outcomes(failed=1)
+    shown = result.outlines
+    start = next(at for at, it in enumerate(shown) if it.startswith("all rows: "))
+    rows = [it for it in shown[start + 3 :] if it.startswith(("port", "connect", "c ", "t ", "f ", "lost"))]
+    assert [it[:10] for it in rows] == ["port add 1", "port add 2", "connect", "c 04000008", "c 040e0058", f"f 1 {bytes(3).hex()}"]
+    with open(shown[start].removeprefix("all rows: "), encoding="utf-8") as file:
+        assert len(file.readlines()) == 8 + 4 + 50 + 1
+    with open(shown[start + 1].split()[-1], encoding="utf-8") as file:
+        assert [it[:10] for it in file.read().splitlines() if not it.startswith("#")] == [it[:10] for it in rows]
+
+
+@pytest.mark.parametrize("rows", ["", "switch.play('# nothing')"])
+def test_without_rows_there_is_nothing_to_compare(in_process, rows):
+    result = in_process(f"def test_that_fails(switch):\n    {rows}\n    assert False", "--ofswitch-shrink")
+    result.assert_outcomes(failed=1)
+    result.stdout.no_fnmatch_line("*INTERNALERROR*")
+
+
+def test_a_last_row_that_does_nothing_is_not_compared(in_process):
+    result = in_process(SHRUNK % "pass", "--ofswitch-shrink")
+    result.stdout.fnmatch_lines(["ofswitch replay --explain */switch-1.events", "port add 8 *", "t 49"])
+    result.stdout.no_fnmatch_line("all rows: *")

@@ -6,7 +6,7 @@ import subprocess
 
 import messages
 import pytest
-from ofswitch import Answer, Closed, MessageType, ProgramError, Refused, Sent, Switch, diff, paths
+from ofswitch import Answer, Closed, MessageType, ProgramError, Refused, Sent, Switch, check, diff, paths
 
 EXAMPLES = pathlib.Path(__file__).resolve().parents[2] / "examples"
 PROGRAM = os.environ.get("OFSWITCH", "ofswitch")
@@ -350,10 +350,41 @@ def test_flow_text_and_tables_of_open_vswitch(switch):
     assert switch.load("flow 0 20 0x0000000000000000 0 0 0\nmatch in_port 0x00000001\napply\noutput 3 0\n") == []
     assert switch.frame(1, FRAME) == [Sent(3, FRAME)]
     # the flow of the import has the same match and a lower priority
-    assert switch.check().startswith("flow 0 0 never: 0 2\nflow 0 1 wins in_port 9 ")
+    never, wins, also = switch.check()["flows"]
+    assert never["verdict"] == "never wins" and [it["entry"] for it in never["shadowed_by"]] == [2]
+    assert wins["verdict"] == also["verdict"] == "wins" and wins["in_port"] == 9
     lines = switch.steps(1, FRAME).splitlines()
     assert lines == ["lookup 0 entry 2", "apply", "output 3 0", "set", "end", f"s 3 {FRAME.hex()}"]
     assert "    sees in_port 0x00000001" in switch.steps(1, FRAME, explain=True).splitlines()
+
+
+def test_files_are_paths(new_switch, tmp_path):
+    flows, table = tmp_path / "a.flows", tmp_path / "a.txt"
+    flows.write_text("flow 0 20 0x0000000000000000 0 0 0\nmatch in_port 0x00000001\napply\noutput 3 0\n")
+    table.write_text("priority=20,in_port=1,actions=output:3\n")
+    first, second = new_switch(), new_switch()
+    assert first.load(flows) == second.import_(table) == []
+    assert first.flows() == second.flows() == flows.read_text()
+    assert check(flows)["summary"] == check(flows.read_text())["summary"] == {"flows": 1, "win": 1, "never_win": 0, "undecided": 0}
+    with pytest.raises(ValueError, match="line 1: "):
+        check("flow x\n")
+
+
+def test_lines_of_a_table_that_are_left_out(switch):
+    table = "table=60,in_port=1,actions=resubmit(,94)\ntable=94,actions=output:2\ntable=94,priority=1,actions=learn(table=1)"
+    for options in ({}, {"renumber": True}):
+        with pytest.raises(ValueError, match="line"):
+            switch.import_(table, **options)
+    # tables above 15 are left out, too
+    assert switch.import_(table, skip=True) == [] and switch.flows() == ""
+    assert switch.import_(table, skip=True, renumber=True) == []
+    assert [line.split()[:2] for line in switch.flows().splitlines() if line.startswith("flow")] == [["flow", "0"], ["flow", "1"]]
+
+
+def test_a_switch_without_flows_is_checked(switch):
+    assert switch.check() == {
+        "command": "check", "found": False, "summary": {"flows": 0, "win": 0, "never_win": 0, "undecided": 0}, "flows": [], "remarks": []
+    }
 
 
 def test_two_switches_are_compared(switch):
@@ -402,7 +433,7 @@ def test_frames_are_divided_by_their_steps(switch):
     [dropped] = switch.paths(port=2)["paths"]
     assert dropped["items"] == [] and dropped["hits"] == [[{"table": 0, "entry": 2}]]
     assert switch.paths(port=1, match="arp")["paths"][0]["hits"][0] == [{"table": 0, "entry": 0}]
-    with pytest.raises(ValueError, match="bad place"):
+    with pytest.raises(ValueError, match="bad --to"):
         switch.paths(to="nowhere")
     with pytest.raises(ValueError, match="bad match: nw_dst: needs ip"):
         switch.paths(match="nw_dst=10.0.0.0/8")
@@ -450,7 +481,7 @@ def test_ten_thousand_round_trips(switch, tmp_path):
     assert len(replayed(switch, tmp_path)) == 10_001
 
 
-def test_frames_in_words(switch):
+def test_frames_in_words(switch, monkeypatch):
     started(switch)
     # Ethernet, IPv4 (RFC 791) and UDP (RFC 768) by hand: lengths, TTL 64 and both checksums
     ip = "4500001c00000000401166cf0a0000010a000002"
@@ -463,6 +494,10 @@ def test_frames_in_words(switch):
     assert switch.trace(1, words) == switch.trace(1, frame)
     assert switch.frame_of(frame.hex()) == frame
     assert "f 1 " + frame.hex() in switch.log
+    # words that were read before start no program
+    monkeypatch.setattr("ofswitch.switch.run_to_end", None)
+    assert switch.frame_of(words) == frame
+    monkeypatch.undo()
     with pytest.raises(ValueError, match="nw_src: needs ip"):
         switch.frame(1, "nw_src=10.0.0.1")
     with pytest.raises(ValueError, match="in_port"):

@@ -1,0 +1,26 @@
+"""Which flow entries of a switch never win, and other likely mistakes, as `ofswitch check` finds them (docs/CHECK.md)."""
+
+from __future__ import annotations
+
+import os
+from typing import Any
+
+from .program import StrPath, document_of, file_of, find
+
+# Exit statuses: a file has a fault; something was found; a port is named that the switch does not have.
+_BAD_FILE = 2
+_FOUND = 4
+_MISSING_PORTS = 5
+
+
+def check(
+    switch: str | os.PathLike[str], *, steps: int | None = None, program: StrPath | None = None, timeout: float = 600.0
+) -> dict[str, Any]:
+    """The verdict on each flow entry and the remarks about tables and groups, as docs/JSON.md describes them: `found`, `flows`, `remarks`.
+
+    The switch is a text, or the path of a file (a `pathlib.Path`): flow text, an event file, or what `ovs-ofctl` prints. `steps` is
+    that of `--steps`. ValueError if the text has a fault.
+    """
+    options = ["--json", *([] if steps is None else ["--steps", str(steps)])]
+    with file_of(switch) as file:
+        return document_of([find(program), "check", *options, file], timeout, (0, _FOUND, _MISSING_PORTS), (_BAD_FILE,))
