@@ -1,10 +1,8 @@
 -- Lists of supported actions.
-use Rattle.std.proofs.Common.{◌≡◌, ◌≤◌, ℕ, Bool, true, false, List, [], ◌∷◌, ◌++◌, length, refl, sym, ap, subst, arith}
+use Rattle.std.proofs.Common.{◌≡◌, ◌≤◌, ℕ, Bool, true, false, List, [], ◌∷◌, length, refl, arith}
 use Rattle.std.specs.Prelude.{nat_le, ◌&&◌}
 use Rattle.std.specs.List.{list_all}
 use Rattle.std.proofs.lemmas.Bool.Decides.{nat_tests}
-use Rattle.std.proofs.lemmas.List.{length-append}
-use Rattle.std.proofs.lemmas.List.Folds.{list_all-append}
 use Rattle.of_actions.specs.declared.action.Action.{Action}
 use Rattle.of_actions.specs.declared.action.Action.TheVariants.{Output}
 use Rattle.of_actions.specs.PortNumbers.{is_port}
@@ -14,13 +12,6 @@ use Rattle.of_actions.specs.Supported.{is_supported, are_supported}
 pub record Supported (packet_out : Bool) (actions : List Action) : Type 0 where
   pub few : length actions ≤ 64
   pub all : list_all (is_supported packet_out) actions ≡ true
-
-pub served_push : (packet_out : Bool) (actions given new : List Action) (a : Action) → Supported packet_out actions → given ≡ actions → length given ≤ 63 → is_supported packet_out a ≡ true → new ≡ actions ++ a ∷ [] → Supported packet_out new
-served_push packet_out actions given new a h e room served is =
-    let few : length (actions ++ a ∷ []) ≤ 64 = omega (arith, ap length e, length-append actions (a ∷ [])) in
-    let all : list_all (is_supported packet_out) (actions ++ a ∷ []) ≡ true = rw (list_all-append (is_supported packet_out) actions (a ∷ []), h.all, served) refl in
-    let pushed : Supported packet_out (actions ++ a ∷ []) = record { few = few; all = all } in
-    subst (Supported packet_out) (sym is) pushed
 
 pub served_is : (packet_out : Bool) (actions : List Action) → Supported packet_out actions → are_supported packet_out actions ≡ true
 served_is packet_out actions h =

@@ -2,7 +2,7 @@
 use Rattle.std.proofs.Common.{◌≡◌, ℕ, ◌+◌, ◌<◌, true, false, eqb, List, [], ◌∷◌, ◌++◌, length, get_or, drop, suc, Option, Some, None, refl, sym, ap, subst, ◌∙◌, arith, add-one, drop-cons}
 use Rattle.std.specs.List.{list_all}
 use Rattle.std.proofs.lemmas.Bool.Decides.{nat_tests}
-use Rattle.std.proofs.lemmas.List.{append_assoc, append-nil}
+use Rattle.std.proofs.lemmas.List.{append-nil}
 use Rattle.std.proofs.Math.ListN.{drop_of_length-le}
 use Rattle.of_wire.specs.declared.code.Code.{Code}
 use Rattle.of_wire.specs.Numbered.{is_used, is_distinct}
@@ -24,15 +24,6 @@ at_place : (hs : List Header) (i : ℕ) (h : Header) → i < length hs → h ≡
 at_place hs i h lt is =
     let e : drop i hs ≡ get_or hs i h ∷ drop (suc i) hs = drop-cons hs i h lt in
     e ∙ rw add-one (ap (λ (x : Header). x ∷ drop (suc i) hs) (sym is))
-
-pub body_read : (hs : List Header) (i : ℕ) (h : Header) (done new : List Instruction) (v : Instruction) → Reading hs i done → i < length hs → h ≡ get_or hs i h → IsInstructionBody h v → new ≡ done ++ v ∷ [] → Reading hs (i + 1) new
-body_read hs i h done new v reading lt is body new_is =
-    let next : Reading hs (i + 1) (done ++ v ∷ []) = record {
-      completes = λ more fault rest.
-          subst (λ (x : List Instruction). AreBodies hs x fault) (sym (append_assoc done (v ∷ []) more))
-          (reading.completes (v ∷ more) fault (subst (λ (x : List Header). AreBodies x (v ∷ more) fault) (sym (at_place hs i h lt is)) (body, rest)));
-    } in
-    subst (λ (x : List Instruction). Reading hs (i + 1) x) (sym new_is) next
 
 pub body_refused : (hs : List Header) (i : ℕ) (h : Header) (done : List Instruction) (code : Code) → Reading hs i done → i < length hs → h ≡ get_or hs i h → IsFault h (Some code) → (before : List Instruction) × AreBodies hs before (Some code)
 body_refused hs i h done code reading lt is fault =

@@ -1,5 +1,5 @@
 -- Over the same ports the same leaves, and the same frames come in.
-use Rattle.std.proofs.Common.{◌≡◌, ℕ, eqb, cond, Bool, true, false, List, [], ◌∷◌, map, Option, Some, None, refl, sym, ap, ◌∙◌}
+use Rattle.std.proofs.Common.{◌≡◌, ℕ, eqb, cond, Bool, true, false, List, [], ◌∷◌, map, Option, Some, None, refl, ap}
 use Rattle.std.specs.Prelude.{not, ◌&&◌, ◌||◌}
 use Rattle.std.specs.Option.{option_map}
 use Rattle.of_wire.specs.declared.limits.TheConstants.{OFPP_ALL, OFPP_CONTROLLER, OFPP_FLOOD, OFPP_IN_PORT}
@@ -84,20 +84,5 @@ same_emission ps qs e p port max_len =
 
 -- ---- which frames come in
 
-found_port : (r : Option Port) (x : Port) → option_map port_key r ≡ Some (port_key x) → (q : Port) × (r ≡ Some q) × (port_key x ≡ port_key q)
-found_port None x e = absurd cc
-found_port (Some q) x e = let h : Some (port_key q) ≡ Some (port_key x) = e in (q, refl, (let k : port_key x ≡ port_key q = cc in k))
-
 pub receives_at : (w : TheWorld) (frame : List ℕ) (port : ℕ) → IsReceivedAt w frame port → IsReceivingPort w.ports port
 receives_at w frame port is = record { port = is.ingress; there = is.there; receives = is.receives }
-
-pub received_too : (v w : TheWorld) → SamePorts v.ports w.ports → (frame : List ℕ) (port : ℕ) → IsReceivedAt v frame port → IsReceivedAt w frame port
-received_too v w e frame port is =
-    let q = found_port (port_at w.ports port) is.ingress (sym (same_port_at port v.ports w.ports e) ∙ ap (option_map port_key) is.there) in
-    record {
-      frame_is = is.frame_is;
-      short = is.short;
-      ingress = q.0;
-      there = q.1;
-      receives = ap (λ (k : PortKey). k.receives) (sym q.2) ∙ is.receives;
-    }

@@ -14,7 +14,7 @@ use Rattle.of_machine.specs.declared.data.Count.TheVariants.{TxDropped}
 use Rattle.of_machine.specs.Rows.{Emitted, empty_emitted, output_reason, packet_in_emitted, to_port}
 use Rattle.of_symbolic_run.specs.declared.frame_set.FrameSet.{FrameSet}
 use Rattle.of_symbolic_run.specs.declared.state.Emission.{Emission}
-use Rattle.of_symbolic_run.specs.declared.state.Emission.TheVariants.{InvalidTtl, Output}
+use Rattle.of_symbolic_run.specs.declared.state.Emission.TheVariants.{Output}
 use Rattle.of_symbolic_run.specs.declared.state.SymbolicPacket.{SymbolicPacket}
 use Rattle.of_symbolic_run.specs.States.{items_for, items_of_emission, packet_for}
 use Rattle.of_alike.specs.declared.alike.Compared.{Compared}
@@ -75,9 +75,6 @@ same_outputs p q port max_len h ps qs same frame ingress =
 
 pub both_outputs : (x y : Emission) (p q : SymbolicPacket) (port by max_len most : ℕ) → x ≡ Output p port max_len → y ≡ Output q by most → SendAlike port max_len by most → SameOutputs p q port → EmitTheSame x y
 both_outputs x y p q port by max_len most left right alike h = rw (left, right) (λ ps qs same frame ingress. same_outputs p q port max_len h ps qs same frame ingress ∙ alike qs (packet_for q frame ingress))
-
-pub same_expired : (p q : SymbolicPacket) → AreSamePackets p q → EmitTheSame (InvalidTtl p) (InvalidTtl q)
-same_expired p q h ps qs same frame ingress = packet_in_same p q frame ingress reasons.InvalidTtl None h
 
 -- ---- lists
 

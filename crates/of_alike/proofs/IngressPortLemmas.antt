@@ -19,15 +19,9 @@ use Rattle.of_regions.specs.Regions.{InRegion}
 use Rattle.of_symbolic.specs.Parts.{received_fields}
 use Rattle.of_symbolic_run.specs.declared.frame_set.FrameSet.{FrameSet}
 use Rattle.of_symbolic_run.specs.FrameSets.{InFrames}
-use Rattle.of_alike.specs.IngressPorts.{HasNoneFrom, MatchesAllFrom, came_in_by}
-
-within_port : (port : ℕ) → port < 2 ^ 32 → bit_and port (ones_of InPort) ≡ port
-unfolding row_of
-within_port port fits = under_ones InPort port (omega (arith, fits))
-
-pub came_is_condition : (port : ℕ) → port < 2 ^ 32 → (e : MatchField) → e ≡ came_in_by port → AreConditions (e ∷ [])
-unfolding row_of
-came_is_condition port fits e is = rw is (record { within = within_port (ones_of InPort) (omega arith); value = within_port port fits }, tt)
+use Rattle.of_symbolic_switch.specs.PortNumbers.{came_in_by}
+use Rattle.of_symbolic_switch.proofs.ConditionLemmas.{within_port}
+use Rattle.of_alike.specs.IngressPorts.{HasNoneFrom, MatchesAllFrom}
 
 met_from : (port : ℕ) → port < 2 ^ 32 → (fields : Field → Option ℕ) → fields InPort ≡ Some port → matches_map (came_in_by port ∷ []) fields ≡ true
 met_from port fits fields from = ap (λ o. agrees (came_in_by port) o && true) from ∙ ap (λ b. b && true) (eq-eqb (bit_and port (ones_of InPort)) port (within_port port fits))

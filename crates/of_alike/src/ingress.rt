@@ -2,27 +2,15 @@
 ghost use Rattle.std.specs.Prelude.{◌≡◌, ◌∷◌, ℕ, List, [], true};
 ghost use Rattle.std.specs.List.{All};
 ghost use Rattle.of_regions.specs.declared.meeting.Meeting.TheVariants.{Apart, Whole};
-ghost use Rattle.of_regions.specs.Conditions.{AreConditions};
 ghost use Rattle.of_regions.specs.Meeting.{Meets};
 ghost use Rattle.of_symbolic_run.specs.FrameSets.{InFrames};
-ghost use Rattle.of_alike.specs.IngressPorts.{HasNoneFrom, MatchesAllFrom, came_in_by};
+ghost use Rattle.of_alike.specs.IngressPorts.{HasNoneFrom, MatchesAllFrom};
 
 use of_headers::Field;
 use of_oxm::MatchField;
 use of_regions::{Meeting, Region};
 use of_symbolic_run::FrameSet;
-
-/// The condition that a packet came in by this port.
-pub fn ingress_condition(port: u32) -> MatchField
-    ensures is { result ≡ came_in_by port }
-    ensures conditions { AreConditions (result ∷ []) }
-{
-    MatchField {
-        field: Field::InPort,
-        value: u128::from(port),
-        mask: None,
-    }
-}
+use of_symbolic_switch::ingress_condition;
 
 // Whether a condition matches no packet of the region.
 fn never_matches(region: &Region, condition: MatchField) -> bool

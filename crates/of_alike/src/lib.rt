@@ -15,7 +15,6 @@ pub use alike::{Compared, Where, first_difference};
 pub use continuing::{are_tasks_from, go_on_alike, have_equal_tasks};
 pub use emissions::is_same_emission;
 pub use groups::have_same_groups;
-pub use ingress::ingress_condition;
 pub use leaving::{leave_alike, other_ingress};
 pub use ports::have_same_ports;
 pub use tables::{Changed, changed_entries, have_same_entries};

@@ -5,6 +5,7 @@ ghost use Rattle.of_alike.specs.declared.tables.Move.TheVariants.{First, Second}
 ghost use Rattle.of_alike.specs.SameTables.{AreChanged, IsMove, SameTables, first_marks, says_of, second_marks};
 
 use of_actions::{Action, Instruction};
+use of_symbolic_run::listed_entries;
 use of_table::{Entries, Entry};
 use std::alloc::{AllocError, Global};
 
@@ -130,17 +131,6 @@ impl Changed {
         }
         Ok(())
     }
-}
-
-// The entries of a table.
-fn listed_entries<'a>(alloc: Global, entries: Entries<'a>) -> Result<Vec<&'a Entry>, AllocError>
-    ensures { IfOk result (λ v. map (λ x. x.now) v.items ≡ entries.entry) }
-{
-    let mut listed = Vec::new(alloc);
-    for entry in entries {
-        listed.push(entry)?;
-    }
-    Ok(listed)
 }
 
 // The place of the first entry that says the same.

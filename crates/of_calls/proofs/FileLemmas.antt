@@ -20,12 +20,6 @@ plus_more : (o : Option ℕ) (k : ℕ) → option_map (λ n. n + k) (option_map 
 plus_more None k = refl
 plus_more (Some n) k = ap Some (omega arith)
 
-pub rows_begun : (file : List ℕ) (events : List Event) → events ≡ [] → RowsSoFar file file events 0
-rows_begun file events e = record {
-  events_are = ap (λ (x : List Event). x ++ (file_rows (lines_of file)).events) (sym e);
-  bad_is = sym (plus_none (file_rows (lines_of file)).bad);
-}
-
 first_row : (rest : List ℕ) (row : Option (List Event)) → 0 < length rest → file_row (row_of_line (before 10 rest)) ≡ row → file_rows (lines_of rest) ≡ file_row_and row (file_rows (lines_of (behind 10 rest)))
 first_row rest row h e = ap file_rows (first_line rest h) ∙ ap (λ (x : Option (List Event)). file_row_and x (file_rows (lines_of (behind 10 rest)))) e
 

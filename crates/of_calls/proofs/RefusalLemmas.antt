@@ -1,5 +1,5 @@
 -- The rows of a file that a switch refuses, one after the other.
-use Rattle.std.proofs.Common.{◌≡◌, ℕ, suc, ◌+◌, ◌<◌, Bool, true, false, List, [], ◌∷◌, ◌++◌, length, get_or, drop, refl, sym, ◌∙◌, ap, append_assoc, add-one, drop-cons, if◌then◌else◌}
+use Rattle.std.proofs.Common.{◌≡◌, ℕ, ◌+◌, ◌<◌, Bool, true, false, List, [], ◌∷◌, ◌++◌, length, refl, sym, ◌∙◌, ap, append_assoc, if◌then◌else◌}
 use Rattle.std.proofs.lemmas.List.{append-nil}
 use Rattle.of_text.specs.Lines.{lines_of, before, behind, is_passed}
 use Rattle.of_text.proofs.TextLemmas.{first_line}
@@ -44,19 +44,3 @@ more_by : (whole rows rows' : List RefusedRow) (due due' : ℕ) (s s' : State) (
     → rows' ≡ rows ++ refused_by e due line s → s' ≡ ported e s → due' ≡ later e due → RefusedSoFar whole rows' due' s' es lines
 more_by whole rows rows' due due' s s' e es line lines so pushed stands moves =
     rw (pushed, stands, moves) (so ∙ sym (append_assoc rows (refused_by e due line s) (refused_rows_from (later e due) (ported e s) es lines)))
-
-pub refused_more : (whole rows rows' : List RefusedRow) (due due' : ℕ) (s s' : State) (events : List Event) (e d : Event) (i : ℕ) (line : ℕ) (lines : List ℕ) → i < length events → e ≡ get_or events i d → i < length lines → line ≡ get_or lines i 0
-    → RefusedSoFar whole rows due s (drop i events) (drop i lines) → rows' ≡ rows ++ refused_by e due line s → s' ≡ ported e s → due' ≡ later e due
-    → RefusedSoFar whole rows' due' s' (drop (i + 1) events) (drop (i + 1) lines)
-refused_more whole rows rows' due due' s s' events e d i line lines lt is lt' is' so pushed stands moves =
-    let here : drop i events ≡ e ∷ drop (suc i) events = drop-cons events i d lt ∙ ap (λ (x : Event). x ∷ drop (suc i) events) (sym is) in
-    let there : drop i lines ≡ line ∷ drop (suc i) lines = drop-cons lines i 0 lt' ∙ ap (λ (x : ℕ). x ∷ drop (suc i) lines) (sym is') in
-    rw (add-one i) (more_by whole rows rows' due due' s s' e (drop (suc i) events) line (drop (suc i) lines) (rw (here, there) at so) pushed stands moves)
-
--- no further number is there
-no_line : (due : ℕ) (s : State) (events : List Event) → refused_rows_from due s events [] ≡ []
-no_line due s [] = refl
-no_line due s (e ∷ es) = refl
-
-pub refused_all : (whole rows : List RefusedRow) (due : ℕ) (s : State) (events : List Event) (lines : List ℕ) → lines ≡ [] → RefusedSoFar whole rows due s events lines → rows ≡ whole
-refused_all whole rows due s events lines none so = sym (so ∙ ap (λ (x : List RefusedRow). rows ++ x) (ap (refused_rows_from due s events) none ∙ no_line due s events) ∙ append-nil rows)

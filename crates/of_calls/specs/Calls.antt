@@ -4,6 +4,7 @@ use Rattle.std.specs.declared.io.Error.{Error}
 use Rattle.std.specs.declared.io.ErrorKind.{ErrorKind}
 use Rattle.std.specs.declared.io.ErrorKind.TheVariants as kind
 use Rattle.std.specs.IoError.{error_kind}
+use Rattle.of_replay.specs.Passing.{passes}
 use Rattle.of_replay.specs.declared.event_file.Ended.{Ended}
 use Rattle.of_replay.specs.declared.event_file.Ended.TheVariants.{NoMemory, ReadFault}
 use Rattle.of_replay.specs.declared.io.Reading.{Reading}
@@ -12,13 +13,6 @@ use Rattle.of_calls.specs.declared.calls.Ending.{Ending}
 use Rattle.of_calls.specs.declared.calls.Ending.TheVariants as ending
 use Rattle.of_calls.specs.declared.calls.Attempt.{Attempt}
 use Rattle.of_calls.specs.declared.calls.Attempt.TheVariants as attempt
-
--- there is nothing this time, which is no fault: the call was interrupted, or would have waited for longer
-abbrev pub passes : ErrorKind → Bool
-passes kind.Interrupted = true
-passes kind.WouldBlock = true
-passes kind.TimedOut = true
-passes _ = false
 
 -- an accept found nobody, or one who was gone again
 abbrev pub is_nobody : ErrorKind → Bool

@@ -2,8 +2,9 @@
 ghost use Rattle.std.specs.Prelude.{◌≡◌, ◌<◌, ◌≤◌, length, take, IfOk, OnErr};
 ghost use Rattle.std.specs.Io.KnownBytes.{Appends, Consumes, IsAtEnd, Keeps};
 ghost use Rattle.of_replay.specs.Told.{IsReading, answer_of, answer_bytes};
-ghost use Rattle.of_calls.specs.Calls.{ends_with, is_nobody as nobody_came, passes, read_answer, unopened, write_as};
+ghost use Rattle.of_calls.specs.Calls.{ends_with, is_nobody as nobody_came, read_answer, unopened, write_as};
 
+use of_replay::streams::is_passing;
 use of_replay::{Ended, Reading};
 use std::fmt::{self, Display, Formatter};
 use std::io::{self, ErrorKind, Read, Write};
@@ -44,16 +45,6 @@ pub enum Attempt {
     Again,
     /// The connection ends.
     Failed(Ending),
-}
-
-/// Whether a call that fails so only found nothing this time: it was interrupted, or would have waited for longer.
-pub fn is_passing(kind: ErrorKind) -> bool
-    ensures { result ≡ passes kind }
-{
-    matches!(
-        kind,
-        ErrorKind::Interrupted | ErrorKind::WouldBlock | ErrorKind::TimedOut
-    )
 }
 
 /// Whether an accept that fails so found nobody, or one who was gone again.

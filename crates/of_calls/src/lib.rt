@@ -7,8 +7,8 @@ mod pauses;
 mod refusals;
 
 pub use calls::{
-    Attempt, Ending, attempt_of, ended_unopened, ending_of, is_nobody, is_passing, read_some,
-    reading_of, write_some,
+    Attempt, Ending, attempt_of, ended_unopened, ending_of, is_nobody, read_some, reading_of,
+    write_some,
 };
 pub use event_rows::read_rows;
 pub use pauses::{FIRST_PAUSE, LONGEST_PAUSE, Pauses};

@@ -113,3 +113,8 @@ abbrev pub VerdictHolds : List FlowEntry → ℕ → ℕ → Verdict → Type 0
 VerdictHolds flows k steps (Wins frame in_port metadata) = WinsWith flows k (record { frame = frame.items; in_port = in_port; metadata = metadata })
 VerdictHolds flows k steps (Never by tie) = NeverWins flows k by.items × (tie ≡ is_tie flows k by.items)
 VerdictHolds flows k steps Open = ((j : ℕ) → ¬ (Covers flows j k)) × ((slice_get flows k ≡ None) ⊎ IsOpen flows k steps)
+
+abbrev pub is_never : Verdict → Bool
+is_never (Never by tie) = true
+is_never (Wins frame in_port metadata) = false
+is_never Open = false

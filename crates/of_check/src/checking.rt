@@ -2,7 +2,7 @@
 ghost use Rattle.std.specs.Prelude.{◌≡◌, ◌<◌, suc, IfOk, OnOk};
 ghost use Rattle.std.specs.List.{list_any};
 ghost use Rattle.of_check.specs.Findings.{AreFindings, Checks, entries_below};
-ghost use Rattle.of_check.specs.Text.{is_never as is_never_in, some_found as is_some_found, some_never as some_never_in};
+ghost use Rattle.of_check.specs.Verdicts.{is_never as is_never_in};
 
 use crate::finding::Finding;
 use crate::outline::outlines_of;
@@ -53,25 +53,12 @@ pub fn check<L: Lookup>(
     Ok(findings)
 }
 
-fn is_never(verdict: &Verdict) -> bool
+/// Whether an entry never wins.
+pub fn is_never(verdict: &Verdict) -> bool
     ensures { result ≡ is_never_in verdict.now }
 {
     match verdict {
         Verdict::Never { .. } => true,
         Verdict::Wins { .. } | Verdict::Open => false,
     }
-}
-
-/// Whether some entry never wins.
-pub fn some_never(findings: &[Finding]) -> bool
-    ensures { result ≡ some_never_in findings.now }
-{
-    findings.iter().any(|finding| is_never(&finding.verdict))
-}
-
-/// Whether some entry never wins, or something is remarked.
-pub fn some_found(findings: &[Finding], remarks: &[Remark]) -> bool
-    ensures { result ≡ is_some_found findings.now remarks.now }
-{
-    some_never(findings) || !remarks.is_empty()
 }

@@ -27,7 +27,6 @@ ghost use Rattle.of_datapath.specs.Loading.{configuration_of};
 ghost use Rattle.of_replay.specs.Told.{Known, Left};
 ghost use Rattle.of_replay.specs.FileRuns.{Runs, TextOf, event_file, flow_text};
 ghost use Rattle.of_replay.specs.declared.event_file.Ended.TheVariants.{Done};
-ghost use Rattle.of_check.specs.Files.{findings_in, findings_on};
 ghost use Rattle.of_check.specs.Reached.{AtTables};
 ghost use Rattle.of_check.specs.Rules.{implied_fields};
 ghost use Rattle.of_check.specs.Unseen.{ComesUnseen};
@@ -85,17 +84,4 @@ pub fn last_actions_are_unseen()
         may_send_packet first ≡ false → list_any may_send_packet actions ≡ false →
         is_used_later (configuration_of f).tables q.table later ≡ false →
         ComesUnseen (world_of f) (after (world_of f) k (starting (entering frame port) (LookUp 0 ∷ []))) others }
-{}
-
-/// From the bytes of a file to the bytes of the output, where no read and no write fails and memory suffices: where a reader has `file` left,
-/// and its end is read, what a writer holds grows by the text of the findings on what the file says, a flow text or the switch after rows.
-///
-/// What is left of a reader and held by a writer is as `files_come_whole` of of_replay says.
-pub fn findings_come_whole()
-    ensures flows { (found : Bool) (steps : ℕ) (file : List ℕ) (known : Known) (ends ends' : ℕ) (old new : Option (List ℕ)) →
-        Runs flow_text (findings_in (Ok found) steps) Done (Left (Some file)) known ends ends' old new → ends < ends' →
-        TextOf flow_text (findings_in (Ok found) steps) file old new }
-    ensures events { (found : Bool) (steps : ℕ) (file : List ℕ) (known : Known) (ends ends' : ℕ) (old new : Option (List ℕ)) →
-        Runs event_file (findings_on (Ok found) steps) Done (Left (Some file)) known ends ends' old new → ends < ends' →
-        TextOf event_file (findings_on (Ok found) steps) file old new }
 {}

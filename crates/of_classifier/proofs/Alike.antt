@@ -8,13 +8,11 @@ use Rattle.std.proofs.lemmas.List.Elements.{All-head, All-tail}
 use Rattle.std.proofs.lemmas.Nat.Bits.{bit_at_and, bit_at_or, same_from_bits}
 use Rattle.of_layers.specs.declared.field.Field.{Field}
 use Rattle.of_headers.specs.FieldMap.{seen, either}
-use Rattle.of_wire.specs.Highest.{oldest_highest}
 use Rattle.of_oxm.specs.NormalForm.{IsMatch}
 use Rattle.of_oxm.specs.Masks.{looked_at, Agree}
 use Rattle.of_oxm.proofs.Seen.{matched_alike}
 use Rattle.of_classifier.specs.declared.Row.{Row}
-use Rattle.of_classifier.specs.Rows.{row_priority}
-use Rattle.of_classifier.specs.Winner.{is_matching, matching, winner_of}
+use Rattle.of_classifier.specs.Winner.{is_matching, matching}
 use Rattle.of_classifier.specs.Looking.{looked_by}
 
 -- ---- two masks in one
@@ -70,9 +68,6 @@ matching_alike (r ∷ rows) j k n a =
     let first : is_matching j r ≡ is_matching k r = matched_alike r.fields j k (All-head (λ (x : Row). IsMatch x.fields) r rows n) (λ f. seen_first (looked_at r.fields f) (looked_by rows f) (j f) (k f) (a f)) in
     let rest : matching rows j ≡ matching rows k = matching_alike rows j k (All-tail (λ (x : Row). IsMatch x.fields) r rows n) (λ f. seen_other (looked_at r.fields f) (looked_by rows f) (j f) (k f) (a f)) in
     ap (λ (b : Bool). cond b (r ∷ matching rows j) (matching rows j)) first ∙ ap (λ (xs : List Row). cond (is_matching k r) (r ∷ xs) xs) rest
-
-pub winner_alike : (rows : List Row) (j k : Field → Option ℕ) → All (λ r. IsMatch r.fields) rows → Agree (looked_by rows) j k → winner_of rows j ≡ winner_of rows k
-winner_alike rows j k n a = ap (oldest_highest row_priority) (matching_alike rows j k n a)
 
 -- ---- one more entry
 

@@ -8,7 +8,7 @@ const STATUSES: &str =
 `line N: syntax` or `line N: type T code C` for a flow text, and `line N: WORD: ...` for each line that `import` refuses \
 (`replay` has printed the effects of the rows before that line, the other commands print nothing); 3 `read fault`, `write fault` or \
 `no memory`; 4 `check` found something, `diff` found a difference, or `import --skip` left lines out; 5 `diff` found no difference, \
-or `paths` found paths, but frames are undecided.";
+or `paths` found paths, but frames are undecided; or a port is named that the switch does not have.";
 
 const EVENT_FILES: &str = "An event file has one event per line. Words are separated by one space:
 
@@ -56,17 +56,19 @@ row, nothing is printed.
 
 const TRACES: &str =
     "FILE is a flow text (`ofswitch asm --help`), an event file (`ofswitch replay --help`), or what ovs-ofctl prints
-(`ofswitch import --help`); the first word that is not in a comment says which. Or --flows, --events or --ovs says it. Of a flow
-text or a table of ovs-ofctl the switch has the groups and flows, and ports 1 to 64, all of whose links are up. Of an event file it
-is the switch after the rows, with its ports and its connection, or with --at ROW the switch before that line. The trace is in
-words: the frame, then the steps, with the priority and the match of each entry that won, then what leaves:
+(`ofswitch import --help`). The first word that is not in a comment says which; --flows, --events and --ovs override this. For
+flow text or ovs-ofctl output, the switch has its groups and flows, and ports 1 to 4 and those that they name, all of whose links
+are up; --ports gives it others. For an event file, it is the switch after the rows, with its ports and its connection, or with
+--at ROW the switch before that line. The trace is in words: the frame, then the steps, with the priority and the match of each
+entry that won, then what leaves:
 
   in_port 1, eth 02:00:00:00:01:02 > 02:00:00:00:00:a1, eth_type 0x0800, ipv4 10.0.0.1 > 10.1.1.9, ip_proto 253, ttl 64
   table 0: entry 1, priority 20, eth_dst 02:00:00:00:00:a1, eth_type 0x0800
   go to table 1
   ...
 
-With --flows or --events alone there is one line per step, for programs:
+With --lines there is one line per step, for programs. `trace --flows FILE --port N HEX` prints these lines, too, on a switch
+with ports 1 to 64:
 
   lookup 0 entry 2                      a table, and the entry that won, by age from 0 (or miss)
   apply, write, clear, metadata, goto   an instruction
@@ -84,12 +86,12 @@ headers that no word says are 0, the TTL is 64, lengths and checksums are right.
 
   ofswitch trace examples/router.flows in_port=1,dl_dst=02:00:00:00:00:a1,ip,nw_src=10.0.0.1,nw_dst=10.1.1.9
   ofswitch trace examples/router.flows --port 1 0200000000a10200000000010800450000140000000040fd64e30a0000010a010109
-  ofswitch trace --flows examples/router.flows --port 1 0200000000a10200000000010800450000140000000040fd64e30a0000010a010109
+  ofswitch trace --lines examples/router.flows --port 1 0200000000a10200000000010800450000140000000040fd64e30a0000010a010109
   ofswitch trace --events examples/failover.events --at 14 --port 1 02000000000202000000000188b5";
 
 const CHECKS: &str =
     "FILE is a flow text (`ofswitch asm --help`), an event file (`ofswitch replay --help`), or what ovs-ofctl prints
-(`ofswitch import --help`); the first word that is not in a comment says which. Or --flows, --events or --ovs says it.
+(`ofswitch import --help`). The first word that is not in a comment says which; --flows, --events and --ovs override this.
 The report has first what was found, then a summary, then, with --all, the flows that win, each with a packet. A flow of a dump
 is named with its counters, such as n_packets=0.
 
@@ -103,36 +105,19 @@ metadata. A flow is undecided if the search ended after N steps. Whether packets
 before it. A table without a table-miss entry is reported if a goto leads to it, or with --all. A flow that is not
 reported does not necessarily do what was intended.
 
-With --flows or --events alone there is one line per flow, for programs, by table, then by age from 0:
-
-  flow 0 1 wins in_port 1 metadata 0x0000000000000000 HEX    it wins the lookup of this frame, at this port, with this metadata
-  flow 0 2 never: 0 0 0 1               shadowed by flows 0 and 1 of table 0
-  flow 0 3 never: 0 0 (tie)             the same by a flow of equal priority: OpenFlow leaves open which of the two wins
-  flow 0 4 open                         undecided within N steps
-
-and after these a line for each remark about tables and groups:
-
-  table 3 unreachable                   it has flows, and no goto leads there from table 0
-  table 0 no table-miss entry           it has flows, and none of priority 0 without fields: packets that hit none are dropped
-  flow 0 2 goto 5: no entries           packets that continue there are dropped
-  flow 0 1 output 3: ingress            nothing leaves: only IN_PORT sends out of the ingress port, which the match requires
-  flow 0 1 last actions unseen: 2       the packet is neither sent nor looked up after the last 2 actions of its apply
-  group 7 unused                        no flow and no group names it
-  group 7 no buckets                    packets end there
-
-Exit status: 4 if the report has a line before its summary, or, without a report, if a flow never wins or there is a remark;
-0 if nothing was found.
+Exit status: 4 if something is found: a flow that never wins or is undecided, or a likely mistake; 0 if nothing is found.
 
   ofswitch check examples/office.txt
   ofswitch check --all examples/router.flows
   ofswitch check --all --words examples/router.flows
-  ofswitch check --flows examples/router.flows";
+  ofswitch check --json examples/router.flows";
 
 const DIFFS: &str =
     "A and B are flow texts (`ofswitch asm --help`), event files (`ofswitch replay --help`), or what ovs-ofctl prints (`ofswitch import
---help`); the first word that is not in a comment says which. One of them may be -, standard input. The switch of a flow text or a
-table of ovs-ofctl has its groups and flows, and ports 1 to 64, all of whose links are up; that of an event file is the one after
-its rows. It prints frames that make something else leave the two switches, each of which it ran on both:
+--help`); the first word that is not in a comment says which. One of them may be -, standard input. For an event file, the switch
+is the one after its rows. For flow text or ovs-ofctl output, it has its groups and flows, and ports, all of whose links are up:
+those of --ports; else those that the switch of the other file has, if that is an event file; else ports 1 to 4 and those that A
+and B name. It prints frames for which the two switches send different output; it ran each frame on both:
 
   differs by port 3: in_port 1, eth 00:00:00:00:00:00 > 02:00:00:00:00:a1, eth_type 0x0800, ipv4 0.0.0.0 > 10.2.128.0, ip_proto 0, ttl 64
       frame: --port 1 0200000000a1...   the frame, as `trace` takes it
@@ -145,24 +130,25 @@ Each difference is of a set of frames, of which one is printed, or of several se
 number, `sets of frames: 2`. If there is neither a difference nor a line `undecided`, the two switches treat each frame alike: by
 each port the same frames leave in the same order, and the controller gets the same packets, with the same reason, table, cookie
 and metadata. With --frames, packets to the controller are not compared. Counters, timeouts and the time are not compared. Switches
-with other ports are not compared: `the switches have other ports`.
+with different ports are not compared: `the switches have different ports`.
 
 Exit status: 0 all frames are treated alike; 4 there is a difference, or the ports differ; 5 no difference was found, but frames
-are undecided. If a file is at fault, the status is 1, 2 or 3, and the name of the file is before the fault.
+are undecided, or a port is named that the switches do not have. If a file is at fault, the status is 1, 2 or 3, and the name of
+the file is before the fault.
 
   ofswitch diff examples/router.flows examples/router2.flows
   ovs-ofctl -O OpenFlow13 --no-names dump-flows br0 | ofswitch diff br0.flows -";
 
 const PATHS: &str =
     "FILE is a flow text (`ofswitch asm --help`), an event file (`ofswitch replay --help`), or what ovs-ofctl prints (`ofswitch import
---help`); the first word that is not in a comment says which. The switch of a flow text or a table of ovs-ofctl has its groups and
-flows, and ports 1 to 64, all of whose links are up; that of an event file is the one after its rows. All frames that it receives
-are divided into sets whose frames take the same steps. Sets whose steps differ only in which entries are hit are one path; with
---each, each set is a path of its own:
+--help`); the first word that is not in a comment says which. For flow text or ovs-ofctl output, the switch has its groups and
+flows, and ports 1 to 4 and those that they name, all of whose links are up; --ports gives it others. For an event file, it is the
+switch after the rows. All frames that it receives are divided into sets whose frames take the same steps. Sets whose steps differ
+only in which entries are hit are one path; with --each, each set is a path of its own:
 
   path: in_port 1, eth 00:00:00:00:00:00 > 02:00:00:00:00:a1, eth_type 0x0806, ...
       frame: --port 1 0200000000a1...   a frame of the first set, as `trace` takes it; it was run
-      lookup 0 entry 2                  its steps, in the lines of `trace --flows`
+      lookup 0 entry 2                  its steps, in the lines of `trace --lines`
       apply
       output 2 0
       end
@@ -172,12 +158,13 @@ are divided into sets whose frames take the same steps. Sets whose steps differ 
   7 paths, 2 undecided
 
 An entry is named by its table and its number by age, from 0. With --port, only frames that come in by this port are divided, and
-with --match only those that match, in the words of a match of ovs-ofctl. With --to, only paths are printed that may leave by a port
-for some ingress port, that go to the controller, or of which nothing leaves. With --json, the report is one JSON document, which
+with --match only those that match, in the words of a match of ovs-ofctl. With --to, only paths are printed whose frames leave by a
+port for some ingress port, go to the controller, or are dropped. With --json, the report is one JSON document, which
 names the entries that each set of frames hits.
 
-Exit status: 0 each frame is in a path; 5 frames are undecided; 2 the words of --match are not a match that a flow may have. If the
-file is at fault, the status is 1, 2 or 3, and the name of the file is before the fault.
+Exit status: 0 each frame is in a path; 5 frames are undecided, or a port is named that the switch does not have; 2 the words of
+--match are not a match that a flow may have. If the file is at fault, the status is 1, 2 or 3, and the name of the file is before
+the fault.
 
   ofswitch paths examples/router.flows
   ofswitch paths --to drop examples/router.flows
@@ -191,7 +178,7 @@ as `ovs-ofctl add-flows` and `add-groups` read them. Groups and flows may be in 
 dumps, comments and empty lines are skipped. A flow that has the table, the priority and the match of an earlier flow
 replaces it, as an ADD would. A resubmit to a later table becomes GOTO_TABLE if it is the last action.
 
-It prints flow text (`ofswitch asm --help`), which `asm`, `trace --flows` and `check --flows` read: groups by number, flows
+It prints flow text (`ofswitch asm --help`), which `asm`, `trace` and `check` read: groups by number, flows
 by table, and in a table in the order of FILE. If a line uses something that this switch does not support, standard error
 names the line and the words, and nothing is printed, unless --skip leaves such lines out. Comments before the flow text say
 what was left out or changed; the first one is `# part of a table: N lines left out`. With --json it prints one JSON document
@@ -201,7 +188,7 @@ about the import instead, or about the lines that are refused, and nothing on st
   ovs-ofctl -O OpenFlow13 --no-names dump-flows br0 | ofswitch import - > br0.flows
   ofswitch import --skip --renumber br-int.txt > br-int.flows
   ofswitch import --skip --json br-int.txt | jq '.flows[] | select(.counters.n_packets == \"0\") | .line'
-  ofswitch check --flows br0.flows";
+  ofswitch check br0.flows";
 
 const SAYING: &str =
     "FILE is one or more OpenFlow 1.3 messages, one after the other: hexadecimal digits on the command line, or a file that has
@@ -215,8 +202,8 @@ end with status 2.
   ofswitch say message.bin";
 
 const SERVING: &str =
-    "A controller connects over TCP (`--listen`), or the switch connects to it (`--connect`), again whenever the connection
-is lost. It serves one controller at a time; a second one waits. The switch keeps its flows between connections, but its
+    "A controller connects over TCP (`--listen`), or the switch connects to it (`--connect`), and reconnects whenever the
+connection is lost. It serves one controller at a time; a second one waits. The switch keeps its flows between connections, but its
 time advances only while there is one.
 
   ofswitch serve                                     wait at 127.0.0.1:6653
@@ -242,7 +229,7 @@ no network interface of its own, and no privileges.
   ip link add vx1 type vxlan id 1 remote SWITCH dstport 4789  a host's interface at port 1 (then: ip link set vx1 up)
 
 Without a controller the switch goes on forwarding, and flows expire by the clock. One controller is served at a time: another one
-that connects meanwhile is closed at once. A controller that takes none of its answers for 10 seconds is closed.
+that connects meanwhile is closed at once. If a controller reads nothing for 10 seconds, its connection is closed.
 
 The event file has the rows of `replay`, except `connect`, `lost` and `c`; its rows happen as soon as the time of each `t` row
 before them has come, in nanoseconds since the start. With `--rows -`, rows `f` and `port` on standard input happen as soon as
@@ -362,7 +349,7 @@ const SAY: [Argument; 1] = [Argument {
     help: "Messages in hexadecimal digits, or a file with such digits or with the bytes; - is standard input",
 }];
 
-const TRACE: [Argument; 11] = [
+const TRACE: [Argument; 13] = [
     Argument {
         name: "FILE",
         kind: Kind::Free,
@@ -409,18 +396,28 @@ const TRACE: [Argument; 11] = [
         help: "Add to the notes why entries won or lost: all, or those of \"TABLE PRIORITY\"",
     },
     Argument {
+        name: "lines",
+        kind: Kind::Flag("lines"),
+        help: "Print a line per step, for programs",
+    },
+    Argument {
         name: "words",
         kind: Kind::Flag("words"),
-        help: "Print the trace in words also with --flows or --events",
+        help: "Print the trace in words also with --flows, which prints lines",
     },
     Argument {
         name: "json",
         kind: Kind::Flag("json"),
         help: "Print the trace as JSON (docs/JSON.md), without notes",
     },
+    Argument {
+        name: "ports",
+        kind: Kind::Optional("ports", "LIST"),
+        help: "The ports of the switch of FILE, such as 1-8,100 (by default 1 to 4 and those that its flows and groups name)",
+    },
 ];
 
-const CHECK: [Argument; 8] = [
+const CHECK: [Argument; 9] = [
     Argument {
         name: "FILE",
         kind: Kind::Place,
@@ -444,7 +441,7 @@ const CHECK: [Argument; 8] = [
     Argument {
         name: "words",
         kind: Kind::Flag("words"),
-        help: "Print the report also with --flows or --events; with --all, packets are words that `trace` takes",
+        help: "With --all, print packets as words that `trace` takes",
     },
     Argument {
         name: "all",
@@ -461,9 +458,14 @@ const CHECK: [Argument; 8] = [
         kind: Kind::Optional("steps", "N"),
         help: "Leave a flow undecided after N steps (by default 100000)",
     },
+    Argument {
+        name: "ports",
+        kind: Kind::Optional("ports", "LIST"),
+        help: "The ports of the switch of FILE, such as 1-8,100 (by default 1 to 4 and those that its flows and groups name)",
+    },
 ];
 
-const DIFF: [Argument; 5] = [
+const DIFF: [Argument; 6] = [
     Argument {
         name: "A",
         kind: Kind::Positional,
@@ -489,9 +491,14 @@ const DIFF: [Argument; 5] = [
         kind: Kind::Optional("steps", "N"),
         help: "Leave frames undecided after N steps (by default 100000)",
     },
+    Argument {
+        name: "ports",
+        kind: Kind::Optional("ports", "LIST"),
+        help: "The ports of the switches, such as 1-8,100 (by default 1 to 4 and those that flows and groups of both files name)",
+    },
 ];
 
-const PATHS_ARGUMENTS: [Argument; 7] = [
+const PATHS_ARGUMENTS: [Argument; 8] = [
     Argument {
         name: "FILE",
         kind: Kind::Positional,
@@ -526,6 +533,11 @@ const PATHS_ARGUMENTS: [Argument; 7] = [
         name: "steps",
         kind: Kind::Optional("steps", "N"),
         help: "Leave frames undecided after N steps (by default 100000)",
+    },
+    Argument {
+        name: "ports",
+        kind: Kind::Optional("ports", "LIST"),
+        help: "The ports of the switch of FILE, such as 1-8,100 (by default 1 to 4 and those that its flows and groups name)",
     },
 ];
 
@@ -661,7 +673,7 @@ const SUBCOMMANDS: [Subcommand; 11] = [
     },
     Subcommand {
         name: "trace",
-        about: "Prints each step of a frame through the switch of a flow text or an event file",
+        about: "Prints each step of a frame through a switch",
         text: TRACES,
         arguments: &TRACE,
     },

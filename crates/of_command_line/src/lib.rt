@@ -2,7 +2,9 @@
 #![tactic(auto)]
 
 mod command;
-mod dividing;
+mod paths;
+mod port_list;
+mod received;
 
 ghost use Rattle.std.specs.Prelude.{◌≡◌};
 ghost use Rattle.std.specs.Iterator.{IsFinite};
@@ -11,15 +13,16 @@ ghost use Rattle.of_command_line.specs.declared.NoRequest.TheVariants.{NoMemory}
 use clap::ArgMatches;
 use clap::error::{Error, ErrorKind};
 use command::command;
-pub use dividing::{Leading, PathsAsked};
-use dividing::{paths_of, steps_of};
-use of_frame_words::{NoFrame, Received, is_frame_words, read_frame};
-use of_wire::limits::{OFPP_MAX, TABLES};
+use of_wire::limits::TABLES;
+pub use paths::{Leading, PathsAsked};
+use paths::{paths_of, steps_of};
+use port_list::port_list_of;
+use received::received_of;
 use std::alloc::{AllocError, Global};
 use std::net::{IpAddr, Net, SocketAddr, ToSocketAddrs};
 use std::str::FromStr;
 
-/// A switch that has the flows of a flow text has the ports 1 to this one.
+/// `trace --flows` and `live --ports` have ports 1 to this one at most.
 const LAST_PORT: u32 = 64;
 
 /// The highest number of a network (RFC 7348, 5).
@@ -46,15 +49,18 @@ const NO_FRAME: &str =
   ofswitch trace FILE --port 1 0200000000a1020000000001
 ";
 
-/// How a port is given.
-const PORT_WORDS: &str = "the port is --port N, or in_port=N in the words of the frame";
-
-/// What the user asks for.
+/// A run over the rows or lines of a file; `-` is standard input.
 #[derive(PartialEq, Eq, Drop)]
-pub enum Request {
-    /// To run an event file on a new switch and print what it gives; `-` is standard input.
+pub struct FileRun {
+    pub file: String,
+    pub run: Run,
+}
+
+/// What is done with the rows or lines of a file.
+#[derive(PartialEq, Eq, Drop)]
+pub enum Run {
+    /// An event file runs on a new switch, and what it gives is printed.
     Replay {
-        file: String,
         /// The switch's datapath_id.
         dpid: u64,
         output: ReplayOutput,
@@ -63,17 +69,20 @@ pub enum Request {
         /// How often the file is read at most.
         reads: u32,
     },
+    /// An event file is printed that builds the flow tables of a flow text.
+    Assemble,
+    /// An event file runs on a new switch, and the groups and flows that it has then are printed as flow text.
+    Disassemble,
+}
+
+/// What the user asks for.
+#[derive(PartialEq, Eq, Drop)]
+pub enum Request {
+    /// To run over a file.
+    File(FileRun),
     /// To print messages of OpenFlow in words: hexadecimal digits, or a file of them or of bytes; `-` is standard input.
     Say {
         messages: String,
-    },
-    /// To print an event file that builds the flow tables of a flow text; `-` is standard input.
-    Assemble {
-        file: String,
-    },
-    /// To run an event file on a new switch and print the groups and flows that it has then, as flow text; `-` is standard input.
-    Disassemble {
-        file: String,
     },
     /// To print the flow text of a table of Open vSwitch; `-` is standard input.
     Import {
@@ -110,11 +119,19 @@ pub enum ReplayOutput {
     Json,
 }
 
+/// The file of a switch; `-` is standard input.
+#[derive(PartialEq, Eq, Drop)]
+pub struct SwitchFile {
+    pub path: String,
+    pub kind: FileKind,
+    /// The ports of the switch of a file that has none: if they are not given, those that its groups and flows name.
+    pub ports: Option<Vec<u32>>,
+}
+
 /// Which frame is traced, and how.
 #[derive(PartialEq, Eq, Drop)]
 pub struct Trace {
-    pub file: String,
-    pub kind: FileKind,
+    pub of: SwitchFile,
     /// The line of an event file, from 1, before which the switch is taken; else it is the one after all lines.
     pub at: Option<u32>,
     /// 1 to 64 if an option says that the file is a flow text, else 1 to 0xffffff00.
@@ -124,8 +141,8 @@ pub struct Trace {
     pub explain: bool,
     /// Of which entries it says why they won or did not.
     pub why: Option<Asked>,
-    /// Whether it is in words: if this is asked for, or if no option says that the file is a flow text or an event file.
-    pub words: bool,
+    /// Whether it is in lines, for programs.
+    pub lines: bool,
     /// Whether it is one JSON document.
     pub json: bool,
 }
@@ -133,8 +150,7 @@ pub struct Trace {
 /// Which file is checked, and how.
 #[derive(PartialEq, Eq, Drop)]
 pub struct Check {
-    pub file: String,
-    pub kind: FileKind,
+    pub of: SwitchFile,
     /// After how many of them a flow is given up.
     pub steps: u32,
     pub output: CheckOutput,
@@ -146,6 +162,8 @@ pub struct Diff {
     /// The files of the switches, of which at most one is `-`, standard input.
     pub first: String,
     pub second: String,
+    /// The ports of the switches of files that have none: if they are not given, those that both files name.
+    pub ports: Option<Vec<u32>>,
     /// Whether packets to the controller are left out.
     pub frames: bool,
     /// After how many of them frames are given up.
@@ -157,8 +175,6 @@ pub struct Diff {
 /// What is printed of a check.
 #[derive(Clone, Copy, PartialEq, Eq)]
 pub enum CheckOutput {
-    /// A line for each flow and each remark, for programs.
-    Lines,
     /// What is found, and a summary.
     Report,
     /// The same, and the flows that win.
@@ -279,19 +295,20 @@ fn request_of<N: Net>(
     matches: &ArgMatches<'_>,
 ) -> Result<Request, NoRequest> {
     let Some((name, matches)) = matches.subcommand() else {
-        return Ok(Request::Replay {
-            file: "-".to_string(alloc)?,
+        let run = Run::Replay {
             dpid: DEFAULT_DPID,
             output: ReplayOutput::Effects,
             ask: false,
             reads: DEFAULT_READS,
-        });
+        };
+        let file = "-".to_string(alloc)?;
+        return Ok(Request::File(FileRun { file, run }));
     };
     match name {
         "serve" => Ok(Request::Serve(serve_of(alloc, net, matches)?)),
         "live" => Ok(Request::Live(live_of(alloc, net, matches)?)),
         "trace" => Ok(Request::Trace(trace_of(alloc, matches)?)),
-        "check" => check_of(alloc, matches),
+        "check" => Ok(Request::Check(check_of(alloc, matches)?)),
         "diff" => Ok(Request::Diff(diff_of(alloc, matches)?)),
         "paths" => Ok(Request::Paths(paths_of(alloc, matches)?)),
         _ => file_request_of(alloc, name, matches),
@@ -306,8 +323,6 @@ fn file_request_of(
 ) -> Result<Request, NoRequest> {
     let file = matches.get_str("FILE").unwrap_or("-").to_string(alloc)?;
     match name {
-        "asm" => Ok(Request::Assemble { file }),
-        "dis" => Ok(Request::Disassemble { file }),
         "say" => Ok(Request::Say { messages: file }),
         "import" => Ok(Request::Import {
             file,
@@ -315,8 +330,18 @@ fn file_request_of(
             renumber: matches.get_flag("renumber"),
             json: matches.get_flag("json"),
         }),
-        _ => Ok(Request::Replay {
-            file,
+        _ => {
+            let run = run_of(alloc, name, matches)?;
+            Ok(Request::File(FileRun { file, run }))
+        }
+    }
+}
+
+fn run_of(alloc: Global, name: &str, matches: &ArgMatches<'_>) -> Result<Run, NoRequest> {
+    match name {
+        "asm" => Ok(Run::Assemble),
+        "dis" => Ok(Run::Disassemble),
+        _ => Ok(Run::Replay {
             dpid: dpid_of(alloc, matches.get_str("dpid"))?,
             output: replay_output_of(alloc, matches)?,
             ask: matches.get_flag("ask"),
@@ -348,9 +373,9 @@ fn replay_output_of(alloc: Global, matches: &ArgMatches<'_>) -> Result<ReplayOut
 }
 
 fn trace_of(alloc: Global, matches: &ArgMatches<'_>) -> Result<Trace, NoRequest> {
-    let (file, kind) = switch_file_of(alloc, matches)?;
+    let of = switch_file_of(alloc, matches)?;
     // with a file by its place the frame is the second word, else the first
-    let frame = match kind {
+    let frame = match of.kind {
         FileKind::Guessed => matches.get_str("FRAME"),
         _ => matches.get_str("FILE"),
     };
@@ -358,28 +383,27 @@ fn trace_of(alloc: Global, matches: &ArgMatches<'_>) -> Result<Trace, NoRequest>
         return Err(refused(alloc, NO_FRAME)?);
     };
     let at = row_of(alloc, matches.get_str("at"))?;
-    let received = received_of(alloc, kind, matches.get_str("N"), frame)?;
+    let received = received_of(alloc, of.kind, matches.get_str("N"), frame)?;
+    let words = matches.get_flag("words");
+    let lines = matches.get_flag("lines") || of.kind == FileKind::Flows && !words;
     Ok(Trace {
-        file,
-        kind,
+        of,
         at,
         port: received.port,
         frame: received.frame,
         explain: matches.get_flag("explain"),
         why: why_of(alloc, matches.get_str("why"))?,
         json: matches.get_flag("json"),
-        words: matches.get_flag("words") || matches!(kind, FileKind::Guessed | FileKind::Ovs),
+        lines,
     })
 }
 
-fn check_of(alloc: Global, matches: &ArgMatches<'_>) -> Result<Request, NoRequest> {
-    let (file, kind) = switch_file_of(alloc, matches)?;
-    Ok(Request::Check(Check {
-        file,
-        kind,
+fn check_of(alloc: Global, matches: &ArgMatches<'_>) -> Result<Check, NoRequest> {
+    Ok(Check {
+        of: switch_file_of(alloc, matches)?,
         steps: steps_of(alloc, matches.get_str("steps"))?,
-        output: output_of(kind, matches),
-    }))
+        output: output_of(matches),
+    })
 }
 
 // Standard input is one of the files at most.
@@ -394,6 +418,7 @@ fn diff_of(alloc: Global, matches: &ArgMatches<'_>) -> Result<Diff, NoRequest> {
     Ok(Diff {
         first: first.to_string(alloc)?,
         second: second.to_string(alloc)?,
+        ports: port_list_of(alloc, matches.get_str("ports"))?,
         frames: matches.get_flag("frames"),
         steps: steps_of(alloc, matches.get_str("steps"))?,
         json: matches.get_flag("json"),
@@ -401,33 +426,39 @@ fn diff_of(alloc: Global, matches: &ArgMatches<'_>) -> Result<Diff, NoRequest> {
 }
 
 // The file of a switch, and what it is: one of these is there.
-fn switch_file_of(
-    alloc: Global,
-    matches: &ArgMatches<'_>,
-) -> Result<(String, FileKind), AllocError> {
-    if let Some(file) = matches.get_str("flows") {
-        return Ok((file.to_string(alloc)?, FileKind::Flows));
+fn named_file<'a>(matches: &'a ArgMatches<'_>) -> (&'a str, FileKind) {
+    if let Some(path) = matches.get_str("flows") {
+        return (path, FileKind::Flows);
     }
-    if let Some(file) = matches.get_str("events") {
-        return Ok((file.to_string(alloc)?, FileKind::Events));
+    if let Some(path) = matches.get_str("events") {
+        return (path, FileKind::Events);
     }
-    if let Some(file) = matches.get_str("ovs") {
-        return Ok((file.to_string(alloc)?, FileKind::Ovs));
+    if let Some(path) = matches.get_str("ovs") {
+        return (path, FileKind::Ovs);
     }
-    let file = matches.get_str("FILE").unwrap_or("-");
-    Ok((file.to_string(alloc)?, FileKind::Guessed))
+    match matches.get_str("FILE") {
+        Some(path) => (path, FileKind::Guessed),
+        None => ("-", FileKind::Guessed),
+    }
 }
 
-// Lines, if the options say which file it is and nothing of a report.
-fn output_of(kind: FileKind, matches: &ArgMatches<'_>) -> CheckOutput {
+fn switch_file_of(alloc: Global, matches: &ArgMatches<'_>) -> Result<SwitchFile, NoRequest> {
+    let (path, kind) = named_file(matches);
+    Ok(SwitchFile {
+        path: path.to_string(alloc)?,
+        kind,
+        ports: port_list_of(alloc, matches.get_str("ports"))?,
+    })
+}
+
+fn output_of(matches: &ArgMatches<'_>) -> CheckOutput {
     if matches.get_flag("json") {
         return CheckOutput::Json;
     }
-    match (matches.get_flag("all"), matches.get_flag("words"), kind) {
-        (true, true, _) => CheckOutput::AllInWords,
-        (true, false, _) => CheckOutput::All,
-        (false, false, FileKind::Flows | FileKind::Events) => CheckOutput::Lines,
-        (false, _, _) => CheckOutput::Report,
+    match (matches.get_flag("all"), matches.get_flag("words")) {
+        (true, true) => CheckOutput::AllInWords,
+        (true, false) => CheckOutput::All,
+        (false, _) => CheckOutput::Report,
     }
 }
 
@@ -447,85 +478,6 @@ fn row_of(alloc: Global, word: Option<&str>) -> Result<Option<u32>, NoRequest> {
     match number_in(word) {
         Some(row) if row >= 1 => Ok(Some(row)),
         _ => Err(refused(alloc, "bad row: a line number, from 1\n")?),
-    }
-}
-
-// A port that frames are traced from.
-fn port_of(alloc: Global, kind: FileKind, number: Option<u32>) -> Result<u32, NoRequest> {
-    let last = if kind == FileKind::Flows {
-        LAST_PORT
-    } else {
-        OFPP_MAX
-    };
-    match number {
-        Some(port) if port >= 1 && port <= last => Ok(port),
-        _ => Err(NoRequest::Refused(format!(in alloc; "bad port: a number from 1 to {last}\n")?)),
-    }
-}
-
-// A port that frames are traced from, which has to be given.
-fn given_port_of(alloc: Global, kind: FileKind, port: Option<&str>) -> Result<u32, NoRequest> {
-    match (port_of(alloc, kind, number_in(port.unwrap_or(""))), port) {
-        (Err(NoRequest::Refused(why)), None) => Err(NoRequest::Refused(format!(in alloc;
-            "{why}{}\n",
-            PORT_WORDS
-        )?)),
-        (found, _) => found,
-    }
-}
-
-// A frame in hexadecimal digits or in words, and the port at which it is received. Words may say the port, too.
-fn received_of(
-    alloc: Global,
-    kind: FileKind,
-    port: Option<&str>,
-    frame: &str,
-) -> Result<Received, NoRequest> {
-    if is_frame_words(frame.as_bytes()) {
-        return said_of(alloc, kind, port, frame);
-    }
-    Ok(Received {
-        port: given_port_of(alloc, kind, port)?,
-        frame: frame_of(alloc, frame)?,
-    })
-}
-
-// A frame in words. Without a port in them or beside them its port is 0, which is refused.
-fn said_of(
-    alloc: Global,
-    kind: FileKind,
-    port: Option<&str>,
-    words: &str,
-) -> Result<Received, NoRequest> {
-    let given = match port {
-        Some(word) => port_of(alloc, kind, number_in(word))?,
-        None => 0,
-    };
-    match read_frame(alloc, given, words.as_bytes()) {
-        Ok(received) => {
-            if received.port == 0 {
-                given_port_of(alloc, kind, port)?;
-            }
-            port_of(alloc, kind, Some(received.port))?;
-            Ok(received)
-        }
-        Err(NoFrame::NoMemory) => Err(NoRequest::NoMemory),
-        Err(NoFrame::Refused(refusal)) => {
-            let word = std::str::from_utf8(&refusal.word).unwrap_or("?");
-            let why = refusal.why;
-            Err(NoRequest::Refused(format!(in alloc; "bad frame: {word}: {why}\n")?))
-        }
-    }
-}
-
-// One byte at least.
-fn frame_of(alloc: Global, word: &str) -> Result<Vec<u8>, NoRequest> {
-    match hex::decode(alloc, word) {
-        Ok(frame) if !word.is_empty() => Ok(frame),
-        _ => Err(refused(
-            alloc,
-            "bad hex: a frame is hexadecimal digits, two per byte\n",
-        )?),
     }
 }
 

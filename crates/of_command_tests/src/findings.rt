@@ -1,17 +1,11 @@
 use crate::checks::same;
-use of_cache::Cached;
-use of_check::{Verdict, check_entry, check_file};
+use of_check::{Verdict, check, check_entry};
 use of_classifier::Scan;
-use of_mask_groups::MaskGroups;
-use of_replay::memory::{MemorySink, MemorySource};
 use of_switch::Switch;
 use of_text::assemble;
 use std::alloc::Global;
 use std::process::Abort;
 use std::test::Fail;
-
-/// How the running switch looks entries up.
-type Lookups = Cached<MaskGroups>;
 
 /// A wider match of a higher priority covers an older one.
 const HIGHER: &[u8] = b"flow 0 10 0x0000000000000000 0 0 0
@@ -75,17 +69,30 @@ fn too_few_steps(rt: HostRuntime) -> Result<(), Fail> {
     has_verdicts(&rt, rt.alloc(), &mut switch)
 }
 
-const PACKET: &[u8] = b"flow 0 0 never: 0 1
-flow 0 1 wins in_port 1 metadata 0x0000000000000000 00000000000000000000000008004500001400000000400070eb000000000a000000
-table 0 no table-miss entry
-";
+/// The frame of the packet: IPv4 to 10.0.0.0, whose fields are 0 otherwise; its checksum is right.
+const PACKET: &[u8] = b"00000000000000000000000008004500001400000000400070eb000000000a000000";
+
+// The older entry is covered, and the younger one wins a packet of port 1.
+fn has_a_packet(rt: &impl Abort, alloc: Global, switch: &mut Switch<Scan>) -> Result<(), Fail> {
+    load(alloc, switch, HIGHER)?;
+    let findings = check(alloc, switch, 1000)?;
+    same(rt, "findings", &findings.len(), &2);
+    same(rt, "covered", &is_never(alloc, switch, 0, 1000)?, &true);
+    let Verdict::Wins { frame, in_port, .. } = &findings[1].verdict else {
+        return Err("no packet".into());
+    };
+    same(rt, "the port", in_port, &1);
+    same(
+        rt,
+        "the frame",
+        &hex::encode(alloc, frame)?.as_bytes(),
+        &PACKET,
+    );
+    Ok(())
+}
 
 #[test]
-fn the_packet_of_a_file(rt: HostRuntime) -> Result<(), Fail> {
-    let mut source = MemorySource::new(rt.alloc(), HIGHER, 100, 0)?;
-    let mut sink = MemorySink::new(rt.alloc(), 100, 0);
-    let ended = check_file::<Lookups, _, _>(rt.alloc(), &mut source, 1000, &mut sink);
-    assert!(rt; matches!(ended, Ok(true)));
-    same(&rt, "what is printed", &sink.bytes(), &PACKET);
-    Ok(())
+fn the_packet_of_an_entry(rt: HostRuntime) -> Result<(), Fail> {
+    let mut switch = Switch::<Scan>::new(rt.alloc(), 1)?;
+    has_a_packet(&rt, rt.alloc(), &mut switch)
 }

@@ -1,4 +1,4 @@
-//! Tests of what commands of the program do, in memory: of the check (which entries of a flow text win, and which never do), of the
+//! Tests of what commands of the program do, in memory: of what files are read as, of the check (which entries of a flow text win, and which never do), of the
 //! tracer, of messages in words, of a switch that serves controllers, and of one on a network. Each public call with ample memory. Texts that
 //! the program prints are in tools/check-texts.
 //!
@@ -11,6 +11,8 @@ mod asked;
 mod calls;
 #[cfg(test)]
 mod checks;
+#[cfg(test)]
+mod files;
 #[cfg(test)]
 mod findings;
 #[cfg(test)]

@@ -1,10 +1,9 @@
 -- What messages add, one after the other.
-use Rattle.std.proofs.Common.{◌≡◌, ℕ, ◌+◌, ◌<◌, ◌≤◌, suc, Bool, true, false, List, [], ◌∷◌, ◌++◌, length, get_or, drop, Option, Some, None, Ok, Err, refl, sym, ◌∙◌, ap, append_assoc, add-one, drop-cons, arith}
-use Rattle.std.specs.Prelude.{map, nat_lt, nat_le, ◌&&◌, slice_index_or}
+use Rattle.std.proofs.Common.{◌≡◌, ℕ, ◌+◌, ◌<◌, ◌≤◌, Bool, true, false, List, [], ◌∷◌, ◌++◌, Option, Some, None, Ok, Err, refl, sym, ◌∙◌, ap, arith}
+use Rattle.std.specs.Prelude.{map, nat_lt, ◌&&◌, slice_index_or}
 use Rattle.std.specs.List.{AllByRecursion, list_all, flat_map}
 use Rattle.std.proofs.lemmas.Bool.{le-leb}
 use Rattle.std.proofs.lemmas.Bool.Decides.{nat_tests}
-use Rattle.std.proofs.lemmas.List.{append-nil}
 use Rattle.of_actions.specs.declared.action.Action.{Action}
 use Rattle.of_actions.specs.Rising.{is_ascending}
 use Rattle.of_text.specs.declared.flow.FlowText.{FlowText}
@@ -27,9 +26,9 @@ use Rattle.of_wire.specs.declared.code.Code.{Code}
 use Rattle.of_text.specs.First.{first_refusal}
 use Rattle.of_text.specs.Configs.{Configuration, tables_of_flows}
 use Rattle.of_config.specs.declared.fault.ConfigFault.{ConfigFault}
-use Rattle.of_config.specs.declared.fault.ConfigFault.TheVariants.{NotACommand, Refused}
+use Rattle.of_config.specs.declared.fault.ConfigFault.TheVariants.{Refused}
 use Rattle.of_config.specs.declared.building.Listed.{Listed as InMemory}
-use Rattle.of_config.specs.Built.{Said, IsGroup, Listed, config_listed, earlier, listed_messages, listed_by, nothing_listed, message_said, with_fault, with_listed_flow, with_listed_group}
+use Rattle.of_config.specs.Built.{IsGroup, Listed, config_listed, earlier, listed_by, with_fault, with_listed_group}
 use Rattle.of_config.specs.BuiltViews.{IsSoundListed, joined_with_later, or_later}
 
 and_parts : (a b : Bool) → (a && b) ≡ true → (a ≡ true) × (b ≡ true)
@@ -152,10 +151,6 @@ rises_more least (x ∷ xs) g b l h =
     let above : nat_lt x.head.id g.head.id ≡ true = grind (arith, nat_tests, below, l) in
     rw (above_more x.head.id xs g parts.0 above, rises_more least xs g b.1 l parts.1) refl
 
-pub mapped_one_more : {X Y : Type 0} (f : X → Y) (xs : List X) (x : X) (rest : List Y) → map f (xs ++ x ∷ []) ++ rest ≡ map f xs ++ f x ∷ rest
-mapped_one_more f [] x rest = refl
-mapped_one_more f (y ∷ ys) x rest = ap (λ zs. f y ∷ zs) (mapped_one_more f ys x rest)
-
 -- ---- what is kept, and what the later messages add
 
 first_stays : (a : Option ConfigFault) (fault : ConfigFault) (x : Option ConfigFault) → or_later a (Some fault) ≡ or_later (or_later a (Some fault)) x
@@ -169,25 +164,8 @@ noted l l' fault rest f p g x e =
     let r = rest l.least in
     rw (f, p, g, x, e) (ap (λ (o : Option ConfigFault). record { places = l.places.items ++ r.places; groups = view_groups l.groups.items ++ r.groups; flows = view_flows l.flows.items ++ r.flows; fault = o }) (first_stays l.fault fault r.fault))
 
-pub group_out : (place least : ℕ) (g : TextGroup) (rest : ℕ → Listed) → g.head.id < least → listed_by place least (IsGroup g) rest ≡ with_fault (NotACommand place) (rest least)
-group_out place least g rest lt =
-    let test : nat_le least g.head.id ≡ false = grind (arith, nat_tests, lt) in
-    rw test refl
-
 pub group_in : (place least : ℕ) (g : TextGroup) (rest : ℕ → Listed) → least ≤ g.head.id → listed_by place least (IsGroup g) rest ≡ with_listed_group place g (rest (g.head.id + 1))
 group_in place least g rest le = rw (le-leb least g.head.id le) refl
-
-pub group_pushed : (l l' : InMemory) (place : ℕ) (g : GroupText) (rest : ℕ → Listed) → l'.places.items ≡ l.places.items ++ place ∷ [] → l'.groups.items ≡ l.groups.items ++ g ∷ [] → l'.flows ≡ l.flows → l'.fault ≡ l.fault → l'.least ≡ g.head.id + 1
-    → joined_with_later l (with_listed_group place (view_group g) (rest (g.head.id + 1))) ≡ joined_with_later l' (rest l'.least)
-group_pushed l l' place g rest p gs x f e =
-    let r = rest (g.head.id + 1) in
-    rw (p, gs, x, f, e, append_assoc l.places.items (place ∷ []) r.places, mapped_one_more view_group l.groups.items g r.groups) refl
-
-pub flow_pushed : (l l' : InMemory) (place : ℕ) (f : FlowText) (rest : ℕ → Listed) → l'.places.items ≡ l.places.items ++ place ∷ [] → l'.flows.items ≡ l.flows.items ++ f ∷ [] → l'.groups ≡ l.groups → l'.fault ≡ l.fault → l'.least ≡ 0x100000000
-    → joined_with_later l (with_listed_flow place (view f) (rest 0x100000000)) ≡ joined_with_later l' (rest l'.least)
-flow_pushed l l' place f rest p fs x o e =
-    let r = rest 0x100000000 in
-    rw (p, fs, x, o, e, append_assoc l.places.items (place ∷ []) r.places, mapped_one_more view l.flows.items f r.flows) refl
 
 -- ---- it may stand in a flow text
 
@@ -207,47 +185,14 @@ flow_sound l l' f s stands fs x e = record {
   flows = rw fs (one_more (λ y. IsKeptFlow (view y)) l.flows.items f s.flows stands);
 }
 
-pub noted_sound : (l l' : InMemory) → IsSoundListed l → l'.groups ≡ l.groups → l'.flows ≡ l.flows → l'.least ≡ l.least → IsSoundListed l'
-noted_sound l l' s g x e = record {
-  fits = rw g s.fits;
-  below = rw (g, e) s.below;
-  rising = rw g s.rising;
-  flows = rw x s.flows;
-}
-
--- ---- one message after the other
-
-pub listed_more : (ms : List (List ℕ)) (i : ℕ) (m d : List ℕ) (l l' : InMemory) (s : Said) (whole : Listed) → i < length ms → m ≡ get_or ms i d → s ≡ message_said m → joined_with_later l (listed_messages i l.least (drop i ms)) ≡ whole
-    → ((rest : ℕ → Listed) → joined_with_later l (listed_by i l.least s rest) ≡ joined_with_later l' (rest l'.least)) → joined_with_later l' (listed_messages (i + 1) l'.least (drop (i + 1) ms)) ≡ whole
-listed_more ms i m d l l' s whole lt is says so on =
-    let here : drop i ms ≡ m ∷ drop (suc i) ms = drop-cons ms i d lt ∙ ap (λ (x : List ℕ). x ∷ drop (suc i) ms) (sym is) in
-    let next : ℕ → Listed = λ least. listed_messages (i + 1) least (drop (suc i) ms) in
-    ap (λ (k : ℕ). joined_with_later l' (listed_messages (i + 1) l'.least (drop k ms))) (add-one i)
-    ∙ (sym (on next)
-    ∙ (ap (λ (x : Said). joined_with_later l (listed_by i l.least x next)) says
-    ∙ (ap (λ (x : List (List ℕ)). joined_with_later l (listed_messages i l.least x)) (sym here) ∙ so)))
-
-pub listed_all : (ms rest : List (List ℕ)) (i : ℕ) (l : InMemory) (whole : Listed) → rest ≡ [] → joined_with_later l (listed_messages i l.least rest) ≡ whole → joined_with_later l nothing_listed ≡ whole
-listed_all ms rest i l whole none so = ap (λ (x : List (List ℕ)). joined_with_later l (listed_messages i l.least x)) (sym none) ∙ so
-
 -- ---- the first fault
-
-last_none : (o : Option ConfigFault) → or_later o None ≡ o
-last_none None = refl
-last_none (Some f) = refl
 
 -- what is kept alone
 abbrev pub kept : InMemory → Listed
 kept l = record { places = l.places.items; groups = view_groups l.groups.items; flows = view_flows l.flows.items; fault = l.fault }
 
-pub nothing_later : (l : InMemory) → joined_with_later l nothing_listed ≡ kept l
-nothing_later l = rw (append-nil l.places.items, append-nil (view_groups l.groups.items), append-nil (view_flows l.flows.items), last_none l.fault) refl
-
 pub given_so : (l : Listed) (c : Configuration) → l.fault ≡ None → first_refusal l.groups l.flows ≡ None → c.groups ≡ l.groups → c.tables ≡ tables_of_flows l.flows → config_listed l ≡ Ok c
 given_so l c f r g t = rw (f, r, sym g, sym t) refl
-
-pub fault_so : (l : Listed) (fault : ConfigFault) → l.fault ≡ Some fault → first_refusal l.groups l.flows ≡ None → config_listed l ≡ Err fault
-fault_so l fault f r = rw (f, r) refl
 
 pub refused_so : (l : Listed) (place : ℕ) (code : Code) (fault : ConfigFault) → first_refusal l.groups l.flows ≡ Some (place, code) → Some fault ≡ earlier l.fault (Some (Refused (slice_index_or l.places place 0) code)) → config_listed l ≡ Err fault
 refused_so l place code fault r e = rw (r, sym e) refl

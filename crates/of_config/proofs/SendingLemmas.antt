@@ -118,13 +118,6 @@ sent_is m s between t effects one h f e =
       after = subst (λ (o : Outcome). IsReady o.state) same is.after;
     }
 
-pub not_waiting : (m : List ℕ) (s between : State) → is_command m ≡ true → IsReady s → between ≡ fed m s → next_of between ≡ None → ⊥
-not_waiting m s between one h f e =
-    let at : between ≡ having m s.core = f ∙ ap (fed m) (is_ready s h) in
-    let is = is_handled m s.core one in
-    let both : Some is.outcome ≡ None = sym is.next ∙ (ap next_of (sym at) ∙ e) in
-    absurd cc
-
 -- ---- ERRORs among effects
 
 pub error_next : (es : List Effect) (i : ℕ) (e : Effect) → i < length es → e ≡ get_or es i e → error_in (drop i es) ≡ error_in (e ∷ drop (i + 1) es)

@@ -1,5 +1,5 @@
 //! The configuration that a list of messages says.
-ghost use Rattle.std.specs.Prelude.{◌≡◌, ◌⊎◌, ℕ, [], Ok, Err, Some, slice_index_or, IfOk, IfErr, OnOk};
+ghost use Rattle.std.specs.Prelude.{◌≡◌, ◌⊎◌, ℕ, [], Ok, Err, Some, IfOk, IfErr, OnOk};
 ghost use Rattle.std.specs.List.{AllByRecursion};
 ghost use Rattle.of_text.specs.Groups.{group_rows};
 ghost use Rattle.of_text.specs.Kept.{IsKeptFlow};
@@ -13,7 +13,7 @@ use of_build::group_text;
 use of_messages::{FlowMod, FlowModCommand, GroupMod, Message, read_message};
 use of_text::{Config, FillError, FlowHead, FlowText, GroupText};
 use of_wire::limits::OFP_NO_BUFFER;
-use of_wire::{Bytes, Code, ReadError};
+use of_wire::{Bytes, Code, ReadError, number_at};
 use std::alloc::{AllocError, Global};
 
 /// Above the number of any group.
@@ -182,15 +182,6 @@ fn list_of(alloc: Global, messages: &[Bytes]) -> Result<Listed, AllocError>
     Ok(all)
 }
 
-fn place_in(places: &[usize], item: usize) -> usize
-    ensures { result ≡ slice_index_or places.now item 0 }
-{
-    match places.get(item) {
-        Some(place) => *place,
-        None => 0,
-    }
-}
-
 fn place_of(fault: ConfigFault) -> usize
     ensures { result ≡ place_is fault }
 {
@@ -228,7 +219,7 @@ fn configured(alloc: Global, all: Listed) -> Result<Config, ConfigFault>
         (Ok(_), Some(fault)) => Err(fault),
         (Err(FillError::NoMemory), _) => Err(ConfigFault::NoMemory),
         (Err(FillError::Refused { place, code }), fault) => {
-            let place = place_in(&places, place);
+            let place = number_at(&places, place);
             Err(earlier_of(fault, ConfigFault::Refused { place, code }))
         }
     }

@@ -87,23 +87,13 @@ pub entry_without : (n : NumberedTables) (t place : ℕ) (found : Option (Bor En
 entry_without n t place None e = by_places n t place None e
 entry_without n t place (Some x) e = by_places n t place (Some x.now) e
 
--- the entries after the first ones
-pub skip_one : (xs ys : List Entry) (x : Entry) (n m : ℕ) → xs ≡ x ∷ ys → n ≡ suc m → slice_get xs n ≡ slice_get ys m
-skip_one xs ys x n m e same = rw (e, same) refl
-
 none_there : (n : ℕ) → slice_get {X = Entry} [] n ≡ None
 none_there zero = refl
 none_there (suc n) = refl
 
-pub skip_none : (xs : List Entry) (n : ℕ) → xs ≡ [] → slice_get xs n ≡ None
-skip_none xs n e = rw e (none_there n)
-
 -- one more entry that has another number
 pub one_more : (number : ℕ) (xs ys : List Entry) (x : Entry) → xs ≡ x ∷ ys → eqb x.number number ≡ false → place_of number xs ≡ 1 + place_of number ys
 one_more number xs ys x e other = rw (e, other) refl
-
-pub here_is : (number : ℕ) (xs ys : List Entry) (x : Entry) → xs ≡ x ∷ ys → eqb x.number number ≡ true → place_of number xs ≡ 0
-here_is number xs ys x e same = rw (e, same) refl
 
 -- a table has 4,096 entries at most
 pub few_entries : (n : NumberedTables) (t : ℕ) → AreFit n → length (entries_at n t) ≤ 4096

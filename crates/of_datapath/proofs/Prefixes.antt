@@ -66,7 +66,3 @@ module _ (w : TheWorld) where
   front_is_prefix keeps p old new sound empty h k =
       let more = begins p (Lookup 0 ∷ []) h.steps sound (frame_fits w sound p empty) in
       record { front = (after w h.steps (starting p (Lookup 0 ∷ []))).lines; rest = more.rest; parts = more.is; gained = h.tells k }
-
--- and one that was not
-pub whole_is_prefix : (steps old new : List Step) → new ≡ old ++ steps → GainsPrefix steps old new
-whole_is_prefix steps old new e = record { front = steps; rest = []; parts = sym (append-nil steps); gained = e }

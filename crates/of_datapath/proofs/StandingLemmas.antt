@@ -48,7 +48,7 @@ use Rattle.of_datapath.specs.Told.{effects_of, held_after}
 use Rattle.of_datapath.specs.Commands.{names_absent_group}
 use Rattle.of_datapath.specs.Loading.{loaded_entry, loaded_table, loaded_tables}
 use Rattle.of_buffers.specs.Buffers.{HeldFrames}
-use Rattle.of_datapath.specs.Datapath.{Forwarding, world_of, applied, arriving, count_port, framed, idle, taken_in, through, tallied, all_tallied, sent, all_sent}
+use Rattle.of_datapath.specs.Datapath.{Forwarding, world_of, applied, arriving, count_port, framed, taken_in, through, tallied, all_tallied, sent, all_sent}
 use Rattle.of_datapath.specs.Standing.{names_existing_groups, all_name_existing_groups, is_numbered, GroupsExist}
 
 -- ---- tests
@@ -378,6 +378,3 @@ loaded_stands now c groups tables ports held k g t =
       entries = tables_loaded now c.groups c.tables (λ n l. config_stands c k n (omega (arith, l, many)));
       numbers = numbers_loaded now c.groups (config_groups c k).numbers;
     })
-
-pub idle_stands : GroupsExist idle
-idle_stands = record { entries = refl; numbers = refl }

@@ -30,7 +30,7 @@ use Rattle.of_ports.specs.Ports.{is_live_at, number_of_port}
 use Rattle.of_actions.specs.Rising.{is_ascending}
 use Rattle.of_datapath.specs.Datapath.{world_of}
 use Rattle.of_buffers.specs.Buffers.{none_held}
-use Rattle.of_datapath.specs.Numbers.{without_numbers, entries_at, entry_number_at, numbered_winner, numbered_flow, numbered_world, place_in}
+use Rattle.of_datapath.specs.Numbers.{without_numbers, entries_at, entry_number_at, numbered_flow, numbered_world, place_in}
 use Rattle.of_datapath.proofs.GroupWorlds.{are_buckets}
 use Rattle.of_datapath.proofs.PlaceNumbers.{itself, number_at_place, place_of_number}
 
@@ -152,7 +152,3 @@ is_table n t number sixteen h = elim (cases_lt t 16) [
   where
     past : entries_at n t ≡ [] → numbered_flow n t number ≡ None
     past e = ap (λ (es : List Entry). flow_at (place_of number es) (flows_of es)) e ∙ flow_none (place_of number []) [] (omega arith)
-
--- beyond them no entry wins
-pub no_winner : (n : NumberedTables) (t : ℕ) (fields : Field → Option ℕ) → length n.tables ≤ t → numbered_winner n t fields ≡ None
-no_winner n t fields le = ap (λ (x : Numbered). option_map (entry_number_at x.entries) (winner_place fields (flows_of x.entries))) (get_or_past n.tables t no_entries le)

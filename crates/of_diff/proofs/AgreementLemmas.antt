@@ -1,9 +1,5 @@
 -- From which table on two switches do the same.
-use Rattle.std.proofs.Common.{◌≡◌, ℕ, zero, suc, ◌+◌, ◌≤◌, ◌⊎◌, inl, inr, [], length, map, refl, ap, subst, arith}
-use Rattle.std.proofs.lemmas.List.{get_or_past, length-map}
-use Rattle.of_table.specs.Table.{Table, empty_table}
-use Rattle.of_table.specs.Entries.{table_of}
-use Rattle.of_table.specs.Tables.{NumberedTables, table_at, tables_of}
+use Rattle.std.proofs.Common.{◌≡◌, ℕ, zero, suc, ◌+◌, ◌≤◌, ◌⊎◌, inl, inr, refl, ap, arith}
 use Rattle.of_datapath.specs.Datapath.{Forwarding, world_of}
 use Rattle.of_alike.specs.Agreeing.{AgreeFrom}
 use Rattle.of_diff.specs.Changing.{entries_in}
@@ -27,10 +23,6 @@ agree_from f g n ports groups h = record {
   emits = λ p port max_len. same_emission f.ports g.ports ports p port max_len;
 }
 
--- a table that is not there has no entries
-pub no_entries_past : (n : NumberedTables) → length n.tables ≡ 16 → (t : ℕ) → 16 ≤ t → (table_at t (tables_of n)).flows ≡ []
-no_entries_past n sixteen t le = ap (λ (x : Table). x.flows) (get_or_past (map table_of n.tables) t empty_table (let long = length-map n.tables table_of in omega (arith, long, sixteen, le)))
-
 or_more : (n t : ℕ) → n ≤ t → (n ≡ t) ⊎ (n + 1 ≤ t)
 or_more zero zero le = inl refl
 or_more zero (suc t) le = inr (omega arith)
@@ -39,11 +31,3 @@ or_more (suc n) (suc t) le = elim (or_more n t (omega (arith, le))) as (λ x. (s
   | inl same ↦ inl (ap suc same)
   | inr less ↦ inr (omega (arith, less))
 ]
-
--- one table more
-pub one_before : (f g : Forwarding) (n : ℕ) → TablesSayTheSame (n + 1) f g → SameTables (entries_in f n) (entries_in g n) → TablesSayTheSame n f g
-one_before f g n h own t le = by_test (or_more n t le)
-  where
-    by_test : (n ≡ t) ⊎ (n + 1 ≤ t) → SameTables (entries_in f t) (entries_in g t)
-    by_test (inl same) = subst (λ (k : ℕ). SameTables (entries_in f k) (entries_in g k)) same own
-    by_test (inr less) = h t less

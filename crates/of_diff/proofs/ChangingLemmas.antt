@@ -119,13 +119,6 @@ pub record AreSetsSoFar (frames rest : FrameSet) (asked : List (Vec MatchField))
   pub left : (frame : List ℕ) (port : ℕ) → InFrames rest frame port → InFrames frames frame port
   pub all : (frame : List ℕ) (port : ℕ) → IsFrame frame → InFrames frames frame port → InSets sets frame port ⊎ (InFrames rest frame port × NoneBefore asked n (received_fields frame port))
 
-pub sets_begin : (frames : FrameSet) (asked : List (Vec MatchField)) (sets : List FrameSet) → sets ≡ [] → AreSetsSoFar frames frames asked 0 sets
-sets_begin frames asked sets none = record {
-  within = λ s c. absurd (let d = subst (λ (l : List FrameSet). Contains l s) none c in let lt = d.1 in omega (arith, lt));
-  left = λ frame port h. h;
-  all = λ frame port is h. inr (h, (λ k m lt at. absurd (omega (arith, lt))));
-}
-
 pub sets_more : (frames rest those rest' : FrameSet) (asked : List (Vec MatchField)) (n : ℕ) (m : Vec MatchField) (sets sets' : List FrameSet) → n < length asked → m ≡ slice_index_or asked n m → AreFramesMatching m.items rest those → AreFramesWithout m.items rest rest' → AddsSet sets those sets' →
     AreSetsSoFar frames rest asked n sets → AreSetsSoFar frames rest' asked (n + 1) sets'
 sets_more frames rest those rest' asked n m sets sets' lt is matching without adds h = record {

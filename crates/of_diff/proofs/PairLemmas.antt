@@ -30,12 +30,6 @@ copy_at w frame port s c h at = record { steps = at.steps; tasks = at.tasks ∙ 
 none_contained : {A : Type 0} (x : A) → Contains {X = A} [] x → ⊥
 none_contained x h = absurd (omega (arith, h.1))
 
-pub no_first : (second : SymbolicState) → AreByFirst [] second []
-no_first second = record { each = λ p h. absurd (none_contained p h); all = λ c h. absurd (none_contained c h) }
-
-pub no_second : (first : SymbolicState) → AreBySecond first [] []
-no_second first = record { each = λ p h. absurd (none_contained p h); all = λ c h. absurd (none_contained c h) }
-
 pub first_more : (cases : List Case) (second : SymbolicState) (pairs : List Pair) (c : Case) (p : Pair) → p.frames ≡ c.frames → p.first ≡ c.state → IsStateCopy second p.second → AreByFirst cases second pairs →
     AreByFirst (cases ++ c ∷ []) second (pairs ++ p ∷ [])
 first_more cases second pairs c p frames state copy h = record {

@@ -13,12 +13,12 @@ ghost use Rattle.of_diff.specs.SoFar.{NextIs};
 
 use crate::difference::{Difference, EmittedByBoth, Undecided, Why};
 use crate::pair::{Next, Pair};
-use of_alike::{Compared, Where, first_difference, ingress_condition};
+use of_alike::{Compared, Where, first_difference};
 use of_classifier::Lookup;
 use of_datapath::Datapath;
 use of_machine::Items;
 use of_symbolic_run::{FrameFound, FrameSet};
-use of_symbolic_switch::receiving_port;
+use of_symbolic_switch::{ingress_condition, receiving_port};
 use std::alloc::{AllocError, Global};
 
 /// A frame for which something else leaves, and where.

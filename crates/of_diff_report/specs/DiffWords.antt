@@ -5,6 +5,7 @@ use Rattle.of_text.specs.Lines.{ended}
 use Rattle.of_datapath.specs.Datapath.{Forwarding}
 use Rattle.of_trace.specs.Words.{heading}
 use Rattle.of_leaving.specs.LeavingWords.{frame_line, side_words}
+use Rattle.of_leaving.specs.UndecidedWords.{undecided_count, undecided_sets}
 use Rattle.of_alike.specs.declared.alike.Where.{Where}
 use Rattle.of_alike.specs.declared.alike.Where.TheVariants.{Controller, Port as ByPort}
 use Rattle.of_diff.specs.declared.difference.Difference.{Difference}
@@ -49,12 +50,6 @@ undecided_why Steps = codes "the runs took as many steps as they may (--steps)"
 undecided_why Search = codes "the search for a frame took as many steps as it may, or found none with a port of the switches"
 undecided_why OtherActions = codes "the actions differ, but what they made of the frame that was run is the same"
 
-abbrev pub set_words : ℕ → List ℕ
-set_words n = if n == 1 then codes " set of frames: " else codes " sets of frames: "
-
-unfoldable pub undecided_sets : ℕ → List ℕ
-undecided_sets n = codes "undecided: " ++ decimal n ++ set_words n
-
 unfoldable pub undecided_line : ℕ → Why → List ℕ
 undecided_line n why = if n == 0 then [] else undecided_sets n ++ undecided_why why ++ 10 ∷ []
 
@@ -64,9 +59,6 @@ undecided_words undecided =
     ++ undecided_line (count_why Search undecided) Search ++ undecided_line (count_why OtherActions undecided) OtherActions
 
 -- ---- the summary: `1 difference, 3 undecided`
-
-abbrev pub undecided_count : ℕ → List ℕ
-undecided_count n = if n == 0 then [] else codes ", " ++ decimal n ++ codes " undecided"
 
 abbrev pub difference_count : ℕ → List ℕ
 difference_count n = decimal n ++ (if n == 1 then codes " difference" else codes " differences")
@@ -86,4 +78,4 @@ diff_words f ds = flat_map (difference_words f) ds.found.items ++ undecided_word
 
 -- of switches whose ports differ
 abbrev pub other_ports_words : List ℕ
-other_ports_words = codes "the switches have other ports" ++ 10 ∷ []
+other_ports_words = codes "the switches have different ports" ++ 10 ∷ []

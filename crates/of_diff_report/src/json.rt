@@ -148,7 +148,7 @@ pub fn differences_as_json(alloc: Global, found: &Differences) -> Result<Vec<u8>
     )
 }
 
-/// That two switches have other ports, as JSON.
+/// That two switches have different ports, as JSON.
 pub fn other_ports_as_json(alloc: Global) -> Result<Vec<u8>, AllocError>
     ensures { IfOk result (λ text. text.items ≡ other_ports_json) }
 {

@@ -1,12 +1,12 @@
 //! What is found about two switches, in words.
 ghost use Rattle.std.specs.Prelude.{◌≡◌, ◌++◌, ◌∷◌, IfOk, OnOk};
 ghost use Rattle.std.specs.List.{flat_map};
-ghost use Rattle.of_diff_report.specs.DiffWords.{are_same, count_why, diff_summary, diff_words, difference_count, difference_words, is_why, set_words, sets_line, sets_words, undecided_count, undecided_line, undecided_sets, undecided_words, where_words, undecided_why};
+ghost use Rattle.of_diff_report.specs.DiffWords.{are_same, count_why, diff_summary, diff_words, difference_count, difference_words, is_why, sets_line, sets_words, undecided_line, undecided_words, where_words, undecided_why};
 
 use of_alike::Where;
 use of_classifier::Lookup;
 use of_diff::{Difference, Differences, Undecided, Why};
-use of_leaving::{push_frame_line, push_side};
+use of_leaving::{push_frame_line, push_side, push_undecided_count, push_undecided_sets};
 use of_switch::Switch;
 use of_trace::push_heading;
 use of_values::push_decimal;
@@ -112,26 +112,6 @@ fn sentence(why: Why) -> &'static [u8]
     }
 }
 
-fn name_of_sets(count: usize) -> &'static [u8]
-    ensures { result.now ≡ set_words count }
-{
-    if count == 1 {
-        b" set of frames: "
-    } else {
-        b" sets of frames: "
-    }
-}
-
-// Appends how many sets of frames are undecided.
-#[tactic(auto, unfolding(crate::specs::DiffWords::undecided_sets))]
-fn push_sets(out: &mut Vec<u8>, count: usize) -> Result<(), AllocError>
-    ensures { OnOk result (out.new.items ≡ out.old.items ++ undecided_sets count) }
-{
-    out.extend_from_slice(b"undecided: ")?;
-    push_decimal(out, count as u128)?;
-    out.extend_from_slice(name_of_sets(count))
-}
-
 // Appends how many sets of frames are undecided for a reason, if there are such.
 #[tactic(auto, unfolding(crate::specs::DiffWords::undecided_line))]
 fn push_undecided_line(out: &mut Vec<u8>, count: usize, why: Why) -> Result<(), AllocError>
@@ -140,7 +120,7 @@ fn push_undecided_line(out: &mut Vec<u8>, count: usize, why: Why) -> Result<(), 
     if count == 0 {
         return Ok(());
     }
-    push_sets(out, count)?;
+    push_undecided_sets(out, count)?;
     out.extend_from_slice(sentence(why))?;
     out.push(b'\n')?;
     Ok(())
@@ -168,17 +148,6 @@ pub fn is_same(found: &Differences) -> bool
     ensures { result ≡ are_same found.now }
 {
     found.found.is_empty() && found.undecided.is_empty()
-}
-
-fn push_undecided_count(out: &mut Vec<u8>, count: usize) -> Result<(), AllocError>
-    ensures { OnOk result (out.new.items ≡ out.old.items ++ undecided_count count) }
-{
-    if count == 0 {
-        return Ok(());
-    }
-    out.extend_from_slice(b", ")?;
-    push_decimal(out, count as u128)?;
-    out.extend_from_slice(b" undecided")
 }
 
 fn push_difference_count(out: &mut Vec<u8>, count: usize) -> Result<(), AllocError>

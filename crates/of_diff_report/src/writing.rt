@@ -57,7 +57,7 @@ fn other_ports_in(alloc: Global, form: DiffForm) -> Result<Vec<u8>, AllocError>
     ensures { (f : Forwarding) → IfOk result (λ text. text.items ≡ diff_text form f None) }
 {
     match form {
-        DiffForm::Words => Vec::from_slice(alloc, b"the switches have other ports\n"),
+        DiffForm::Words => Vec::from_slice(alloc, b"the switches have different ports\n"),
         DiffForm::Json => other_ports_as_json(alloc),
     }
 }

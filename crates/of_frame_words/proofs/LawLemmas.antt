@@ -14,10 +14,10 @@ use Rattle.of_shapes.specs.Rules.{has_header, protocol_of, shape_type}
 use Rattle.of_frames.specs.Given.{given_number, or_zero, fields_given, vlan_vid_given, vlan_pcp_given}
 use Rattle.of_frames.proofs.FrameLemmas.{given_fields, given_frame}
 use Rattle.of_oxm.specs.declared.match_field.MatchField.{MatchField}
-use Rattle.of_oxm.specs.Relations.{agrees, matches_map}
+use Rattle.of_oxm.specs.Relations.{agrees, first_difference as missed, matches_map}
 use Rattle.of_ovs_words.specs.Outcomes.{◌>>=◌}
 use Rattle.of_ovs_words.specs.Words.{words_from}
-use Rattle.of_frame_words.specs.Frames.{ReceivedFrame, Has, IsDefault, at_port, with_setting, set_by, shape_by, tagging_by, received_by, received_frame, map_of, missed, unless_missed, checked, frame_in_words, is_unsaid}
+use Rattle.of_frame_words.specs.Frames.{ReceivedFrame, Has, IsDefault, at_port, with_setting, set_by, shape_by, tagging_by, received_by, received_frame, map_of, unless_missed, checked, frame_in_words, is_unsaid}
 use Rattle.of_frame_words.specs.Said.{WordRefusal, with_setting_words}
 
 -- ---- settings that are all had

@@ -19,7 +19,8 @@ use Rattle.of_ovs_words.specs.Outcomes.{◌>>=◌}
 use Rattle.of_ovs_words.specs.Words.{words_from}
 use Rattle.of_frame_words.specs.declared.why.NoFrame.{NoFrame}
 use Rattle.of_frame_words.specs.declared.why.NoFrame.TheVariants.{NoMemory, Refused}
-use Rattle.of_frame_words.specs.Frames.{ReceivedFrame, at_port, with_setting, set_by, shape_by, tagging_by, received_frame, received_by, frame_in_words, map_of, missed, why_missed, unless_missed, checked}
+use Rattle.of_oxm.specs.Relations.{first_difference as missed}
+use Rattle.of_frame_words.specs.Frames.{ReceivedFrame, at_port, with_setting, set_by, shape_by, tagging_by, received_frame, received_by, frame_in_words, map_of, why_missed, unless_missed, checked}
 use Rattle.of_frame_words.specs.Refusals.{IsRefusal, FrameStops}
 use Rattle.of_frame_words.specs.Said.{WordRefusal, with_setting_words}
 use Rattle.of_frame_words.proofs.WordLemmas.{refusal_stops}

@@ -1,5 +1,5 @@
 -- FRAMES IN WORDS: the frame that has the fields which words say. Fields of its headers of which no word says anything are 0; TTL and hop limit are 64.
-use Rattle.std.specs.Prelude.{◌≡◌, ◌⊎◌, ℕ, ◌==◌, nat_le, not, Bool, true, false, List, [], ◌∷◌, find, bit_and, Option, Some, None, Result, Ok, if◌then◌else◌}
+use Rattle.std.specs.Prelude.{◌≡◌, ◌⊎◌, ℕ, ◌==◌, nat_le, not, Bool, true, false, List, [], ◌∷◌, bit_and, Option, Some, None, Result, Ok, if◌then◌else◌}
 use Rattle.std.specs.List.{list_any}
 use Rattle.of_layers.specs.declared.field.Field.{Field}
 use Rattle.of_layers.specs.declared.field.Field.TheVariants.{InPort, EthType, VlanVid, IpProto}
@@ -17,7 +17,7 @@ use Rattle.of_frames.specs.Given.{or_zero}
 use Rattle.of_frames.specs.Packets.{frame_given}
 use Rattle.of_oxm.specs.declared.match_field.MatchField.{MatchField}
 use Rattle.of_oxm.specs.Prerequisites.{is_met}
-use Rattle.of_oxm.specs.Relations.{agrees, matches_map}
+use Rattle.of_oxm.specs.Relations.{first_difference, matches_map}
 use Rattle.of_ovs_words.specs.declared.why.Why.{Why as WordWhy}
 use Rattle.of_ovs_words.specs.declared.why.Why.TheVariants as words
 use Rattle.of_ovs_words.specs.FieldWords.{text_for}
@@ -78,9 +78,6 @@ map_of r = field_map (layers_of r.frame) r.port 0
 
 -- ---- settings that the frame does not have
 
-abbrev pub missed : List MatchField → (Field → Option ℕ) → Option MatchField
-missed settings map = find (λ e. not (agrees e (map e.field))) settings
-
 -- the prerequisite of its field is missing (OpenFlow 1.3.5, 7.2.3.8)
 abbrev pub word_why_missing : Prerequisite → WordWhy
 word_why_missing needs.Nothing = words.Unknown
@@ -102,7 +99,7 @@ unless_missed settings r None = Ok r
 unless_missed settings r (Some e) = refuse (text_for e.field) (why_missed settings e)
 
 abbrev pub checked : List MatchField → ReceivedFrame → Result ReceivedFrame WordRefusal
-checked settings r = unless_missed settings r (missed settings (map_of r))
+checked settings r = unless_missed settings r (first_difference settings (map_of r))
 
 -- THE FRAME THAT WORDS SAY, received at the port that they say, or else at this one. Refused is the first word that has no meaning, and then the first setting that the frame does not have.
 unfoldable pub frame_in_words : ℕ → List ℕ → Result ReceivedFrame WordRefusal

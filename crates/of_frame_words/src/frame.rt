@@ -4,13 +4,13 @@ ghost use Rattle.of_frame_words.specs.Frames.{checked as checked_so, frame_in_wo
 ghost use Rattle.of_frame_words.specs.Refusals.{FrameStops};
 ghost use Rattle.of_frame_words.specs.Views.{view_received};
 
-use crate::said::{key_said, missed, shape_of, tagging_of, why_missed};
+use crate::said::{key_said, shape_of, tagging_of, why_missed};
 use crate::why::{NoFrame, refuse};
 use crate::words::add_words;
 use of_frames::frame_of;
 use of_headers::Known;
 use of_ovs_words::text_for;
-use of_oxm::MatchField;
+use of_oxm::{MatchField, first_difference};
 use std::alloc::{AllocError, Global};
 
 /// A frame, and the port at which it is received.
@@ -42,7 +42,7 @@ fn checked(alloc: Global, settings: &[MatchField], received: Received) -> Result
     ensures stopped { IfErr result (FrameStops (checked_so settings.now (view_received received))) }
 {
     let key = Known::Nothing.key(&received.frame, received.port, 0);
-    match missed(settings, &key) {
+    match first_difference(settings, &key) {
         None => Ok(received),
         Some(e) => Err(refuse(alloc, text_for(e.field), why_missed(settings, e))),
     }

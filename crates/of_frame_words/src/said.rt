@@ -1,10 +1,8 @@
 //! The fields that settings say, and the headers that they ask for.
-ghost use Rattle.std.specs.Prelude.{◌≡◌, not, find};
-ghost use Rattle.std.specs.Option.{option_copied};
+ghost use Rattle.std.specs.Prelude.{◌≡◌};
 ghost use Rattle.of_headers.specs.FieldMap.{value as value_in};
 ghost use Rattle.of_layers.specs.Fields.{prerequisite_of};
-ghost use Rattle.of_oxm.specs.Relations.{agrees as agrees_with};
-ghost use Rattle.of_frame_words.specs.Frames.{at_port, missed as first_missed, shape_of_ipv4_protocol as shape_over_ipv4, shape_of_ipv6_protocol as shape_over_ipv6, set_by, shape_by, tagging_by, why_missed as why_missed_so, word_why_missing as why_missing_so};
+ghost use Rattle.of_frame_words.specs.Frames.{at_port, shape_of_ipv4_protocol as shape_over_ipv4, shape_of_ipv6_protocol as shape_over_ipv6, set_by, shape_by, tagging_by, why_missed as why_missed_so, word_why_missing as why_missing_so};
 
 use crate::why::Why;
 use of_headers::{Field, FieldKey, Prerequisite};
@@ -72,22 +70,6 @@ pub fn tagging_of(vid: u16) -> Tagging
     } else {
         Tagging::Untagged
     }
-}
-
-fn agrees(e: &MatchField, value: Option<u128>) -> bool
-    ensures { result ≡ agrees_with e.now value }
-{
-    match value {
-        None => false,
-        Some(value) => value & e.mask.unwrap_or(e.field.row().ones) == e.value,
-    }
-}
-
-/// The first setting that a frame with these fields does not have.
-pub fn missed<'a>(settings: &'a [MatchField], key: &FieldKey) -> Option<&'a MatchField>
-    ensures { option_copied result ≡ first_missed settings.now (value_in key.now) }
-{
-    settings.iter().find(|e| !agrees(e, key.get(e.field)))
 }
 
 /// Why a field without its prerequisite is refused.

@@ -18,9 +18,9 @@ pub enum Hint {
     UnknownRow(RowNames),
     #[error("unknown line; lines are {0}{1}")]
     UnknownLine(LineNames, ActionWords),
-    #[error("this is a line of flow text, which asm, and trace and check with --flows, read")]
+    #[error("this is a line of flow text, which asm, trace and check read")]
     FlowText,
-    #[error("this is a row of an event file, which replay, dis, and trace and check with --events, read")]
+    #[error("this is a row of an event file, which replay, dis, trace and check read")]
     EventFile,
     #[error("this is a line of ovs-ofctl: convert the file with import")]
     OpenVswitch,

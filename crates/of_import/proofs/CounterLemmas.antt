@@ -1,5 +1,5 @@
 -- Comments behind the flows of a text change nothing of what it encodes.
-use Rattle.std.proofs.Common.{◌≡◌, ℕ, ◌<◌, length, Bool, true, false, cond, List, [], ◌∷◌, ◌++◌, refl, sym, ◌∙◌, ap, append_assoc, arith}
+use Rattle.std.proofs.Common.{◌≡◌, ℕ, ◌<◌, length, Bool, true, false, cond, List, [], ◌∷◌, ◌++◌, refl, sym, ◌∙◌, ap, append_assoc}
 use Rattle.std.specs.Prelude.{◌==◌, reverse, if◌then◌else◌}
 use Rattle.std.specs.List.{AllByRecursion, flat_map}
 use Rattle.std.specs.Global.{Vec}
@@ -100,13 +100,6 @@ encoded_with fs text config h = record {
 
 pub to_come_next : (old left : List (Vec ℕ)) (x : Vec ℕ) → old ≡ left ++ x ∷ [] → notes_to_come old ≡ x.items ∷ notes_to_come left
 to_come_next old left x e = ap notes_to_come e ∙ ap view_notes (reverse-append left (x ∷ []))
-
-pub none_to_come : (old : List (Vec ℕ)) → length old ≡ 0 → notes_to_come old ≡ []
-none_to_come [] e = refl
-none_to_come (x ∷ xs) e = absurd (omega (arith, e))
-
-pub next_out : (old left : List (Vec ℕ)) (x : Vec ℕ) → old ≡ left ++ x ∷ [] → next_note (notes_to_come old) ≡ x.items
-next_out old left x e = ap next_note (to_come_next old left x e)
 
 pub next_left : (old left : List (Vec ℕ)) (x : Vec ℕ) → old ≡ left ++ x ∷ [] → notes_to_come left ≡ later_notes (notes_to_come old)
 next_left old left x e = sym (ap later_notes (to_come_next old left x e))

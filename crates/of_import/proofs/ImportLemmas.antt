@@ -1,7 +1,6 @@
 -- From what was read to its configuration.
-use Rattle.std.proofs.Common.{◌≡◌, ◌≤◌, ℕ, ◌+◌, false, List, ◌++◌, length, Option, Some, Result, Ok, Err, ap, ◌∙◌, subst}
-use Rattle.std.specs.Prelude.{filter, map, IfOk, IfErr}
-use Rattle.std.specs.List.{AllByRecursion}
+use Rattle.std.proofs.Common.{◌≡◌, ℕ, ◌+◌, List, ◌++◌, length, Option, Some, Result, Ok, Err, ap, ◌∙◌, subst}
+use Rattle.std.specs.Prelude.{map, IfOk, IfErr}
 use Rattle.of_wire.specs.declared.code.Code.{Code}
 use Rattle.of_text.specs.declared.assembling.FillError.{FillError}
 use Rattle.of_text.specs.declared.assembling.FillError.TheVariants as fills
@@ -11,20 +10,17 @@ use Rattle.of_text.specs.Configs.{Configuration}
 use Rattle.of_text.specs.First.{RefusedWithout}
 use Rattle.of_import.specs.declared.parsed_lines.FlowLine.{FlowLine}
 use Rattle.of_import.specs.declared.parsed_lines.GroupLine.{GroupLine}
-use Rattle.of_import.specs.ParsedLinesViews.{AreSoundGroups, FlowIsSound, view_faults, view_flow_line, view_group_line}
+use Rattle.of_import.specs.ParsedLinesViews.{view_flow_line, view_group_line}
 use Rattle.of_import.specs.declared.kept.LineRefusal.{LineRefusal}
 use Rattle.of_import.specs.declared.mode.Mode.{Mode}
 use Rattle.of_import.specs.declared.kept.KeptLines.{KeptLines}
 use Rattle.of_import.specs.declared.parsed_lines.LineFaults.{LineFaults}
 use Rattle.of_import.specs.declared.import.ImportError.{ImportError}
 use Rattle.of_import.specs.declared.import.ImportError.TheVariants.{NoMemory, Faults, Refused, TooMany}
-use Rattle.of_import.specs.Imports.{FaultsOf, HasBegun, IsConfigOf, IsFilled, IsImport, IsImportText, IsTextOf, NoImport, RefusedAt, RefusedOf, kept_in, notes_for, numbers_for, parsed}
+use Rattle.of_import.specs.Imports.{HasBegun, IsConfigOf, IsFilled, IsImport, IsImportText, IsTextOf, NoImport, RefusedAt, RefusedOf, kept_in, notes_for, parsed}
 use Rattle.of_import.specs.Kept.{Kept, flows_in, groups_in}
 use Rattle.of_import.specs.KeptViews.{view_kept, view_refusal}
-use Rattle.of_import.specs.Notes.{is_changed, notes_of}
-use Rattle.of_import.specs.ParsedLines.{FlowAt, parsed_lines_of}
-use Rattle.of_import.specs.PartialFlows.{Refusal}
-use Rattle.of_import.specs.TableNumbers.{TableNumbers}
+use Rattle.of_import.specs.ParsedLines.{FlowAt}
 use Rattle.of_import.proofs.RowLemmas.{parsed_group_lines, parsed_flow_lines}
 
 pub refused_first : (first : Option (ℕ × Code)) (e : FillError) (place : ℕ) (code : Code) → e ≡ fills.Refused place code → RefusedWithout first e → first ≡ Some (place, code)
@@ -56,22 +52,6 @@ refused_is (Err e) gs fs lines groups flows p q l h =
 
 -- ---- the whole
 
-pub begun_import : (lines : List (List ℕ)) (mode : Mode) (n : TableNumbers) (k : KeptLines) (faults : List LineFaults) (moves : List (ℕ × ℕ)) (notes : List ℕ) (changed : ℕ) → n ≡ numbers_for mode lines → view_kept k ≡ kept_in (parsed_lines_of mode n.numbers lines) → map view_faults faults ≡ (parsed_lines_of mode n.numbers lines).faults → moves ≡ n.moves → notes ≡ notes_of n.moves (map view_faults faults) (view_kept k) → changed ≡ length (filter is_changed (view_kept k).flows) → (mode.skip ≡ false → length faults + length k.refused.items ≡ 0) → n.count ≤ 16 → AreSoundGroups k.groups.items → AllByRecursion FlowIsSound k.flows.items → HasBegun lines mode notes faults k moves changed
-begun_import lines mode n k faults moves notes changed e kh fh mh nh ch none few groups flows =
-    let eqk : view_kept k ≡ kept_in (parsed mode lines) = kh ∙ ap (λ (m : TableNumbers). kept_in (parsed_lines_of mode m.numbers lines)) e in
-    let eqf : map view_faults faults ≡ (parsed mode lines).faults = fh ∙ ap (λ (m : TableNumbers). (parsed_lines_of mode m.numbers lines).faults) e in
-    record {
-      notes_are = nh ∙ (ap (λ (m : TableNumbers). notes_of m.moves (map view_faults faults) (view_kept k)) e ∙ (ap (λ (f : List (ℕ × List Refusal)). notes_of (numbers_for mode lines).moves f (view_kept k)) eqf ∙ ap (λ (x : Kept). notes_of (numbers_for mode lines).moves (parsed mode lines).faults x) eqk));
-      faults_are = eqf;
-      kept_is = eqk;
-      moves_are = mh ∙ ap (λ (m : TableNumbers). m.moves) e;
-      changed_is = ch ∙ ap (λ (x : Kept). length (filter is_changed x.flows)) eqk;
-      none = none;
-      few = subst (λ (m : TableNumbers). m.count ≤ 16) e few;
-      groups = groups;
-      flows = flows;
-    }
-
 written_text : (lines : List (List ℕ)) (mode : Mode) (k : Kept) (notes text : List ℕ) → notes ≡ notes_for mode lines → k ≡ kept_in (parsed mode lines) → IsTextOf k notes text → IsTextOf (kept_in (parsed mode lines)) (notes_for mode lines) text
 written_text lines mode k notes text n e t = subst (λ (x : List ℕ). IsTextOf (kept_in (parsed mode lines)) x text) n (subst (λ (x : Kept). IsTextOf x notes text) e t)
 
@@ -89,13 +69,6 @@ made_text lines mode k faults refused moves notes text changed b t r = record {
   none = λ s. ap (λ (x : List LineRefusal). length faults + length x) r ∙ b.none s;
   few = b.few;
 }
-
--- some lines are refused
-pub faults_stop : (lines : List (List ℕ)) (mode : Mode) (n : TableNumbers) (e : ImportError) → n ≡ numbers_for mode lines → FaultsOf mode (parsed_lines_of mode n.numbers lines) e → NoImport lines mode e
-faults_stop lines mode n NoMemory i h = tt
-faults_stop lines mode n (Faults faults refused) i h = subst (λ (m : TableNumbers). FaultsOf mode (parsed_lines_of mode m.numbers lines) (Faults faults refused)) i h
-faults_stop lines mode n (Refused line code) i h = absurd h
-faults_stop lines mode n (TooMany count) i h = absurd h
 
 -- one flow is refused beside the others
 pub refusal_stops : (lines : List (List ℕ)) (mode : Mode) (k : Kept) (e : ImportError) → k ≡ kept_in (parsed mode lines) → RefusedOf k.groups k.flows e → NoImport lines mode e

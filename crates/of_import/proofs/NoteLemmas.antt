@@ -10,7 +10,8 @@ use Rattle.of_text.specs.Texts.{lines_kept}
 use Rattle.of_text.specs.Configs.{Configuration, EncodeConfig}
 use Rattle.of_lines.specs.Lines.{prepended}
 use Rattle.of_import.specs.Kept.{Kept}
-use Rattle.of_import.specs.Notes.{left_out_action_words, comment, fault_words, mark_notes, notes_of, part_words, refusal_words, resubmit_note, resubmit_words, shown, renumbered_table_words}
+use Rattle.of_values.specs.Origins.{printable}
+use Rattle.of_import.specs.Notes.{left_out_action_words, comment, fault_words, mark_notes, notes_of, part_words, refusal_words, resubmit_note, resubmit_words, renumbered_table_words}
 use Rattle.of_import.specs.ParsedLines.{FlowAt}
 use Rattle.of_import.specs.PartialFlows.{Refusal}
 
@@ -30,22 +31,22 @@ each_pass f p (x ∷ xs) = both_pass (f x) (flat_map f xs) (p x) (each_pass f p 
 
 -- ---- a comment
 
-no_end : (b : ℕ) → (shown b == 10) ≡ false
+no_end : (b : ℕ) → (printable b == 10) ≡ false
 no_end b = by_test (nat_le 32 b && nat_le b 126) refl
   where
     by_test : (t : Bool) → (nat_le 32 b && nat_le b 126) ≡ t → ((if t then b else 63) == 10) ≡ false
     by_test true h = grind (arith, nat_tests, h)
     by_test false h = refl
 
-line_of_words : (words rest : List ℕ) → lines_of (map shown words ++ 10 ∷ rest) ≡ map shown words ∷ lines_of rest
+line_of_words : (words rest : List ℕ) → lines_of (map printable words ++ 10 ∷ rest) ≡ map printable words ∷ lines_of rest
 unfolding lines_of
 line_of_words [] rest = refl
-line_of_words (b ∷ bs) rest = rw (no_end b) (ap (prepended (shown b)) (line_of_words bs rest))
+line_of_words (b ∷ bs) rest = rw (no_end b) (ap (prepended (printable b)) (line_of_words bs rest))
 
 comment_passes : (words : List ℕ) → Passes (comment words)
 unfolding lines_of
 comment_passes words text =
-    ap (λ (x : List ℕ). lines_kept (lines_of (35 ∷ 32 ∷ x))) (append_assoc (map shown words) (10 ∷ []) text)
+    ap (λ (x : List ℕ). lines_kept (lines_of (35 ∷ 32 ∷ x))) (append_assoc (map printable words) (10 ∷ []) text)
     ∙ ap (λ (ls : List (List ℕ)). lines_kept (prepended 35 (prepended 32 ls))) (line_of_words words text)
 
 pub unless_passes : (t : Bool) (words : List ℕ) → Passes (if t then [] else comment words)

@@ -68,6 +68,15 @@ pub record IsImport (lines : List (List ℕ)) (mode : Mode) (text : List ℕ) (f
   pub none : mode.skip ≡ false → length faults + length kept.refused.items ≡ 0
   pub few : (numbers_for mode lines).count ≤ 16
 
+-- THE CONFIGURATION alone, with its groups and flows and the lines that the switch refuses
+pub record IsImportConfig (lines : List (List ℕ)) (mode : Mode) (config : Configuration) (faults : List LineFaults) (kept : KeptLines) (changed : ℕ) : Type 0 where
+  pub is : IsConfigOf (kept_in (parsed mode lines)).groups (kept_in (parsed mode lines)).flows config
+  pub faults_are : map view_faults faults ≡ (parsed mode lines).faults
+  pub kept_is : view_kept kept ≡ kept_in (parsed mode lines)
+  pub changed_is : changed ≡ length (filter is_changed (kept_in (parsed mode lines)).flows)
+  pub none : mode.skip ≡ false → length faults + length kept.refused.items ≡ 0
+  pub few : (numbers_for mode lines).count ≤ 16
+
 -- ---- why there is none
 
 -- the first group or flow that is refused beside the others, by its line

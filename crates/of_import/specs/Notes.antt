@@ -1,17 +1,14 @@
 -- WHAT COMMENTS SAY ABOUT A TEXT: that it is part of a table, new numbers of tables, and lines and actions that are left out or changed.
-use Rattle.std.specs.Prelude.{ℕ, ◌+◌, ◌==◌, ◌&&◌, nat_le, not, Bool, List, [], ◌∷◌, ◌++◌, codes, decimal, length, map, if◌then◌else◌}
+use Rattle.std.specs.Prelude.{ℕ, ◌+◌, ◌==◌, not, Bool, List, [], ◌∷◌, ◌++◌, codes, decimal, length, map, if◌then◌else◌}
 use Rattle.std.specs.List.{flat_map}
 use Rattle.of_wire.specs.declared.code.Code.{Code}
+use Rattle.of_values.specs.Origins.{printable}
 use Rattle.of_import.specs.PartialFlows.{Refusal}
 use Rattle.of_import.specs.ParsedLines.{FlowAt}
 use Rattle.of_import.specs.Kept.{Kept}
 
--- a byte that is no printable character of ASCII is a question mark
-abbrev pub shown : ℕ → ℕ
-shown b = if nat_le 32 b && nat_le b 126 then b else 63
-
 abbrev pub comment : List ℕ → List ℕ
-comment words = codes "# " ++ map shown words ++ 10 ∷ []
+comment words = codes "# " ++ map printable words ++ 10 ∷ []
 
 abbrev pub spaced_number : ℕ → List ℕ
 spaced_number n = 32 ∷ decimal n

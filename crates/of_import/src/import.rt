@@ -1,12 +1,12 @@
 //! Tables of Open vSwitch as configurations.
-ghost use Rattle.std.specs.Prelude.{◌≡◌, ◌<◌, ◌+◌, ◌++◌, [], false, Some, None, map, length, slice_index_or, IfOk, IfErr, OnOk};
+ghost use Rattle.std.specs.Prelude.{◌≡◌, ◌<◌, ◌+◌, ◌++◌, [], false, Some, None, map, length, IfOk, IfErr, OnOk};
 ghost use Rattle.std.specs.List.{AllByRecursion};
 ghost use Rattle.of_text.specs.Configs.{EncodeConfig, config_text};
 ghost use Rattle.of_text.specs.Flows.{text_rows};
 ghost use Rattle.of_text.specs.Lines.{lines_of};
 ghost use Rattle.of_text.specs.Texts.{AreRows};
 ghost use Rattle.of_text.specs.Views.{view_flows, view_groups};
-ghost use Rattle.of_import.specs.Imports.{FaultsOf, HasBegun, IsConfigOf, IsFilled, IsImport, IsImportText, IsTextOf, NoImport, RefusedAt, RefusedOf, kept_in, numbers_for as numbers_for_lines};
+ghost use Rattle.of_import.specs.Imports.{FaultsOf, HasBegun, IsConfigOf, IsFilled, IsImport, IsImportConfig, IsImportText, IsTextOf, NoImport, RefusedAt, RefusedOf, kept_in, numbers_for as numbers_for_lines};
 ghost use Rattle.of_import.specs.Counters.{with_notes};
 ghost use Rattle.of_import.specs.CounterViews.{view_notes};
 ghost use Rattle.of_import.specs.KeptViews.{view_kept};
@@ -24,6 +24,7 @@ use crate::parsed_lines::{FlowLine, GroupLine, LineFaults, ParsedLines, read_tab
 use crate::table_numbers::TableNumbers;
 use of_oxm::Code;
 use of_text::{Config, FillError, FlowText, GroupText, disassemble, texts_are_of_configs};
+use of_wire::number_at;
 use std::alloc::{AllocError, AllocFailed, Global};
 use thiserror::Error;
 
@@ -49,6 +50,18 @@ pub struct Import {
     pub kept: KeptLines,
     /// Tables that have another number, and that number.
     pub moves: Vec<(u8, u8)>,
+    /// How many flows have an action left out.
+    pub changed: usize,
+}
+
+/// The configuration of a table of Open vSwitch, and all its lines.
+#[derive(Drop)]
+pub struct ImportConfig {
+    pub config: Config,
+    /// Lines with words that are refused.
+    pub faults: Vec<LineFaults>,
+    /// Its groups and flows, and the lines that the switch refuses.
+    pub kept: KeptLines,
     /// How many flows have an action left out.
     pub changed: usize,
 }
@@ -164,15 +177,6 @@ fn take_flows(
     Ok(made)
 }
 
-fn line_of(lines: &[usize], place: usize) -> usize
-    ensures { result ≡ slice_index_or lines.now place 0 }
-{
-    match lines.get(place) {
-        Some(line) => *line,
-        None => 0,
-    }
-}
-
 // The configuration of groups and flows that come from these lines.
 fn configured(
     alloc: Global,
@@ -188,7 +192,7 @@ fn configured(
         Ok(config) => Ok(config),
         Err(FillError::NoMemory) => Err(ImportError::NoMemory),
         Err(FillError::Refused { place, code }) => Err(ImportError::Refused {
-            line: line_of(lines, place),
+            line: number_at(lines, place),
             code,
         }),
     }
@@ -369,6 +373,24 @@ pub fn import_tables(alloc: Global, text: &[u8], mode: Mode) -> Result<Import, I
             faults: begun.faults,
             kept: begun.kept,
             moves: begun.moves,
+            changed: begun.changed,
+        }),
+        Err(error) => Err(error),
+    }
+}
+
+/// The groups and flows of a table that `ovs-ofctl` printed or would read, as a configuration, without text: that of the text that
+/// [`import_text`] writes.
+pub fn import_config(alloc: Global, text: &[u8], mode: Mode) -> Result<ImportConfig, ImportError>
+    ensures found { IfOk result (λ r. IsImportConfig (lines_of text.now) mode r.config r.faults.items r.kept r.changed) }
+    ensures failed { IfErr result (NoImport (lines_of text.now) mode) }
+{
+    let begun = begin(alloc, text, mode)?;
+    match configure(alloc, &begun.kept.groups, &begun.kept.flows) {
+        Ok(config) => Ok(ImportConfig {
+            config,
+            faults: begun.faults,
+            kept: begun.kept,
             changed: begun.changed,
         }),
         Err(error) => Err(error),

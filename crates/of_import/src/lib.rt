@@ -16,7 +16,9 @@ mod partial_group;
 mod table_numbers;
 mod word_fault;
 
-pub use import::{Import, ImportError, ImportText, import_tables, import_text};
+pub use import::{
+    Import, ImportConfig, ImportError, ImportText, import_config, import_tables, import_text,
+};
 pub use kept::{KeptLines, LineRefusal};
 pub use laws::comments_change_nothing;
 pub use line::FlowMarks;

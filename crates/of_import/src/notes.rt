@@ -2,7 +2,7 @@
 ghost use Rattle.std.specs.Prelude.{◌≡◌, ◌++◌, ◌∷◌, filter, length, map, codes, IfOk, OnOk};
 ghost use Rattle.std.specs.List.{flat_map};
 ghost use Rattle.of_import.specs.KeptViews.{loses_action, view_kept, view_refusal};
-ghost use Rattle.of_import.specs.Notes.{left_out_action_words, comment, counter_note as counter_note_of, fault_words, is_changed as is_changed_line, mark_notes, notes_of, part_note, part_words, refusal_words, resubmit_note, shown as shown_byte, renumbered_table_words, word_after_space};
+ghost use Rattle.of_import.specs.Notes.{left_out_action_words, comment, counter_note as counter_note_of, fault_words, is_changed as is_changed_line, mark_notes, notes_of, part_note, part_words, refusal_words, resubmit_note, renumbered_table_words, word_after_space};
 ghost use Rattle.of_import.specs.ParsedLinesViews.{view_faults, view_flow_line};
 ghost use Rattle.of_import.specs.PartialFlowViews.{view_word_fault};
 
@@ -10,33 +10,14 @@ use crate::kept::{KeptLines, LineRefusal};
 use crate::parsed_lines::{FlowLine, LineFaults};
 use crate::word_fault::WordFault;
 use of_text::push_number;
+use of_values::push_printable;
 use std::alloc::{AllocError, Global};
-
-// A byte that is no printable character of ASCII is a question mark.
-fn shown(byte: u8) -> u8
-    ensures { result ≡ shown_byte byte }
-{
-    if (32..=126).contains(&byte) {
-        byte
-    } else {
-        b'?'
-    }
-}
-
-fn push_shown(out: &mut Vec<u8>, words: &[u8]) -> Result<(), AllocError>
-    ensures { OnOk result (out.new.items ≡ out.old.items ++ map shown_byte words.now) }
-{
-    for byte in words {
-        out.push(shown(*byte))?;
-    }
-    Ok(())
-}
 
 fn push_comment(out: &mut Vec<u8>, words: &[u8]) -> Result<(), AllocError>
     ensures { OnOk result (out.new.items ≡ out.old.items ++ comment words.now) }
 {
     out.extend_from_slice(b"# ")?;
-    push_shown(out, words)?;
+    push_printable(out, words)?;
     out.push(b'\n')?;
     Ok(())
 }

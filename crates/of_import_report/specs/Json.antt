@@ -3,7 +3,7 @@ use Rattle.std.specs.Prelude.{ℕ, ◌+◌, Bool, true, false, List, [], ◌∷�
 use Rattle.of_wire.specs.CodeNames.{error_name}
 use Rattle.of_text.specs.Lines.{lines_of}
 use Rattle.of_values.specs.Origins.{view_words}
-use Rattle.of_json.specs.Parts.{key, listed, match_object, number_member, quoted, text_member, truth}
+use Rattle.of_json.specs.Parts.{key, listed, match_object, number_member, quoted, text_member, truth_member}
 use Rattle.of_json.specs.Strings.{array_member, counters_member, string, string_of}
 use Rattle.of_import.specs.declared.word_fault.WordFault.{WordFault}
 use Rattle.of_import.specs.declared.parsed_lines.LineFaults.{LineFaults}
@@ -58,13 +58,10 @@ move_object m = 123 ∷ key (codes "from") ++ decimal m.0 ++ number_member (code
 unfoldable pub group_object : GroupLine → List ℕ
 group_object g = 123 ∷ import_line_member g.line ++ number_member (codes "group") g.group.head.id ++ 125 ∷ []
 
-unfoldable pub import_truth_member : List ℕ → Bool → List ℕ
-import_truth_member name b = 44 ∷ key name ++ truth b
-
 -- actions that are left out, and whether `resubmit` became GOTO_TABLE
 unfoldable pub marks_members : FlowMarks → List ℕ
 marks_members m =
-    counters_member (view_words m.counters.items) ++ array_member (codes "without") (listed string_of m.left.items) ++ import_truth_member (codes "resubmit") m.resubmits
+    counters_member (view_words m.counters.items) ++ array_member (codes "without") (listed string_of m.left.items) ++ truth_member (codes "resubmit") m.resubmits
 
 unfoldable pub import_entry_members : FlowLine → List ℕ
 import_entry_members f =
@@ -78,7 +75,7 @@ flow_object f = 123 ∷ import_entry_members f ++ marks_members f.marks ++ 125 �
 -- lines of the flow text
 
 unfoldable pub import_head_members : Bool → List ℕ
-import_head_members imported = key (codes "command") ++ quoted (codes "import") ++ import_truth_member (codes "imported") imported
+import_head_members imported = key (codes "command") ++ quoted (codes "import") ++ truth_member (codes "imported") imported
 
 unfoldable pub item_members : KeptLines → List ℕ
 item_members kept = array_member (codes "groups") (listed group_object kept.groups.items) ++ array_member (codes "flows") (listed flow_object kept.flows.items)

@@ -5,11 +5,12 @@ ghost use Rattle.of_json.specs.Parts.{listed};
 ghost use Rattle.of_json.specs.Strings.{array_member, string};
 ghost use Rattle.of_import_report.specs.Json.{count_member, import_head_members, import_json, lines_left_out as left_out_of, move_object, refused_json};
 
-use crate::items::{push_flag_member, push_item_members, push_move_object};
+use crate::items::{push_item_members, push_move_object};
 use crate::refusals::push_refused_members;
 use of_import::{Import, LineFaults, LineRefusal};
 use of_json::{
     begin_array, push_array_member, push_key, push_line_strings, push_number_member, push_quoted,
+    push_truth_member,
 };
 use std::alloc::{AllocError, Global};
 
@@ -19,7 +20,7 @@ fn push_head_members(out: &mut Vec<u8>, imported: bool) -> Result<(), AllocError
 {
     push_key(out, b"command")?;
     push_quoted(out, b"import")?;
-    push_flag_member(out, b"imported", imported)
+    push_truth_member(out, b"imported", imported)
 }
 
 /// How many lines are left out or lose an action.

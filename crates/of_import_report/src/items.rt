@@ -1,12 +1,12 @@
 //! New numbers of tables, groups and flows, as JSON.
 ghost use Rattle.std.specs.Prelude.{◌≡◌, ◌++◌, OnOk};
-ghost use Rattle.of_import_report.specs.Json.{flow_object, group_object, import_entry_members, import_truth_member, item_members, marks_members, move_object};
+ghost use Rattle.of_import_report.specs.Json.{flow_object, group_object, import_entry_members, item_members, marks_members, move_object};
 
 use crate::refusals::push_line_member;
 use of_import::{FlowLine, FlowMarks, GroupLine, KeptLines};
 use of_json::{
     push_array_member, push_counters_member, push_key, push_match_object, push_number_member,
-    push_string, push_truth,
+    push_string, push_truth_member,
 };
 use of_values::push_decimal;
 use std::alloc::AllocError;
@@ -35,16 +35,6 @@ fn push_group_object(out: &mut Vec<u8>, it: &GroupLine) -> Result<(), AllocError
     Ok(())
 }
 
-/// Appends a further member: true or false.
-#[tactic(auto, unfolding(crate::specs::Json::import_truth_member))]
-pub fn push_flag_member(out: &mut Vec<u8>, name: &[u8], flag: bool) -> Result<(), AllocError>
-    ensures { OnOk result (out.new.items ≡ out.old.items ++ import_truth_member name.now flag) }
-{
-    out.push(b',')?;
-    push_key(out, name)?;
-    push_truth(out, flag)
-}
-
 // Appends what a flow text does not have of a flow.
 #[tactic(auto, unfolding(crate::specs::Json::marks_members))]
 fn push_marks_members(out: &mut Vec<u8>, marks: &FlowMarks) -> Result<(), AllocError>
@@ -57,7 +47,7 @@ fn push_marks_members(out: &mut Vec<u8>, marks: &FlowMarks) -> Result<(), AllocE
         &marks.left,
         |out, word| push_string(out, word),
     )?;
-    push_flag_member(out, b"resubmit", marks.resubmits)
+    push_truth_member(out, b"resubmit", marks.resubmits)
 }
 
 // Appends what a flow entry is.

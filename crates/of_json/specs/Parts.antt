@@ -36,6 +36,9 @@ number_member name n = 44 ∷ key name ++ decimal n
 unfoldable pub text_member : List ℕ → List ℕ → List ℕ
 text_member name text = 44 ∷ key name ++ quoted text
 
+unfoldable pub truth_member : List ℕ → Bool → List ℕ
+truth_member name b = 44 ∷ key name ++ truth b
+
 -- ---- a match: an object with a member for each field, whose value is in words
 
 unfoldable pub match_member : MatchField → List ℕ

@@ -15,6 +15,6 @@ pub use listing::{push_array_member, push_listed};
 pub use matches::push_match_object;
 pub use parts::{
     push_bytes_member, push_hex_member, push_key, push_number_member, push_quoted,
-    push_text_member, push_truth,
+    push_text_member, push_truth, push_truth_member,
 };
 pub use strings::{begin_array, push_string, push_string_member};

@@ -2,7 +2,7 @@
 ghost use Rattle.std.specs.Prelude.{◌≡◌, ◌++◌, OnOk};
 ghost use Rattle.hex.specs.Hex.{encode_lower};
 ghost use Rattle.of_values.specs.Numbers.{hexadecimal};
-ghost use Rattle.of_json.specs.Parts.{key, number_member, quoted, text_member, truth as truth_of};
+ghost use Rattle.of_json.specs.Parts.{key, number_member, quoted, text_member, truth as truth_of, truth_member};
 
 use of_build::push_hex;
 use of_values::{push_decimal, push_hexadecimal};
@@ -56,6 +56,16 @@ pub fn push_text_member(out: &mut Vec<u8>, name: &[u8], text: &[u8]) -> Result<(
     out.push(b',')?;
     push_key(out, name)?;
     push_quoted(out, text)
+}
+
+/// Appends a further member: true or false.
+#[tactic(auto, unfolding(crate::specs::Parts::truth_member))]
+pub fn push_truth_member(out: &mut Vec<u8>, name: &[u8], truth: bool) -> Result<(), AllocError>
+    ensures { OnOk result (out.new.items ≡ out.old.items ++ truth_member name.now truth) }
+{
+    out.push(b',')?;
+    push_key(out, name)?;
+    push_truth(out, truth)
 }
 
 /// Appends a further member: a number in a string, in hexadecimal.

@@ -73,9 +73,6 @@ greets k = refl
 abbrev pub Leads : List Event → State → State → Type 0
 Leads es s t = run es s ≡ record { reports = replicate (length es) (Gives []); state = t }
 
-leads_none : (s : State) → Leads [] s s
-leads_none s = refl
-
 pub leads_first : (e : Event) (es : List Event) (s t u : State) → happened e s ≡ record { report = Gives []; state = t } → Leads es t u → Leads (e ∷ es) s u
 leads_first e es s t u first others =
     ap (λ (h : Happened). record { reports = h.report ∷ (run es h.state).reports; state = (run es h.state).state }) first

@@ -47,7 +47,7 @@ use Rattle.of_laws.proofs.FlowsAdded.{AreSent, IsSent, flow_events, flows_lead, 
 use Rattle.of_laws.proofs.GroupsAdded.{AreSentGroups, IsSentGroup, group_events, groups_lead, groups_shown}
 use Rattle.of_laws.proofs.StreamMessages.{built}
 use Rattle.of_laws.proofs.Chunks.{Leads, greets, leads_first, ready}
-use Rattle.of_laws.proofs.EventRowsRead.{IsShown, Means, means_connect, means_chunk}
+use Rattle.of_replay.proofs.EventRowsRead.{IsShown, Means, means_connect, means_chunk}
 
 -- ---- the groups of a configuration
 

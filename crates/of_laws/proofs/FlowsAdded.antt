@@ -42,7 +42,7 @@ use Rattle.of_laws.proofs.ByteLemmas.{flow_mod_are_bytes}
 use Rattle.of_laws.proofs.FlowAgain.{flow_mod_again}
 use Rattle.of_laws.proofs.StreamMessages.{built, one_message}
 use Rattle.of_laws.proofs.Chunks.{Leads, handles, leads_first, ready}
-use Rattle.of_laws.proofs.EventRowsRead.{IsShown, Means, means_end, means_chunk}
+use Rattle.of_replay.proofs.EventRowsRead.{IsShown, Means, means_end, means_chunk}
 
 -- ---- flags: 2 asks for a check
 

@@ -39,7 +39,7 @@ use Rattle.of_laws.proofs.ByteLemmas.{group_add_are_bytes}
 use Rattle.of_laws.proofs.StreamMessages.{built, one_message}
 use Rattle.of_laws.proofs.Chunks.{Leads, handles, leads_first, ready}
 use Rattle.of_laws.proofs.Present.{all_kept, all_present, chain_among, comes_in, find_both, found_in_all, length_kept, next_present, none_as_high, none_present, not_found, not_yet, passed_over, present, rising_parts, shorter_found, stands_between}
-use Rattle.of_laws.proofs.EventRowsRead.{IsShown, Means, means_chunk}
+use Rattle.of_replay.proofs.EventRowsRead.{IsShown, Means, means_chunk}
 
 -- ---- a group that may be sent
 

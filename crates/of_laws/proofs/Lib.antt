@@ -32,7 +32,6 @@ mod OneReplyRow
 mod OneReplyGroup
 mod OneReply
 mod AnyMessage
-mod EventRowsRead
 pub mod Chunks
 mod ByteLemmas
 mod FlowAgain
@@ -41,7 +40,6 @@ pub mod FlowsAdded
 pub mod Present
 pub mod GroupsAdded
 mod ComingBack
-mod EventRowsWritten
 mod Refusing
 mod RefusingFlows
 mod RefusingMessages

@@ -1,5 +1,5 @@
 -- A FLOW_MOD of a flow of a text is refused with the text's code.
-use Rattle.std.proofs.Common.{◌≡◌, ℕ, ◌+◌, ◌-◌, ◌%◌, ◌^◌, ◌<◌, Bool, true, false, not, eqb, cond, List, [], ◌∷◌, ◌++◌, length, map, take, drop, Option, Some, None, Result, Ok, Err, refl, sym, ap, ◌∙◌, arith}
+use Rattle.std.proofs.Common.{◌≡◌, ℕ, ◌+◌, ◌-◌, ◌%◌, ◌^◌, ◌<◌, Bool, true, false, not, eqb, List, [], ◌∷◌, ◌++◌, length, map, take, drop, Option, Some, None, Result, Ok, Err, refl, sym, ap, ◌∙◌, arith}
 use Rattle.std.specs.Prelude.{replicate}
 use Rattle.std.specs.List.{AllByRecursion, flat_map, list_all}
 use Rattle.std.proofs.lemmas.Bool.Decides.{nat_tests, eqb_tells}
@@ -63,9 +63,6 @@ next_refusals table clear = []
 
 unfoldable own_header : ℕ → List Header → Header → List (Bool × Code)
 own_header table seen h = next_refusals table h
-
-own_goto : (table to : ℕ) → first_of (next_refusals table (goto to)) ≡ cond (not (is_next table to)) (Some (refusal 3 2)) None
-own_goto table to = refl
 
 goto_step : (table to : ℕ) (seen : List Header) (x : List ℕ) → is_used kind_of 1 seen ≡ false → IsStep (headers_of table) text_of (own_header table) seen (goto to) x
 unfolding text_of header_at own_header

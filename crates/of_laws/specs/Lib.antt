@@ -12,5 +12,4 @@ pub mod Replied
 pub mod Shown
 pub mod AnyMessage
 pub mod RoundTrip
-pub mod RowText
 pub mod Refused

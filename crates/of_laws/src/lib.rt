@@ -21,9 +21,7 @@ pub use messages::{
 pub use replies::{
     no_message_begins_another, no_reply_begins_another, one_reply, written_replies_are_encoded,
 };
-pub use round_trip::{
-    dis_undoes_asm, text_comes_back, texts_are_refused_as_messages, written_rows_are_read,
-};
+pub use round_trip::{dis_undoes_asm, text_comes_back, texts_are_refused_as_messages};
 pub use written_messages::{
     written_flow_mod_is_encoded, written_group_mod_is_encoded, written_is_told,
 };

@@ -1,4 +1,4 @@
-//! Laws of the round trip of flow texts, by the file that `asm` writes, and of the rows of such files.
+//! Laws of the round trip of flow texts, by the file that `asm` writes.
 ghost use Rattle.std.specs.Prelude.{◌≡◌, ◌<◌, ◌++◌, ℕ, List, length, None, Option, Some, false, true};
 ghost use Rattle.std.specs.List.{AllByRecursion, flat_map};
 ghost use Rattle.of_wire.specs.Items.{outcome};
@@ -29,11 +29,9 @@ ghost use Rattle.of_text.specs.Lines.{lines_of as text_lines};
 ghost use Rattle.of_replay.specs.Lexing.{lines_of_file};
 ghost use Rattle.of_replay.specs.FileRuns.{state_after_rows, switch_text};
 ghost use Rattle.of_replay.specs.Play.{lines_read};
-ghost use Rattle.of_switch.specs.declared.event.Event.{Event};
-ghost use Rattle.of_replay.specs.Rows.{events_in, row_of_line, rows_of_lines};
+ghost use Rattle.of_replay.specs.Rows.{rows_of_lines};
 ghost use Rattle.of_laws.specs.RoundTrip.{ComesBack};
 ghost use Rattle.of_laws.specs.Refused.{InstructionFits, IsSaid, IsSaidGroup, group_outcome, match_outcome, message_outcome, said_refusals};
-ghost use Rattle.of_laws.specs.RowText.{HasLine, file_text, row_text};
 
 /// The file that is built of a flow text, run on a new switch with any datapath_id, ends with the configuration that the text encodes.
 ///
@@ -48,14 +46,6 @@ pub fn dis_undoes_asm()
     ensures good { (text file : List ℕ) → BuildsOf text file → (rows_of_lines (lines_read true file)).bad ≡ None }
     ensures canonical { (text file : List ℕ) (config : Configuration) → BuildsOf text file → EncodeConfig (text_lines text) config →
         switch_text (state_after_rows (rows_of_lines (lines_read true file))) ≡ config_text config }
-{}
-
-/// The text of each row of an event file is read as that row, if it is no longer than a line may be; and the text of a file of
-/// such rows as their events, in their order.
-pub fn written_rows_are_read()
-    ensures row { (row : Option Event) → HasLine row → row_of_line (row_text row) ≡ Some row }
-    ensures file { (rows : List (Option Event)) → AllByRecursion HasLine rows →
-        rows_of_lines (lines_of_file (file_text rows)) ≡ record { events = flat_map events_in rows; bad = None } }
 {}
 
 /// What is written of a flow text is refused for the text's first refusal, and else read: lists of actions, matches and

@@ -1,2 +1,3 @@
 pub mod LeavingWords
 pub mod LeavingJson
+pub mod UndecidedWords

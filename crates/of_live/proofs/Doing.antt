@@ -11,7 +11,7 @@ use Rattle.of_switch.specs.declared.event.Report.{Report as Reported}
 use Rattle.of_switch.specs.State.{State}
 use Rattle.of_switch.specs.Runs.{Report, Gives, IsRefused, Run, run, happened, effects_in, report_of, reports_of}
 use Rattle.of_serve.specs.Turns.{answer_in, report_effects}
-use Rattle.of_laws.specs.RowText.{row_text}
+use Rattle.of_replay.specs.WrittenRows.{row_text}
 use Rattle.std.proofs.Common.{Option}
 use Rattle.of_network.specs.declared.peers.Peer.{Peer}
 use Rattle.of_network.specs.Acts.{Act, Records}

@@ -1,16 +1,15 @@
 -- Turns, one after the other, and how they end.
-use Rattle.std.proofs.Common.{◌≡◌, ◌<◌, ◌+◌, ◌∙◌, ℕ, List, [], ◌∷◌, ◌++◌, Bool, Option, Result, Ok, Err, Some, None as Nobody, ap, refl, sym, subst, inl, inr}
-use Rattle.of_replay.specs.declared.event_file.Ended.{Ended}
-use Rattle.of_replay.specs.declared.event_file.Ended.TheVariants.{Done, NoMemory}
+use Rattle.std.proofs.Common.{◌≡◌, ◌<◌, ◌+◌, ◌∙◌, ℕ, List, Bool, Option, Err, ap, refl, sym, subst, inl}
+use Rattle.of_replay.specs.declared.event_file.Ended.TheVariants.{Done}
 use Rattle.of_replay.specs.declared.halt.Halt.{Halt}
 use Rattle.of_replay.specs.declared.halt.Halt.TheVariants.{Bad, Memory, Read, Write}
 use Rattle.of_replay.specs.Stepping.{ended_so}
 use Rattle.of_live.specs.Live.{Live}
 use Rattle.of_network.specs.Acts.{Act, Records}
-use Rattle.of_live.specs.Turns.{LiveTurns, None, Then, AreLiveTurns, turn_acts, live_turn_count, passed, after_live_turns}
-use Rattle.of_live.specs.Working.{Goes, GoesOn, LiveHalts}
-use Rattle.of_live.specs.Ends.{LiveEndsSo, Lives}
-use Rattle.of_live.proofs.Passing.{records_as, records_more, records_none}
+use Rattle.of_live.specs.Turns.{LiveTurns, None, Then, AreLiveTurns, live_turn_count, passed, after_live_turns}
+use Rattle.of_live.specs.Working.{GoesOn, LiveHalts}
+use Rattle.of_live.specs.Ends.{Lives}
+use Rattle.of_live.proofs.Passing.{records_more, records_none}
 
 -- so many turns passed
 pub record SoFar (n : ℕ) (keeps : Bool) (l l' : Live) (old new : Option (List Act)) : Type 0 where
@@ -50,6 +49,3 @@ lives_until halt n turns keeps k l l1 l2 a b c so lt ke h =
     halted Memory h = record { ts = so.ts; are = so.are; ends = inl (few, (h.0, h.1, records_more a b c _ _ so.told_is h.2)) }
     halted Read h = record { ts = so.ts; are = so.are; ends = (few, h.0, records_more a b c _ _ so.told_is h.1) }
     halted Write h = record { ts = so.ts; are = so.are; ends = (few, h.0, (h.1.0, records_more a b c _ _ so.told_is h.1.1)) }
-
-pub lives_not : (turns : ℕ) (keeps : Bool) (l l' : Live) (a : Option (List Act)) → Lives NoMemory turns keeps l l' a a
-lives_not turns keeps l l' a = record { ts = None; are = tt; ends = inr (refl, refl) }

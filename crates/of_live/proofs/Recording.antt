@@ -13,7 +13,7 @@ use Rattle.of_switch.specs.Steps.{lost}
 use Rattle.of_switch.specs.Runs.{Report, Gives, IsRefused, Run, run, effects_in}
 use Rattle.of_replay.specs.Lexing.{lines_of_file}
 use Rattle.of_replay.specs.Rows.{Rows, rows_of_lines, events_in as row_events}
-use Rattle.of_laws.specs.RowText.{HasLine, file_text, row_text}
+use Rattle.of_replay.specs.WrittenRows.{HasLine, file_text, row_text}
 use Rattle.of_network.specs.Inputs.{Came, Time, Datagram}
 use Rattle.of_network.specs.Peers.{peer_of}
 use Rattle.of_live.specs.Live.{Live, begun, coming_events, events_of, is_lost_first, loss, peers_of, received_datagram}

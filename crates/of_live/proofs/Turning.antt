@@ -1,21 +1,20 @@
 -- A turn, from its parts.
-use Rattle.std.proofs.Common.{◌≡◌, ◌≤◌, ◌∙◌, ℕ, List, [], ◌∷◌, ◌++◌, length, Bool, true, false, Option, Result, Ok, Err, Some, ap, refl, sym, subst, arith, append_assoc, rules}
-use Rattle.std.specs.Prelude.{◌&&◌, ◌||◌, ◌==◌, if◌then◌else◌}
+use Rattle.std.proofs.Common.{◌≡◌, ◌∙◌, ℕ, List, [], ◌∷◌, ◌++◌, length, Bool, true, false, Option, Result, Ok, Err, Some, ap, refl, sym, subst, arith, append_assoc}
+use Rattle.std.specs.Prelude.{◌==◌, if◌then◌else◌}
 use Rattle.std.proofs.lemmas.Bool.Decides.{nat_tests}
 use Rattle.std.specs.List.{flat_map}
-use Rattle.of_datapath.specs.declared.effect.Effect.{Effect}
 use Rattle.of_switch.specs.Runs.{effects_in}
 use Rattle.of_network.specs.declared.peers.Peer.{Peer}
 use Rattle.of_replay.specs.declared.halt.Halt.{Halt}
 use Rattle.of_replay.specs.declared.halt.Halt.TheVariants.{Bad, Memory, Read, Write}
 use Rattle.of_switch.specs.declared.event.Event.{Event}
-use Rattle.of_laws.specs.RowText.{row_text}
+use Rattle.of_replay.specs.WrittenRows.{row_text}
 use Rattle.of_live.specs.declared.state.Asks.{Asks}
 use Rattle.of_network.specs.Inputs.{Came, Fault, Time, is_fault}
 use Rattle.of_live.specs.Live.{Live, events_of}
 use Rattle.of_network.specs.Acts.{Act, Records, Told, Logs}
-use Rattle.of_live.specs.Turns.{LiveTurn, turn_acts, after_live_turn, closes, drops, is_closed, logs, offered, results, rows_text, sent_acts, sent_in, writes}
-use Rattle.of_live.specs.Working.{Goes, Hears, Passes, Settles, LiveWork, asks_of, after_closing, is_closing, after_hearing, logged, offered_acts, offered_to, offers, logged_text}
+use Rattle.of_live.specs.Turns.{LiveTurn, closes, drops, is_closed, logs, rows_text, sent_acts, sent_in, writes}
+use Rattle.of_live.specs.Working.{Goes, Hears, Passes, Settles, LiveWork, asks_of, after_hearing, logged, logged_text}
 use Rattle.of_live.proofs.Passing.{records_as, records_more}
 
 -- THE ROWS
@@ -84,9 +83,6 @@ fault_is : (came : Came) → is_fault came ≡ true → came ≡ Fault
 fault_is Fault e = refl
 fault_is (Time now) e = cc
 fault_is other e = cc
-
-pub goes_fault : (came : Came) (keeps : Bool) (l : Live) (a b : Option (List Act)) → is_fault came ≡ true → Records a (Told came ∷ []) b → Goes (Err Read) keeps l l a b
-goes_fault came keeps l a b e r = (refl, subst (λ x. Records a (Told x ∷ []) b) (fault_is came e) r)
 
 pub goes : (result : Result (Unit {0}) Halt) (came : Came) (keeps : Bool) (l l' : Live) (a b c : Option (List Act)) → is_fault came ≡ false → Records a (Told came ∷ []) b
     → Passes result keeps came l l' b c → Goes result keeps l l' a c

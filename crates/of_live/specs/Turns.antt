@@ -9,7 +9,7 @@ use Rattle.of_switch.specs.declared.event.Event.{Event}
 use Rattle.of_switch.specs.State.{State}
 use Rattle.of_switch.specs.Runs.{Run, run, effects_in}
 use Rattle.of_serve.specs.Turns.{answer_in}
-use Rattle.of_laws.specs.RowText.{file_text}
+use Rattle.of_replay.specs.WrittenRows.{file_text}
 use Rattle.of_network.specs.declared.network.Dropped.{Dropped}
 use Rattle.of_network.specs.declared.network.Dropped.TheVariants as dropped
 use Rattle.of_network.specs.declared.peers.Peer.{Peer}

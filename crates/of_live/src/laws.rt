@@ -4,12 +4,12 @@ ghost use Rattle.std.specs.List.{AllByRecursion};
 ghost use Rattle.of_switch.specs.Runs.{effects_in, run};
 ghost use Rattle.of_replay.specs.Lexing.{lines_of_file};
 ghost use Rattle.of_replay.specs.Rows.{rows_of_lines};
-ghost use Rattle.of_laws.specs.RowText.{HasLine};
+ghost use Rattle.of_replay.specs.WrittenRows.{HasLine};
 ghost use Rattle.of_live.specs.Live.{Live};
 ghost use Rattle.of_live.specs.Turns.{LiveTurns, passed, rows_text, after_live_turns};
 ghost use Rattle.of_live.specs.Recorded.{effects, events, log_of};
 
-use of_laws::written_rows_are_read;
+use of_replay::written_rows_are_read;
 
 /// What happens to a switch on a network, and what that gives, is the run of one list of events: those of its turns, in order.
 pub fn turns_are_a_run()

@@ -1,5 +1,5 @@
 -- An entry comes, or goes: from the groups as they were to the groups as they are.
-use Rattle.std.proofs.Common.{◌≡◌, ℕ, ◌+◌, false, List, [], ◌∷◌, ◌++◌, Option, Some, None, refl, sym, ◌∙◌, ap, subst, arith, ⊎_elim}
+use Rattle.std.proofs.Common.{◌≡◌, ℕ, ◌+◌, false, List, [], ◌∷◌, ◌++◌, Option, Some, None, refl, sym, ◌∙◌, ap, subst, arith}
 use Rattle.std.specs.Prelude.{Result, Ok, Err, IfOk, OnErr, slice_index_or}
 use Rattle.slab.specs.Slab.{Slab, get, Updates}
 use Rattle.of_layers.specs.declared.field.Field.{Field}
@@ -9,7 +9,7 @@ use Rattle.of_oxm.specs.declared.masks.FieldMask.{FieldMask}
 use Rattle.of_oxm.specs.Masks.{looked_at, value_of, mask_at}
 use Rattle.of_mask_groups.specs.declared.entry.Entry.{Entry}
 use Rattle.of_mask_groups.specs.declared.group.Group.{Group}
-use Rattle.of_mask_groups.specs.Grouping.{LooksLike, AsksFor, AreGrouped, HasSameMask, AreSplit, HasMore, IsIn}
+use Rattle.of_mask_groups.specs.Grouping.{LooksLike, AsksFor, AreGrouped, HasSameMask, HasMore}
 use Rattle.of_wire.specs.Numbered.{is_used}
 use Rattle.of_classifier.specs.declared.Row.{Row}
 use Rattle.of_classifier.specs.Rows.{row_number}
@@ -30,13 +30,6 @@ asks_by key e h = record { values = h }
 
 pub some_more : (g h : Group) (d p n : ℕ) → HasMore g h d p n → h.ranks.keys ≡ [] → ⊥
 some_more g h d p n m none = no_rank h.ranks p n none m.itself
-
--- an entry is in the group of its mask that is taken out
-pub in_split : (entries : Slab Entry) (gs : List Group) (g : Group) (n : ℕ) (e : Entry) → AreSplit entries gs g → get entries n ≡ Some e → LooksLike g e → IsIn g n e
-in_split entries gs g n e a s l = ⊎_elim (λ x. absurd (a.differs x.group x.there (λ f. x.within.looks.bits f ∙ sym (l.bits f)))) (λ x. x) (a.complete n e s)
-
-pub some_split : (entries : Slab Entry) (gs : List Group) (g : Group) (n : ℕ) (e : Entry) → AreSplit entries gs g → get entries n ≡ Some e → LooksLike g e → g.ranks.keys ≡ [] → ⊥
-some_split entries gs g n e a s l none = no_rank g.ranks e.priority n none (in_split entries gs g n e a s l).ranked
 
 -- ---- a slab with the same slots
 

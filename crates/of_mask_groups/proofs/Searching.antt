@@ -1,7 +1,7 @@
 -- The walk over the groups: the best so far, and the winner at its end.
 use Rattle.std.proofs.Common.{◌≡◌, ℕ, ◌+◌, ◌<◌, ◌≤◌, true, false, Option, Some, None, List, [], length, get_or, take, take_all, refl, sym, ◌∙◌, ap, subst, arith, ⊎_elim}
 use Rattle.std.specs.List.{Contains}
-use Rattle.std.proofs.lemmas.List.{length-take, length-take-le}
+use Rattle.std.proofs.lemmas.List.{length-take-le}
 use Rattle.std.proofs.lemmas.Bool.Decides.{nat_tests}
 use Rattle.slab.specs.Slab.{Slab, get}
 use Rattle.of_layers.specs.declared.field.Field.{Field}
@@ -76,7 +76,3 @@ pub all_probes : (groups : List Group) (i probes : ℕ) → length groups ≤ i 
 all_probes groups i probes le count =
     let all : take i groups ≡ groups = take_all i groups le in
     all ∙ sym (take_all probes groups (omega (arith, count, ap length all)))
-
--- and no more than there are
-pub probes_within : (groups : List Group) (probes : ℕ) → probes ≡ length (take probes groups) → probes ≤ length groups
-probes_within groups probes count = omega (arith, count, length-take probes groups)

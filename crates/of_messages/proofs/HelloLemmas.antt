@@ -68,12 +68,6 @@ no_more body rest l e = l.same ∙ ap (find is_bitmap) (one_turn (length rest) r
 by_first : (element : List ℕ) (later : List (List ℕ)) (b : Bool) → is_bitmap element ≡ b → find is_bitmap (element ∷ later) ≡ cond b (Some element) (find is_bitmap later)
 by_first element later b e = rw e refl
 
-pub is_here : (body rest element : List ℕ) → Left body rest → no_element rest ≡ false → element ≡ take (element_length rest) rest → is_bitmap element ≡ true → find is_bitmap (elements_of body) ≡ Some element
-is_here body rest element l e is here =
-    let later = elements_among (length (behind_element rest)) (behind_element rest) in
-    let turn : elements_among (length rest) rest ≡ element ∷ later = one_turn (length rest) rest false e (omega arith) ∙ ap (λ (x : List ℕ). x ∷ later) (sym is) in
-    l.same ∙ ap (find is_bitmap) turn ∙ by_first element later true here
-
 pub goes_on : (body rest element after : List ℕ) → Left body rest → no_element rest ≡ false → element ≡ take (element_length rest) rest → is_bitmap element ≡ false → after ≡ behind_element rest → Left body after
 goes_on body rest element after l e is other next =
     let later = elements_among (length (behind_element rest)) (behind_element rest) in

@@ -53,7 +53,8 @@ pub(crate) fn read_async_masks(message: &[u8]) -> AsyncMasks
     }
 }
 
-fn put_role_masks(out: &mut Vec<u8>, masks: RoleMasks) -> Result<(), AllocError>
+/// Appends the masks for a master and for a slave (OpenFlow 1.3.5, 7.3.10).
+pub fn put_role_masks(out: &mut Vec<u8>, masks: RoleMasks) -> Result<(), AllocError>
     ensures { OnOk result (out.new.items ≡ out.old.items ++ (big_bytes 4 masks.master ++ big_bytes 4 masks.slave)) }
 {
     put_u32(out, masks.master)?;

@@ -20,7 +20,7 @@ mod reading;
 mod role;
 mod writing;
 
-pub use async_masks::{AsyncMasks, RoleMasks, write_async_reply};
+pub use async_masks::{AsyncMasks, RoleMasks, put_role_masks, write_async_reply};
 pub use config::{SwitchConfig, TableMod, write_config_reply};
 pub use features::write_features_reply;
 pub use flow_mod_writing::write_flow_mod;
@@ -35,7 +35,7 @@ pub use multipart::{FlowStatsRequest, MultipartRequest};
 pub use of_wire::{FlowRemovedReason, PacketInReason};
 pub use port_mod::{PortDescription, PortMod, PortStatusReason};
 pub use port_status::{put_port, write_port_status};
-pub use reading::{read_message, read_message_as};
+pub use reading::{is_ingress, read_message, read_message_as};
 pub use role::{Role, RoleRequest, write_role_reply};
 pub use writing::{
     write_barrier_reply, write_echo_reply, write_error, write_flow_removed, write_hello,

@@ -111,7 +111,8 @@ fn read_flow_mod(alloc: Global, message: &[u8]) -> Result<FlowMod, ReadError>
     })
 }
 
-fn is_ingress(port: u32) -> bool
+/// Whether a PACKET_OUT may have this ingress port (OpenFlow 1.3.5, 7.3.7).
+pub fn is_ingress(port: u32) -> bool
     ensures { result ≡ may_be_ingress port }
 {
     is_number(port) || port == OFPP_CONTROLLER

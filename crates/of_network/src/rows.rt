@@ -1,6 +1,6 @@
 //! The rows of events, as an event file has them.
 ghost use Rattle.std.specs.Prelude.{◌≡◌, ◌++◌, ◌∷◌, [], OnOk, Some, decimal};
-ghost use Rattle.of_laws.specs.RowText.{bytes_word, change_words, name_word, row_text, state_word};
+ghost use Rattle.of_replay.specs.WrittenRows.{bytes_word, change_words, name_word, row_text, state_word};
 ghost use Rattle.of_lines.specs.Lines.{joined};
 ghost use Rattle.of_switch.specs.declared.event.Event.TheVariants.{Frame};
 ghost use Rattle.hex.specs.Hex.{encode_lower};

@@ -1,5 +1,5 @@
 -- What a match matches, covers and overlaps (OpenFlow 1.3.5, 5.3 and 6.4). A field map has for each field a value or none.
-use Rattle.std.specs.Prelude.{ℕ, ◌≤◌, Bool, false, not, ◌==◌, ◌&&◌, ◌||◌, List, Option, Some, None, bit_and, unwrap_or, IfSome}
+use Rattle.std.specs.Prelude.{ℕ, ◌≤◌, Bool, false, not, ◌==◌, ◌&&◌, ◌||◌, List, find, Option, Some, None, bit_and, unwrap_or, IfSome}
 use Rattle.std.specs.List.{list_any, list_all}
 use Rattle.of_layers.specs.declared.field.Field.{Field}
 use Rattle.of_layers.specs.Fields.{number_of, ones_of}
@@ -16,6 +16,10 @@ bits_looked_at e = unwrap_or e.mask (ones_of e.field)
 abbrev pub agrees : MatchField → Option ℕ → Bool
 agrees e None = false
 agrees e (Some v) = bit_and v (bits_looked_at e) == e.value
+
+-- the first field of a match that does not agree with those of a packet
+abbrev pub first_difference : List MatchField → (Field → Option ℕ) → Option MatchField
+first_difference fields map = find (λ e. not (agrees e (map e.field))) fields
 
 -- each field of the match is in the map and agrees with its value under its mask
 abbrev pub matches_map : List MatchField → (Field → Option ℕ) → Bool

@@ -31,7 +31,8 @@ impl Model for Match {
     ghost invariant = { λ m. IsMatch m.fields.items };
 }
 
-fn same_fields(xs: &[MatchField], ys: &[MatchField]) -> bool
+/// Whether two lists of fields are equal.
+pub fn same_fields(xs: &[MatchField], ys: &[MatchField]) -> bool
     ensures same { IsTrue result ↔ (xs.now ≡ ys.now) }
     ensures value { result ≡ is_same_match xs.now ys.now }
 {

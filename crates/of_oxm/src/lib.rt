@@ -11,14 +11,14 @@ mod reading;
 mod relations;
 mod writing;
 
-pub use flow_match::Match;
+pub use flow_match::{Match, same_fields};
 pub use masks::{FieldMask, agreeing_match_alike, key_of, mask_of, matched_is_seen};
 pub use match_field::MatchField;
 pub use of_wire::{Code, ReadError};
 pub use prerequisites::{is_met, prerequisites_met};
 pub use reading::{one_code, one_encoding, read_match};
 pub use relations::{
-    bits_of, covered_has_prerequisites, covered_is_matched, covers, matched_is_covered, matches,
-    normal_form_is_meant, overlap_is_common_match, overlaps,
+    agrees, bits_of, covered_has_prerequisites, covered_is_matched, covers, first_difference,
+    matched_is_covered, matches, normal_form_is_meant, overlap_is_common_match, overlaps,
 };
 pub use writing::{put_match, write_match};

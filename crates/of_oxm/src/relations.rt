@@ -2,8 +2,9 @@
 
 ghost use Rattle.std.specs.Prelude.{◌≡◌, ℕ, List, Option, true};
 ghost use Rattle.std.specs.List.{list_any, list_all};
+ghost use Rattle.std.specs.Option.{option_copied};
 ghost use Rattle.of_headers.specs.FieldMap.{value};
-ghost use Rattle.of_oxm.specs.Relations.{bits_looked_at, agrees as agrees_with, is_within as within, can_both as both_can, IsWithinBits, matches_map, covers_match, overlaps_match};
+ghost use Rattle.of_oxm.specs.Relations.{bits_looked_at, agrees as agrees_with, first_difference as first_missed, is_within as within, can_both as both_can, IsWithinBits, matches_map, covers_match, overlaps_match};
 ghost use Rattle.of_oxm.specs.NormalForm.{IsMatch, normal};
 ghost use Rattle.of_oxm.specs.Meaning.{are_met};
 ghost use Rattle.of_oxm.specs.Prerequisites.{is_met};
@@ -25,13 +26,21 @@ pub fn bits_of(e: &MatchField) -> u128
     }
 }
 
-fn agrees(e: &MatchField, value: Option<u128>) -> bool
+/// Whether a field of a match agrees with a value, or with its absence.
+pub fn agrees(e: &MatchField, value: Option<u128>) -> bool
     ensures { result ≡ agrees_with e.now value }
 {
     match value {
         None => false,
         Some(value) => value & bits_of(e) == e.value,
     }
+}
+
+/// The first field that does not agree with that of a packet.
+pub fn first_difference<'a>(fields: &'a [MatchField], key: &FieldKey) -> Option<&'a MatchField>
+    ensures { option_copied result ≡ first_missed fields.now (value key.now) }
+{
+    fields.iter().find(|e| !agrees(e, key.get(e.field)))
 }
 
 fn is_within(x: &MatchField, y: &MatchField) -> bool

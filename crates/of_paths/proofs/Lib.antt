@@ -2,4 +2,3 @@ mod WayLemmas
 pub mod TakenLemmas
 pub mod FoundLemmas
 pub mod SoFarLemmas
-pub mod ConditionLemmas

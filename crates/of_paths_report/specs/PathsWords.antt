@@ -10,6 +10,7 @@ use Rattle.of_datapath.specs.DryRun.{steps_in}
 use Rattle.of_trace.specs.Text.{step_line}
 use Rattle.of_trace.specs.Words.{heading}
 use Rattle.of_leaving.specs.LeavingWords.{frame_line, side_words}
+use Rattle.of_leaving.specs.UndecidedWords.{undecided_count, undecided_sets}
 use Rattle.of_paths.specs.declared.path.Path.{Path}
 use Rattle.of_paths.specs.declared.path.PathClass.{PathClass}
 use Rattle.of_paths.specs.declared.path.Paths.{Paths}
@@ -77,14 +78,8 @@ why_said UnknownTag = codes "a lookup asks what is not known of a VLAN tag"
 why_said Steps = codes "the runs took as many steps as they may (--steps)"
 why_said Search = codes "the search for a frame took as many steps as it may, or found none with a port of the switch"
 
-abbrev pub frames_said : ℕ → List ℕ
-frames_said n = if n == 1 then codes " set of frames: " else codes " sets of frames: "
-
-unfoldable pub counted_frames : ℕ → List ℕ
-counted_frames n = codes "undecided: " ++ decimal n ++ frames_said n
-
 unfoldable pub frames_line : ℕ → WhyUndecided → List ℕ
-frames_line n why = if n == 0 then [] else counted_frames n ++ why_said why ++ 10 ∷ []
+frames_line n why = if n == 0 then [] else undecided_sets n ++ why_said why ++ 10 ∷ []
 
 unfoldable pub undecided_frames_words : List UndecidedFrames → List ℕ
 undecided_frames_words undecided =
@@ -99,11 +94,8 @@ shown_count (Some to) classes = decimal (length (filter (is_class_leading to) cl
 abbrev pub path_count : ℕ → List ℕ
 path_count n = decimal n ++ (if n == 1 then codes " path" else codes " paths")
 
-abbrev pub left_undecided : ℕ → List ℕ
-left_undecided n = if n == 0 then [] else codes ", " ++ decimal n ++ codes " undecided"
-
 unfoldable pub path_summary : Option Destination → Paths → List ℕ
-path_summary to found = shown_count to found.classes.items ++ path_count (length found.classes.items) ++ left_undecided (length found.undecided.items) ++ 10 ∷ []
+path_summary to found = shown_count to found.classes.items ++ path_count (length found.classes.items) ++ undecided_count (length found.undecided.items) ++ 10 ∷ []
 
 -- THE REPORT
 unfoldable pub paths_words : Forwarding → Option Destination → Paths → List ℕ

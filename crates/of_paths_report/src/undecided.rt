@@ -1,8 +1,9 @@
 //! Frames of which it is not known which steps they take, and the summary, in words.
 ghost use Rattle.std.specs.Prelude.{◌≡◌, ◌++◌, OnOk};
-ghost use Rattle.of_paths_report.specs.PathsWords.{count_frames, counted_frames, frames_line, frames_said, is_why_undecided, left_undecided, path_count, path_summary, shown_count, undecided_frames_words, why_said};
+ghost use Rattle.of_paths_report.specs.PathsWords.{count_frames, frames_line, is_why_undecided, path_count, path_summary, shown_count, undecided_frames_words, why_said};
 
 use crate::destination::{Destination, count_leading};
+use of_leaving::{push_undecided_count, push_undecided_sets};
 use of_paths::{PathClass, Paths, UndecidedFrames, WhyUndecided};
 use of_values::push_decimal;
 use std::alloc::AllocError;
@@ -33,26 +34,6 @@ fn why_in_words(why: WhyUndecided) -> &'static [u8]
     }
 }
 
-fn sets_in_words(count: usize) -> &'static [u8]
-    ensures { result.now ≡ frames_said count }
-{
-    if count == 1 {
-        b" set of frames: "
-    } else {
-        b" sets of frames: "
-    }
-}
-
-// Appends how many sets of frames are undecided.
-#[tactic(auto, unfolding(crate::specs::PathsWords::counted_frames))]
-fn push_counted_frames(out: &mut Vec<u8>, count: usize) -> Result<(), AllocError>
-    ensures { OnOk result (out.new.items ≡ out.old.items ++ counted_frames count) }
-{
-    out.extend_from_slice(b"undecided: ")?;
-    push_decimal(out, count as u128)?;
-    out.extend_from_slice(sets_in_words(count))
-}
-
 // Appends how many sets of frames are undecided for a reason, if there are such.
 #[tactic(auto, unfolding(crate::specs::PathsWords::frames_line))]
 fn push_frames_line(out: &mut Vec<u8>, count: usize, why: WhyUndecided) -> Result<(), AllocError>
@@ -61,7 +42,7 @@ fn push_frames_line(out: &mut Vec<u8>, count: usize, why: WhyUndecided) -> Resul
     if count == 0 {
         return Ok(());
     }
-    push_counted_frames(out, count)?;
+    push_undecided_sets(out, count)?;
     out.extend_from_slice(why_in_words(why))?;
     out.push(b'\n')?;
     Ok(())
@@ -101,17 +82,6 @@ fn push_path_count(out: &mut Vec<u8>, count: usize) -> Result<(), AllocError>
     }
 }
 
-fn push_left_undecided(out: &mut Vec<u8>, count: usize) -> Result<(), AllocError>
-    ensures { OnOk result (out.new.items ≡ out.old.items ++ left_undecided count) }
-{
-    if count == 0 {
-        return Ok(());
-    }
-    out.extend_from_slice(b", ")?;
-    push_decimal(out, count as u128)?;
-    out.extend_from_slice(b" undecided")
-}
-
 // Appends how many classes lead to the place that is asked for.
 fn push_shown_count(
     out: &mut Vec<u8>,
@@ -140,7 +110,7 @@ pub fn push_path_summary(
 {
     push_shown_count(out, to, &found.classes)?;
     push_path_count(out, found.classes.len())?;
-    push_left_undecided(out, found.undecided.len())?;
+    push_undecided_count(out, found.undecided.len())?;
     out.push(b'\n')?;
     Ok(())
 }

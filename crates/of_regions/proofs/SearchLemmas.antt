@@ -1,6 +1,6 @@
 -- How a search goes on.
-use Rattle.std.proofs.Common.{◌≡◌, ℕ, zero, suc, ◌⊎◌, ◌<◌, ◌≤◌, ◌+◌, true, false, List, [], ◌∷◌, ◌++◌, length, get_or, map, Option, Some, None, refl, sym, ap, subst, ◌∙◌, arith, inl, inr}
-use Rattle.std.specs.Prelude.{slice_get, IfSome}
+use Rattle.std.proofs.Common.{◌≡◌, ℕ, zero, suc, ◌⊎◌, ◌<◌, ◌+◌, true, List, [], ◌∷◌, ◌++◌, length, map, Option, Some, None, refl, sym, ap, subst, ◌∙◌, arith, inl, inr}
+use Rattle.std.specs.Prelude.{slice_get}
 use Rattle.std.specs.List.{Contains}
 use Rattle.std.proofs.lemmas.List.{get_or-map, length-map, map-append, map_push}
 use Rattle.std.proofs.lemmas.List.Elements.{Contains-append_cases, Contains-append_left, Contains-append_right, Contains-push, Contains-push_cases}
@@ -10,22 +10,19 @@ use Rattle.of_layers.specs.Reading.{layers_of}
 use Rattle.of_headers.specs.FieldMap.{field_map}
 use Rattle.of_oxm.specs.declared.match_field.MatchField.{MatchField}
 use Rattle.of_oxm.specs.Relations.{matches_map}
-use Rattle.of_rewrite.specs.Frames.{IsFrame}
 use Rattle.of_shapes.specs.declared.shape.Shape.{Shape}
 use Rattle.of_shapes.specs.declared.shape.Tagging.{Tagging}
 use Rattle.of_shapes.specs.Rules.{HasShape, IsTagging, shape_of, tagging_of}
 use Rattle.of_shapes.proofs.Shapes.{shaped, tags_seen}
 use Rattle.of_regions.specs.declared.looking.Rest.{Rest}
-use Rattle.of_regions.specs.declared.meeting.Meeting.TheVariants.{Whole}
 use Rattle.of_regions.specs.declared.region.Region.{Region}
 use Rattle.of_regions.specs.declared.rival.Rival.{Rival}
-use Rattle.of_regions.specs.Meeting.{Meets}
-use Rattle.of_regions.specs.Naming.{AreAscending, IsNamed, with_place}
+use Rattle.of_regions.specs.Naming.{with_place}
 use Rattle.of_regions.specs.Regions.{AreParts, InRegion}
 use Rattle.of_regions.specs.Witness.{HasNoIngress}
 use Rattle.of_regions.specs.declared.searching.Found.{Found}
 use Rattle.of_regions.specs.declared.searching.Found.TheVariants.{Undecided}
-use Rattle.of_regions.specs.Searching.{AreApartBefore, AreSteps, AreTaking, IsFoundBySearch, InRests, InSome, IsRivalled, IsSplit, IsStart, IsState, IsStep, IsTakenByRival, IsUnreceived, IsUnrivalled, regions_in}
+use Rattle.of_regions.specs.Searching.{AreApartBefore, AreSteps, AreTaking, IsFoundBySearch, InRests, InSome, IsRivalled, IsSplit, IsState, IsStep, IsTakenByRival, IsUnreceived, IsUnrivalled, regions_in}
 use Rattle.of_regions.proofs.NamingLemmas.{is_named, still_ascending}
 
 none_of : {X : Type 0} (x : X) → Contains [] x → ⊥
@@ -44,16 +41,6 @@ at_place xs x c = (c.0, c.1, slice_get-get_or xs c.0 x c.1 ∙ ap Some c.2)
 
 pub unrivalled : (rivals : List Rival) (r : Region) → AreApartBefore rivals r (length rivals) → (fields : Field → Option ℕ) → InRegion r fields → IsUnrivalled rivals fields
 unrivalled rivals r apart fields h q c = let at = at_place rivals q c in apart at.0 q at.1 at.2 fields h
-
-pub region_in : (rests : List Rest) (r : Region) → Contains (regions_in rests) r → (x : Rest) × Contains rests x × (x.region ≡ r)
-region_in [] r c = absurd (none_of r c)
-region_in (x ∷ rests) r c = elim (Contains-append_cases (x.region ∷ []) (regions_in rests) r c) as (λ w. (y : Rest) × Contains (x ∷ rests) y × (y.region ≡ r)) [
-  | inl first ↦ (x, (0, omega arith, refl), only first)
-  | inr behind ↦ (let y = region_in rests r behind in (y.0, (suc y.1.0, omega (arith, y.1.1), y.1.2), y.2))
-]
-  where
-    only : Contains (x.region ∷ []) r → x.region ≡ r
-    only c = elim (Contains-push_cases [] x.region r c) as (λ w. x.region ≡ r) [ inl none ↦ absurd (none_of r none) | inr e ↦ e ]
 
 pub regions_begun : (regions : List Region) → regions_in (map (λ r. record { region = r; from = 0 }) regions) ≡ regions
 regions_begun [] = refl

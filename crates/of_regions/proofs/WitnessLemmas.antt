@@ -1,5 +1,5 @@
 -- What is known of a region is known of frames of its shape.
-use Rattle.std.proofs.Common.{◌≡◌, ℕ, ◌+◌, ◌≤◌, Bool, true, false, cond, List, length, Option, Some, None, Ok, Err, refl, sym, ap, ◌∙◌, subst, arith, inl, inr, ◌<◌, ◌^◌, ◌%◌}
+use Rattle.std.proofs.Common.{◌≡◌, ℕ, ◌≤◌, true, List, length, Option, Some, None, Ok, Err, refl, sym, ap, ◌∙◌, arith, inl, inr, ◌<◌, ◌^◌, ◌%◌}
 use Rattle.std.specs.Prelude.{bit_and, unwrap_or, IfOk, IfSome, Result}
 use Rattle.std.specs.Int.Bits.{and_comm}
 use Rattle.std.proofs.lemmas.Bool.{cases_lt}
@@ -21,12 +21,11 @@ use Rattle.of_shapes.specs.declared.shape.Rule.{Rule}
 use Rattle.of_shapes.specs.declared.shape.Rule.TheVariants.{Free, Absent, Under}
 use Rattle.of_shapes.specs.Rules.{HasShape, IsTagging, Obeys, of_shape, of_tagging}
 use Rattle.of_frames.specs.Given.{or_zero}
-use Rattle.of_frames.specs.Knowing.{IsAmong, IsKnown, NothingOfTags}
+use Rattle.of_frames.specs.Knowing.{IsAmong, IsKnown}
 use Rattle.of_frames.specs.Packets.{frame_given, frame_size}
 use Rattle.of_frames.proofs.KnownLemmas.{among}
 use Rattle.of_regions.specs.declared.region.Region.{Region}
-use Rattle.of_regions.specs.Witness.{HasNoIngress, IsFrameIn, IsIngressPort, MayBe}
-use Rattle.of_regions.specs.Regions.{InRegion}
+use Rattle.of_regions.specs.Witness.{IsFrameIn, IsIngressPort}
 use Rattle.of_rewrite.specs.Frames.{IsFrame}
 use Rattle.of_regions.specs.Known.{AllKnown, is_known_by, rule_in}
 use Rattle.of_regions.proofs.BuildingLemmas.{known_within}
@@ -201,13 +200,3 @@ no_port mask known port zero all under is =
     let own : bit_and port 0xffffffff ≡ port = low port ∙ omega (arith, small.1) in
     let none : bit_and port mask ≡ port = ap (λ (n : ℕ). bit_and n mask) (sym own) ∙ and_assoc mask port 0xffffffff ∙ ap (bit_and port) all ∙ own in
     absurd (omega (arith, small.0, none, under, zero))
-
-pub no_ingress : (r : Region) → ((m k : ℕ) → mask_at r.masks InPort ≡ Some m → value r.known InPort ≡ Some k → (port : ℕ) → bit_and port m ≡ k → ¬ (IsIngressPort port)) → HasNoIngress r
-no_ingress r none fields h = by_port (fields InPort) (h InPort)
-  where
-    by_port : (o : Option ℕ) → seen (mask_at r.masks InPort) o ≡ value r.known InPort → IfSome o (λ port. ¬ (IsIngressPort port))
-    by_port None h = tt
-    by_port (Some port) h =
-        let a = port_known r.shape (mask_at r.masks) (value r.known) r.tagging r.each in
-        let under : bit_and port a.bits ≡ a.value = (let x : seen (Some a.bits) (Some port) ≡ Some a.value = ap (λ (m : Option ℕ). seen m (Some port)) (sym a.mask_is) ∙ h ∙ a.known_is in cc) in
-        none a.bits a.value a.mask_is a.known_is port under

@@ -2,4 +2,3 @@ pub mod Tables
 pub mod Actions
 pub mod Groups
 pub mod Remarks
-pub mod Text

@@ -4,12 +4,11 @@
 mod actions;
 mod groups;
 mod laws;
-mod printing;
 mod remark;
 mod remarks;
 mod tables;
 
+pub use actions::required_port;
 pub use laws::reached_by_ways;
-pub use printing::print_remarks;
 pub use remark::Remark;
 pub use remarks::remarks_on;

@@ -15,6 +15,3 @@ grown limit v (d ∷ ds) h = grown_by limit v ds d (is_digit d) (grown limit (10
 -- one more digit
 pub digit_more : (v i : ℕ) (ds : List ℕ) → i < length ds → is_digit (get_or ds i 0) ≡ true → value_of_decimal v (drop i ds) ≡ value_of_decimal (10 * v + (get_or ds i 0 - 48)) (drop (i + 1) ds)
 digit_more v i ds h t = rw (add-one, drop-cons ds i 0, t) refl
-
-pub digit_none : (v i : ℕ) (ds : List ℕ) → i < length ds → is_digit (get_or ds i 0) ≡ false → value_of_decimal v (drop i ds) ≡ None
-digit_none v i ds h t = rw (drop-cons ds i 0, t) refl

@@ -11,3 +11,5 @@ pub mod EventFileLemmas
 pub mod Early
 pub mod KnownLemmas
 pub mod WholeFiles
+pub mod EventRowsRead
+pub mod EventRowsWritten

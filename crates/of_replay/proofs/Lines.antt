@@ -16,7 +16,7 @@ use Rattle.of_replay.specs.Rows.{Rows, row_of_line, row_and, rows_of_lines, even
 use Rattle.of_replay.specs.Output.{report_text, printed_from}
 use Rattle.of_replay.specs.Play.{lines_read}
 use Rattle.of_replay.specs.RowTexts.{RowText, plain_row_text, row_happened, told, told_and, told_from}
-use Rattle.of_replay.specs.Stepping.{LineTells, LineGoes, Prints, PrintsFirst, Going, Within, WithinChunk, Halts, ChunkGoes, WritesFail}
+use Rattle.of_replay.specs.Stepping.{LineTells, LineGoes, Prints, PrintsFirst, Going, Within, WithinChunk, Halts, ChunkGoes}
 use Rattle.of_replay.proofs.TellingLemmas.{appends-none, appends-then}
 use Rattle.of_replay.proofs.Cutting.{kept_more, Parts, parts, first_end, whole_join, last_join}
 
@@ -45,21 +45,6 @@ line_flushed tale None n line s held out full out' taken taken' h o t = absurd h
 pub line_unwritten : (tale : RowText) (row : Option (Option Event)) (n : ℕ) (line : List ℕ) (s told_to held : State) (out full out' : List ℕ) (taken taken' : Option (List ℕ)) → LineTells tale (Ok tt) n line row s told_to out full → WrotePrefix taken full taken' → LineGoes tale (Err Write) n line row s held out out' taken taken'
 line_unwritten tale (Some row) n line s told_to held out full out' taken taken' h w = subst (λ (x : List ℕ). WrotePrefix taken x taken') h.0 w
 line_unwritten tale None n line s told_to held out full out' taken taken' h w = absurd h
-
--- the run halts at it
-pub line_halts : (tale : RowText) (h : Halt) (row : Option (Option Event)) (n : ℕ) (line : List ℕ) (s told_to held : State) (out out' : List ℕ) (taken : Option (List ℕ)) → LineTells tale (Err h) n line row s told_to out out' → LineGoes tale (Err h) n line row s held out out' taken taken
-line_halts tale (Bad m) (Some row) n line s told_to held out out' taken h = absurd h
-line_halts tale (Bad m) None n line s told_to held out out' taken h = (h.0, h.1, refl)
-line_halts tale Memory row n line s told_to held out out' taken h = (h, refl)
-line_halts tale Read row n line s told_to held out out' taken h = absurd h
-line_halts tale Write row n line s told_to held out out' taken h = absurd h
-
--- before a line is printed no write fails
-pub told_well : (tale : RowText) (h : Halt) (row : Option (Option Event)) (n failures : ℕ) (line : List ℕ) (s told_to : State) (out out' : List ℕ) → LineTells tale (Err h) n line row s told_to out out' → failures ≡ 0 → WritesFail (Err h) failures
-told_well tale (Bad m) row n failures line s told_to out out' h e = e
-told_well tale Memory row n failures line s told_to out out' h e = e
-told_well tale Read row n failures line s told_to out out' h e = e
-told_well tale Write row n failures line s told_to out out' h e = absurd h
 
 -- a line that is no row may be another one
 bad_goes : (tale : RowText) (r : Result (Unit {0}) Halt) (n : ℕ) (line line' : List ℕ) (s held : State) (out out' : List ℕ) (taken taken' : Option (List ℕ)) → LineGoes tale r n line None s held out out' taken taken' → LineGoes tale r n line' None s held out out' taken taken'

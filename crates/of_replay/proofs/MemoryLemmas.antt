@@ -1,13 +1,12 @@
 -- The chunks that a source in memory gave, one after another.
-use Rattle.std.proofs.Common.{◌≡◌, ℕ, zero, suc, ◌+◌, ◌-◌, ◌<◌, ◌≤◌, List, [], ◌∷◌, ◌++◌, take, drop, length, replicate, refl, sym, ◌∙◌, ap, arith}
+use Rattle.std.proofs.Common.{◌≡◌, ℕ, zero, suc, ◌+◌, ◌-◌, List, [], ◌∷◌, ◌++◌, take, drop, length, replicate, refl, sym, ◌∙◌, ap, arith}
 use Rattle.std.proofs.Math.Seq.{take-add, take-append_seam}
-use Rattle.std.proofs.lemmas.List.{append-nil, drop-drop, take_all}
+use Rattle.std.proofs.lemmas.List.{append-nil, drop-drop}
 use Rattle.std.proofs.lemmas.List.Sums.{sum_by-cons}
 use Rattle.std.proofs.lemmas.Grind.{flat_map-append}
 use Rattle.std.specs.List.{sum}
 use Rattle.of_replay.specs.Told.{Answer, Gave, Ended, Failed, answer_bytes, given}
-use Rattle.of_replay.specs.Memory.{chunks_of, source_answers}
-use Rattle.of_replay.specs.declared.memory.MemorySource.{MemorySource}
+use Rattle.of_replay.specs.Memory.{chunks_of}
 
 -- one more chunk
 pub chunks-more : (bs ns : List ℕ) (n : ℕ) → chunks_of bs (ns ++ n ∷ []) ≡ chunks_of bs ns ++ Gave (take n (drop (sum ns) bs)) ∷ []
@@ -46,14 +45,3 @@ pub read-front : (copied rest from bs : List ℕ) (at n place : ℕ) → copied 
     → take n (copied ++ rest) ≡ take n (drop place bs)
 read-front copied rest from bs at n place h f p l =
     ap (λ (k : ℕ). take k (copied ++ rest)) (sym l) ∙ (take-append_seam copied rest ∙ (h ∙ rw (← f, ← p) (ap (λ (k : ℕ). take k (drop at from)) (omega arith))))
-
--- what a source gave is a prefix of its bytes
-pub given-source : (s : MemorySource) → given (source_answers s) ≡ take s.at s.bytes.items
-given-source s = given-told s.bytes.items s.lengths.items s.at s.ends s.failures s.place
-
-at-the-end : (at len ends : ℕ) → (at < len → ends ≡ 0) → 0 < ends → len ≤ at
-at-the-end at len ends = grind arith
-
--- all of them, once a read found the end
-pub given-whole : (s : MemorySource) → 0 < s.ends → given (source_answers s) ≡ s.bytes.items
-given-whole s h = given-source s ∙ take_all s.at s.bytes.items (at-the-end s.at (length s.bytes.items) s.ends s.ended h)

@@ -209,10 +209,6 @@ tells_unwritten begun tale result answers answers' ends ends' out first taken ta
   ends_so = ends_unwritten begun tale result (nat_lt ends ends') (earlier_lines p.more) (lines_read (nat_lt ends ends') (given p.more)) out first taken taken' p.plays not w;
 }
 
--- an earlier write failed
-pub tells_stopped : (begun : State) (tale : RowText) (answers answers' : Known) (ends ends' : ℕ) (out : List ℕ) (first taken : Option (List ℕ)) → PlaysRead begun tale (Err Write) answers answers' ends ends' out first taken → PrintsLines (told begun tale) WriteFault answers answers' ends ends' first taken
-tells_stopped begun tale answers answers' ends ends' out first taken p = record { more = p.more; answers_are = p.answers_are; whole = p.whole; ends_so = p.plays }
-
 -- nothing was read or written
 pub nothing_read : (begun : State) (tale : RowText) (answers : Known) (ends : ℕ) (taken : Option (List ℕ)) → PrintsLines (told begun tale) NoMemory answers answers ends ends taken taken
 nothing_read begun tale answers ends taken = record {

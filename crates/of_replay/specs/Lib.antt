@@ -4,9 +4,12 @@ pub mod Lexing
 pub mod Rows
 pub mod Memory
 pub mod Output
+pub mod Passing
 pub mod Play
 pub mod RowTexts
 pub mod Stepping
 pub mod Ended
 pub mod WholeFiles
 pub mod FileRuns
+pub mod WrittenRows
+pub mod Loaded

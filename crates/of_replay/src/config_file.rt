@@ -9,8 +9,8 @@ use crate::whole_file::{bad_line, read_file};
 use of_text::{Config, TextFault, assemble};
 use std::alloc::Global;
 
-// The configuration of a flow text.
-fn configured(alloc: Global, file: &[u8]) -> Result<Config, Ended>
+/// The configuration of a flow text (docs/FLOWTEXT.md) that was read whole; or how a run ends that needs one.
+pub fn config_of_text(alloc: Global, file: &[u8]) -> Result<Config, Ended>
     ensures { IsRead flow_text result true file.now }
 {
     if let Some(number) = bad_line(file) {
@@ -36,6 +36,6 @@ pub fn read_config<S: Source>(alloc: Global, reader: &mut S) -> Result<Config, E
     let mut file = Vec::new(alloc);
     match read_file(reader, &mut buffer, &mut file) {
         Err(halt) => Err(ended_by(Err(halt))),
-        Ok(()) => configured(alloc, &file),
+        Ok(()) => config_of_text(alloc, &file),
     }
 }

@@ -5,6 +5,7 @@ ghost use Rattle.of_replay.specs.WholeFiles.{Faults};
 
 use crate::event_file::{Ended, MOST_READS, READ_SIZE, ended_by, zeros};
 use crate::io::{Sink, Source, Writing};
+use crate::loading::DPID;
 use crate::plain::Plain;
 use crate::replaying::Replaying;
 use crate::transfer::write_all;
@@ -12,9 +13,6 @@ use of_classifier::Lookup;
 use of_switch::Switch;
 use of_text::disassemble;
 use std::alloc::Global;
-
-/// The datapath_id of the switch, which flow text does not show (OpenFlow 1.3.5, 7.3.1).
-const DPID: u64 = 1;
 
 /// A sink that takes all and keeps nothing.
 #[derive(Drop)]

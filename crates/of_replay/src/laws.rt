@@ -1,18 +1,21 @@
 //! Laws of rows and of whole files.
-ghost use Rattle.std.specs.Prelude.{◌≡◌, ◌<◌, ◌++◌, ◌∷◌, ℕ, List, [], Option, Some, codes};
+ghost use Rattle.std.specs.Prelude.{◌≡◌, ◌<◌, ◌++◌, ◌∷◌, ℕ, List, [], None, Option, Some, codes};
+ghost use Rattle.std.specs.List.{AllByRecursion, flat_map};
 ghost use Rattle.std.specs.Io.KnownBytes.{Appends};
 ghost use Rattle.of_build.specs.Building.{build_text};
 ghost use Rattle.of_switch.specs.State.{State};
 ghost use Rattle.of_switch.specs.Runs.{IsRefused};
 ghost use Rattle.of_switch.specs.declared.switch_error.SwitchError.TheVariants.{BadPortNumber};
 ghost use Rattle.of_switch.specs.declared.port_change.PortChange.TheVariants.{Remove};
+ghost use Rattle.of_switch.specs.declared.event.Event.{Event};
 ghost use Rattle.of_switch.specs.declared.event.Event.TheVariants.{Ports};
 ghost use Rattle.of_replay.specs.Told.{Known, Left};
 ghost use Rattle.of_replay.specs.Lexing.{lines_of_file};
 ghost use Rattle.of_replay.specs.Play.{PrintsLines};
 ghost use Rattle.of_replay.specs.FileRuns.{Runs, TextOf, event_file, flow_text, is_text, switch_text};
 ghost use Rattle.of_replay.specs.declared.event_file.Ended.TheVariants.{Done};
-ghost use Rattle.of_replay.specs.Rows.{row_of_line};
+ghost use Rattle.of_replay.specs.Rows.{events_in, row_of_line, rows_of_lines};
+ghost use Rattle.of_replay.specs.WrittenRows.{HasLine, file_text, row_text};
 ghost use Rattle.of_replay.specs.RowTexts.{plain_row_text, row_happened};
 
 /// `port remove 0` changes nothing and always prints `refused 8`: where rows are sent one by one, it marks the end of what the rows
@@ -37,4 +40,12 @@ pub fn files_come_whole()
     ensures dis { (file : List ℕ) (known : Known) (ends ends' : ℕ) (old new : Option (List ℕ)) →
         Runs event_file (is_text switch_text) Done (Left (Some file)) known ends ends' old new → ends < ends' →
         TextOf event_file (is_text switch_text) file old new }
+{}
+
+/// The text of each row of an event file is read as that row, if it is no longer than a line may be; and the text of a file of
+/// such rows as their events, in their order.
+pub fn written_rows_are_read()
+    ensures row { (row : Option Event) → HasLine row → row_of_line (row_text row) ≡ Some row }
+    ensures file { (rows : List (Option Event)) → AllByRecursion HasLine rows →
+        rows_of_lines (lines_of_file (file_text rows)) ≡ record { events = flat_map events_in rows; bad = None } }
 {}

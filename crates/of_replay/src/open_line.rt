@@ -1,6 +1,7 @@
 //! The line that has begun and not ended.
 ghost use Rattle.std.specs.Prelude.{◌≡◌, ◌≤◌, ◌++◌, [], OnOk, length, take};
 
+use of_wire::front_part;
 use std::alloc::{AllocError, Global};
 use std::marker::Model;
 
@@ -50,16 +51,5 @@ impl OpenLine {
     {
         let room = MOST_KEPT - self.bytes.len();
         self.bytes.extend_from_slice(front_part(part, room))
-    }
-}
-
-// The first bytes, at most `most`.
-fn front_part(bytes: &[u8], most: usize) -> &[u8]
-    ensures { result.now ≡ take most bytes.now }
-{
-    if bytes.len() <= most {
-        bytes
-    } else {
-        &bytes[..most]
     }
 }

@@ -1,6 +1,7 @@
 //! Readers and writers, as files and standard output are, as sources and sinks.
 ghost use Rattle.std.specs.Prelude.{◌≡◌, ◌≢◌, ◌≤◌, ◌<◌, ◌+◌, ◌^◌, length, take};
 ghost use Rattle.std.specs.Io.KnownBytes.{Appends, Consumes, IsAtEnd};
+ghost use Rattle.of_replay.specs.Passing.{passes};
 ghost use Rattle.of_replay.specs.Told.{IsReading, IsWriting, Left, answer_of, answer_bytes, read_ends, read_faults, write_count, write_faults};
 
 use crate::io::{Reading, Sink, Source, Writing};
@@ -31,8 +32,10 @@ impl<R: Read + Drop> ReaderSource<R> {
     }
 }
 
-// Whether a read that ends so is to be made again.
-fn is_idle(kind: ErrorKind) -> bool {
+/// Whether a call that fails so only found nothing this time: it was interrupted, or would have waited for longer.
+pub fn is_passing(kind: ErrorKind) -> bool
+    ensures { result ≡ passes kind }
+{
     matches!(
         kind,
         ErrorKind::Interrupted | ErrorKind::WouldBlock | ErrorKind::TimedOut
@@ -71,7 +74,7 @@ impl<R: Read + Drop> Source for ReaderSource<R> {
                     return Reading::End;
                 }
                 Ok(n) => return Reading::Bytes(n),
-                Err(error) if is_idle(error.kind()) => {}
+                Err(error) if is_passing(error.kind()) => {}
                 Err(_) => break,
             }
         }

@@ -9,10 +9,10 @@ use Rattle.of_remarks.specs.declared.remark.Remark.TheVariants.{Unreachable, NoT
 use Rattle.of_check.specs.declared.finding.Finding.{Finding}
 use Rattle.of_check.specs.declared.verdict.Verdict.{Verdict}
 use Rattle.of_check.specs.declared.verdict.Verdict.TheVariants.{Wins, Never, Open}
-use Rattle.of_check.specs.Text.{is_never}
+use Rattle.of_check.specs.Verdicts.{is_never}
 use Rattle.of_values.specs.Numbers.{hexadecimal}
 use Rattle.of_values.specs.Origins.{EntryOrigin}
-use Rattle.of_json.specs.Parts.{key, listed, match_object, number_member, quoted, text_member, truth}
+use Rattle.of_json.specs.Parts.{key, listed, match_object, number_member, quoted, text_member, truth_member}
 use Rattle.of_json.specs.Strings.{array_member, counters_member}
 use Rattle.of_report.specs.Entries.{origin_at}
 use Rattle.of_report.specs.Report.{count, is_found, is_open, is_win, packet_as_words}
@@ -57,9 +57,6 @@ unfoldable pub packet_members : List ℕ → ℕ → ℕ → List ℕ
 packet_members frame in_port metadata =
     text_member (codes "verdict") (codes "wins") ++ number_member (codes "in_port") in_port ++ text_member (codes "metadata") (hexadecimal 1 metadata)
     ++ text_member (codes "frame") (encode_lower frame) ++ words_member (packet_as_words frame in_port metadata)
-
-unfoldable pub truth_member : List ℕ → Bool → List ℕ
-truth_member name b = 44 ∷ key name ++ truth b
 
 unfoldable pub shadows_member : List (List EntryOrigin) → List (List Flow) → ℕ → List ℕ → List ℕ
 shadows_member origins tables table by = array_member (codes "shadowed_by") (listed (entry_object origins tables table) by)

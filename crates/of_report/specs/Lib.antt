@@ -2,5 +2,3 @@ pub mod Entries
 pub mod Report
 pub mod Json
 pub mod Files
-pub mod Lines
-pub mod Contents

@@ -8,7 +8,7 @@ use Rattle.of_remarks.specs.declared.remark.Remark.TheVariants.{Unreachable, NoT
 use Rattle.of_check.specs.declared.finding.Finding.{Finding}
 use Rattle.of_check.specs.declared.verdict.Verdict.{Verdict}
 use Rattle.of_check.specs.declared.verdict.Verdict.TheVariants.{Wins, Never, Open}
-use Rattle.of_check.specs.Text.{is_never}
+use Rattle.of_check.specs.Verdicts.{is_never}
 use Rattle.of_values.specs.Numbers.{hexadecimal, port_in_words}
 use Rattle.of_values.specs.Origins.{EntryOrigin}
 use Rattle.of_frame_words.specs.Printed.{frame_words_of}

@@ -1,11 +1,11 @@
 //! How many entries have which verdict, and whether something is found.
 ghost use Rattle.std.specs.Prelude.{◌≡◌, not};
 ghost use Rattle.std.specs.List.{list_any};
-ghost use Rattle.of_check.specs.Text.{is_never as is_never_in};
+ghost use Rattle.of_check.specs.Verdicts.{is_never as is_never_in};
 ghost use Rattle.of_report.specs.Report.{count, is_finding as is_finding_among, is_found as is_found_in, is_open as is_open_in, is_win as is_win_in};
 
 use crate::remarks::is_finding;
-use of_check::{Finding, Verdict};
+use of_check::{Finding, Verdict, is_never};
 use of_remarks::Remark;
 
 fn is_win(verdict: &Verdict) -> bool
@@ -14,15 +14,6 @@ fn is_win(verdict: &Verdict) -> bool
     match verdict {
         Verdict::Wins { .. } => true,
         Verdict::Never { .. } | Verdict::Open => false,
-    }
-}
-
-fn is_shadowed(verdict: &Verdict) -> bool
-    ensures { result ≡ is_never_in verdict.now }
-{
-    match verdict {
-        Verdict::Never { .. } => true,
-        Verdict::Wins { .. } | Verdict::Open => false,
     }
 }
 
@@ -51,7 +42,7 @@ pub fn count_shadowed(findings: &[Finding]) -> usize
 {
     findings
         .iter()
-        .filter(|finding| is_shadowed(&finding.verdict))
+        .filter(|finding| is_never(&finding.verdict))
         .count()
 }
 

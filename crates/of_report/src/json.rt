@@ -1,6 +1,6 @@
 //! The report as JSON.
 ghost use Rattle.std.specs.Prelude.{◌≡◌, ◌++◌, ◌∷◌, option_map, IfOk, OnOk};
-ghost use Rattle.of_report.specs.Json.{finding_object, flows_member, report_head_members, never_members, packet_members, remarks_member, report_json, shadows_member, summary_member, summary_members, truth_member, verdict_members, words_member};
+ghost use Rattle.of_report.specs.Json.{finding_object, flows_member, report_head_members, never_members, packet_members, remarks_member, report_json, shadows_member, summary_member, summary_members, verdict_members, words_member};
 ghost use Rattle.of_report.specs.Report.{packet_as_words};
 ghost use Rattle.of_values.specs.Origins.{view_origins};
 
@@ -11,7 +11,7 @@ use crate::packets::packet_words;
 use of_check::{Finding, Verdict};
 use of_json::{
     push_array_member, push_bytes_member, push_hex_member, push_key, push_number_member,
-    push_quoted, push_text_member, push_truth,
+    push_quoted, push_text_member, push_truth_member,
 };
 use of_remarks::Remark;
 use of_text::Config;
@@ -57,15 +57,6 @@ fn push_packet(
     push_hex_member(out, b"metadata", u128::from(metadata))?;
     push_bytes_member(alloc, out, b"frame", frame)?;
     push_words(alloc, out, frame, in_port, metadata)
-}
-
-#[tactic(auto, unfolding(crate::specs::Json::truth_member))]
-fn push_truth_member(out: &mut Vec<u8>, name: &[u8], truth: bool) -> Result<(), AllocError>
-    ensures { OnOk result (out.new.items ≡ out.old.items ++ truth_member name.now truth) }
-{
-    out.push(b',')?;
-    push_key(out, name)?;
-    push_truth(out, truth)
 }
 
 // Appends the entries that shadow another one.

@@ -9,7 +9,9 @@ ghost use Rattle.of_requests.specs.Written.{IsWritten, masks_cells};
 
 use crate::header::begin;
 use of_formats::messages::{PORT_MOD, ROLE_REQUEST, SET_ASYNC, SET_CONFIG, TABLE_MOD};
-use of_messages::{AsyncMasks, PortMod, RoleMasks, RoleRequest, SwitchConfig, TableMod};
+use of_messages::{
+    AsyncMasks, PortMod, RoleMasks, RoleRequest, SwitchConfig, TableMod, put_role_masks,
+};
 use of_wire::{Bytes, put_u16, put_u32, put_u64};
 use std::alloc::{AllocError, Global};
 
@@ -108,8 +110,7 @@ fn put_masks(out: &mut Vec<u8>, masks: RoleMasks) -> Result<(), AllocError>
     ensures text { OnOk result (out.new.items ≡ out.old.items ++ canonical_cells (masks_cells masks)) }
     ensures fits { FitsCells (masks_cells masks) }
 {
-    put_u32(out, masks.master)?;
-    put_u32(out, masks.slave)
+    put_role_masks(out, masks)
 }
 
 /// A SET_ASYNC (OpenFlow 1.3.5, 7.3.10).

@@ -2,14 +2,13 @@
 ghost use Rattle.std.specs.Prelude.{◌≡◌};
 ghost use Rattle.std.specs.List.{list_all};
 ghost use Rattle.of_messages.specs.Configs.{names_table as is_named};
-ghost use Rattle.of_messages.specs.Messages.{is_ingress as may_be_ingress};
 ghost use Rattle.of_requests.specs.Sound.{counts_nothing as is_fresh, is_one as is_asked, is_sound as has_bytes, is_sound_flow_mod, is_sound_group, is_sound_group_mod, is_sound_packet, is_sound_request};
 
-use of_actions::{check_flow, is_number};
+use of_actions::check_flow;
 use of_groups::Bucket;
 use of_headers::check_length;
-use of_messages::{FlowMod, GroupMod, Message, MultipartRequest, NewGroup, PacketData};
-use of_wire::limits::{OFP_NO_BUFFER, OFPG_ALL, OFPG_MAX, OFPP_ANY, OFPP_CONTROLLER};
+use of_messages::{FlowMod, GroupMod, Message, MultipartRequest, NewGroup, PacketData, is_ingress};
+use of_wire::limits::{OFP_NO_BUFFER, OFPG_ALL, OFPG_MAX, OFPP_ANY};
 
 /// OFPPC_PORT_DOWN, OFPPC_NO_RECV, OFPPC_NO_FWD and OFPPC_NO_PACKET_IN.
 const PORT_BITS: u32 = 1 | 4 | 32 | 64;
@@ -31,12 +30,6 @@ fn is_packet(packet: &PacketData) -> bool
         PacketData::Buffered(number) => *number != OFP_NO_BUFFER,
         PacketData::Frame(frame) => check_length(frame.as_slice()).is_ok(),
     }
-}
-
-fn may_come_from(port: u32) -> bool
-    ensures { result ≡ may_be_ingress port }
-{
-    is_number(port) || port == OFPP_CONTROLLER
 }
 
 fn is_flow_mod(m: &FlowMod) -> bool
@@ -102,7 +95,7 @@ pub(crate) fn is_sound(message: &Message) -> bool
 {
     match message {
         Message::EchoRequest(echoed) => echoed.len() <= MOST,
-        Message::PacketOut(m) => may_come_from(m.in_port) && is_packet(&m.packet),
+        Message::PacketOut(m) => is_ingress(m.in_port) && is_packet(&m.packet),
         Message::FlowMod(m) => is_flow_mod(m),
         Message::GroupMod(m) => is_group_mod(m),
         Message::PortMod(m) => m.mask & PORT_BITS == m.mask,

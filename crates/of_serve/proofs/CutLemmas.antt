@@ -1,6 +1,6 @@
 -- Where memory ran out in a list of events: what those before it gave, and the messages of a chunk that were handled.
 use Rattle.std.proofs.Common.{◌≡◌, ◌⊎◌, inl, inr, ℕ, suc, zero, Bool, true, false, if◌then◌else◌, List, [], ◌∷◌, ◌++◌, drop, Option, Some, None, Result, Ok, Err, refl, sym, ◌∙◌, ap, subst, append_assoc}
-use Rattle.std.specs.Prelude.{OnOk, OnErr, IfErr, slice_get}
+use Rattle.std.specs.Prelude.{OnErr, slice_get}
 use Rattle.std.specs.List.{flat_map}
 use Rattle.std.specs.declared.alloc.AllocError.{AllocError}
 use Rattle.std.proofs.lemmas.List.{append-nil}
@@ -180,16 +180,6 @@ Lacks result = result ≡ Err NoMemory
 abbrev Feeds : Bool → List ℕ → Result (Unit {0}) SwitchError → State → State → Type 0
 Feeds b chunk r s t = Call (first_error ((b, NotConnected) ∷ [])) (λ (u : Unit {0}) (new : State). new ≡ fed chunk s) s r t
 
-fails_by : (b : Bool) (chunk : List ℕ) (e : SwitchError) (g g' : Gathered) → is_disconnected g.state.connection.phase ≡ b → Feeds b chunk (Err e) g.state g'.state
-    → (g'.answers ≡ g.answers) × (g'.lines ≡ g.lines) → Lacks (Err e) ⊎ (g' ≡ gathered (Chunk chunk ∷ []) g)
-fails_by false chunk e g g' is call same = inl (ap Err call.0)
-fails_by true chunk e g g' is call same =
-    let kept : g' ≡ holding g.state (g.answers ++ []) (g.lines ++ []) =
-    ap (λ (x : State). holding x g'.answers g'.lines) call.1
-    ∙ (ap (λ (x : List ℕ). holding g.state x g'.lines) (same.0 ∙ sym (append-nil g.answers))
-    ∙ ap (λ (x : List ℕ). holding g.state (g.answers ++ []) x) (same.1 ∙ sym (append-nil g.lines))) in
-    inr (rw is kept)
-
 feed_fails : (b : Bool) (chunk : List ℕ) (e : SwitchError) (s t : State) → Feeds b chunk (Err e) s t → t ≡ s
 feed_fails true chunk e s t call = call.1
 feed_fails false chunk e s t call = call.1
@@ -197,10 +187,6 @@ feed_fails false chunk e s t call = call.1
 pub not_fed : (chunk : List ℕ) (e : SwitchError) (g g' : Gathered) → Feeds (is_disconnected g.state.connection.phase) chunk (Err e) g.state g'.state
     → g' ≡ holding g'.state g.answers g.lines → CutIn (Chunk chunk ∷ []) g g'
 not_fed chunk e g g' call same = cut_begun (Chunk chunk) [] g g' (same ∙ ap (λ (s : State). holding s g.answers g.lines) (feed_fails (is_disconnected g.state.connection.phase) chunk e g.state g'.state call))
-
-pub take_fails : (chunk : List ℕ) (e : SwitchError) (g g' : Gathered) → Feeds (is_disconnected g.state.connection.phase) chunk (Err e) g.state g'.state
-    → (g'.answers ≡ g.answers) × (g'.lines ≡ g.lines) → Lacks (Err e) ⊎ (g' ≡ gathered (Chunk chunk ∷ []) g)
-take_fails chunk e g g' call same = fails_by (is_disconnected g.state.connection.phase) chunk e g g' refl call same
 
 stands_by : (b : Bool) (chunk : List ℕ) (s t : State) → Feeds b chunk (Ok tt) s t → b ≡ false
 stands_by false chunk s t call = refl
@@ -213,19 +199,6 @@ stands chunk s t call = stands_by (is_disconnected s.connection.phase) chunk s t
 fed_by : (b : Bool) (chunk : List ℕ) (s t : State) → b ≡ false → Feeds b chunk (Ok tt) s t → t ≡ fed chunk s
 fed_by false chunk s t e call = call
 fed_by true chunk s t e call = absurd (let e' : true ≡ false = e in cc)
-
-all_heard : (chunk : List ℕ) (g g1 g' : Gathered) → is_disconnected g.state.connection.phase ≡ false → g1 ≡ holding (fed chunk g.state) g.answers g.lines → HandlesAll g1 g' → g' ≡ gathered (Chunk chunk ∷ []) g
-all_heard chunk g g1 g' is e h = rw is (h ∙ ap (λ (x : Gathered). gather (unless_refusal None x.state (drained x.state)) x) e)
-
-pub take_goes : (chunk : List ℕ) (r : Result (Unit {0}) SwitchError) (g g1 g' : Gathered) → Feeds (is_disconnected g.state.connection.phase) chunk (Ok tt) g.state g1.state
-    → (g1.answers ≡ g.answers) × (g1.lines ≡ g.lines) → OnOk r (HandlesAll g1 g') → IfErr r (λ e. e ≡ NoMemory) → Lacks r ⊎ (g' ≡ gathered (Chunk chunk ∷ []) g)
-take_goes chunk (Err e) g g1 g' call same all memory = inl (ap Err memory)
-take_goes chunk (Ok u) g g1 g' call same all memory =
-    let is = stands chunk g.state g1.state call in
-    let e : g1 ≡ holding (fed chunk g.state) g.answers g.lines =
-    ap (λ (x : State). holding x g1.answers g1.lines) (fed_by (is_disconnected g.state.connection.phase) chunk g.state g1.state is call)
-    ∙ (ap (λ (x : List ℕ). holding (fed chunk g.state) x g1.lines) same.0 ∙ ap (λ (x : List ℕ). holding (fed chunk g.state) g.answers x) same.1) in
-    inr (all_heard chunk g g1 g' is e all)
 
 some_text : (f : Effect → List ℕ) (n : ℕ) (old now new : List ℕ) (s t : State) → now ≡ old → s ≡ t → new ≡ now ++ flat_map f (drain n s).effects → new ≡ old ++ flat_map f (drain n t).effects
 some_text f n old now new s t e same h = h ∙ (ap (λ (x : List ℕ). x ++ flat_map f (drain n s).effects) e ∙ ap (λ (x : State). old ++ flat_map f (drain n x).effects) same)

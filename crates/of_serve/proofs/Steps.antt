@@ -260,20 +260,6 @@ turn_stops (Err Memory) s g g1 rest rest' old came came' times took took' failed
 turn_stops (Err ReadHalt) s g g1 rest rest' old came came' times took took' failed failed' wrote wrote' not i e a w = absurd (not refl)
 turn_stops (Err Write) s g g1 rest rest' old came came' times took took' failed failed' wrote wrote' not i e a w = absurd i
 
-pub counts_write : (r : Result (Unit {0}) Halt) (n n' : ℕ) → Counts r n n' → Counts (Err Write) n n'
-counts_write (Ok u) n n' c = (omega (arith, c), omega (arith, c))
-counts_write (Err (Bad k)) n n' c = absurd c
-counts_write (Err Memory) n n' c = c
-counts_write (Err ReadHalt) n n' c = (omega (arith, c), omega (arith, c))
-counts_write (Err Write) n n' c = c
-
-pub fails_write : (r : Result (Unit {0}) Halt) (n n' : ℕ) → NotRead r → CountsAcceptFailure r n n' → CountsAcceptFailure (Err Write) n n'
-fails_write (Ok u) n n' not f = f
-fails_write (Err (Bad k)) n n' not f = absurd f
-fails_write (Err Memory) n n' not f = f
-fails_write (Err ReadHalt) n n' not f = absurd (not refl)
-fails_write (Err Write) n n' not f = f
-
 pub turn_writes : (r : Result (Unit {0}) Halt) (s : ServeState) (g : Gathered) (rest : List Event) (old new : Tells) (failures : ℕ) → Inputs r s g rest old new → failures ≡ 0 → WriteFails r failures
 turn_writes (Ok u) s g rest old new failures i e = e
 turn_writes (Err (Bad n)) s g rest old new failures i e = i

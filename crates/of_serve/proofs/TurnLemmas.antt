@@ -79,10 +79,6 @@ left_acts now row (r ∷ rows) e t =
     let same : row ≡ r = cc in
     ap (λ (b : Bool). if b then r ∷ rows else left now rows) (ap (waits now) (sym same) ∙ t)
 
-pub some_rows : (row : Event) (rows : List Event) → Some row ≡ slice_get rows 0 → 0 < length rows
-some_rows row [] e = let h : Some row ≡ None = e in cc
-some_rows row (r ∷ rows) e = omega arith
-
 pub one_less : (rows : List Event) → 0 < length rows → length (drop 1 rows) < length rows
 one_less [] lt = lt
 one_less (r ∷ rows) lt = omega arith

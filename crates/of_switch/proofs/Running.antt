@@ -59,9 +59,6 @@ split_at : (es : List Event) (i : ℕ) (e : Event) → i < length es → e ≡ g
 split_at es i e lt is =
     sym (take-append-drop i es) ∙ ap (λ (xs : List Event). take i es ++ xs) (drop-cons es i e lt ∙ ap (λ (x : Event). x ∷ drop (suc i) es) (sym is))
 
-pub runs_none : (s : State) (reports : List Report) → RunsAll [] s s reports reports
-runs_none s reports = record { state = refl; reports_are = sym (append-nil reports) }
-
 pub runs_more : (es : List Event) (i : ℕ) (e : Event) (s t u : State) (reports reports' reports'' : List Report) → i < length es → e ≡ get_or es i e
     → RunsAll (take i es) s t reports reports' → Happens (Ok tt) e t u reports' reports'' → RunsAll (take (i + 1) es) s u reports reports''
 runs_more es i e s t u reports reports' reports'' lt is ran h =

@@ -27,8 +27,8 @@ use of_machine::StepLog;
 use of_messages::{MessageBytes, write_error, write_hello};
 use of_session::{Next, Phase, Session};
 use of_text::Config;
-use of_wire::Code;
 use of_wire::codes::{OFPBRC_BAD_LEN, OFPHFC_INCOMPATIBLE};
+use of_wire::{Code, front_part};
 use std::alloc::{AllocError, Global};
 use std::marker::Model;
 
@@ -429,16 +429,4 @@ fn closing(alloc: Global, error: MessageBytes) -> Result<Effects, AllocError>
     effects.push(Effect::Answer(error))?;
     effects.push(Effect::Closed)?;
     Ok(effects)
-}
-
-// The first bytes, at most `most`.
-fn front_part(bytes: &[u8], most: usize) -> &[u8]
-    ensures front { result.now ≡ take most bytes.now }
-    ensures short { length result.now ≤ most }
-{
-    if bytes.len() <= most {
-        bytes
-    } else {
-        &bytes[..most]
-    }
 }

@@ -14,9 +14,6 @@ use Rattle.of_symbolic.specs.Branching.{AllHaveConditions, AreNearEntries, IsAhe
 use Rattle.of_symbolic.specs.Parts.{InPart}
 use Rattle.of_symbolic.proofs.BranchLemmas.{AreHitBranches}
 
-pub near_self : (part : Part) (p : PulledEntry) → IsNearEntry part p p
-near_self part p = record { priority = refl; agreed = λ fields h. refl; conditions = λ c. c }
-
 pub far_away : (part : Part) (p q : PulledEntry) → ((fields : Field → Option ℕ) → InPart part fields → is_agreed p.fields fields ≡ false) → q.priority ≡ p.priority → q.fields ≡ None → IsNearEntry part p q
 far_away part p q far priority none = record {
   priority = priority;

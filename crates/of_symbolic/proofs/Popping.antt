@@ -2,14 +2,13 @@
 use Rattle.std.proofs.Common.{◌≡◌, ℕ, List, [], ◌∷◌, ◌++◌, Some, None, refl, sym, ap, ◌∙◌}
 use Rattle.std.specs.List.{fold}
 use Rattle.std.proofs.lemmas.List.Sums.{fold-append}
-use Rattle.of_layers.specs.declared.field.Field.{Field}
 use Rattle.of_actions.specs.declared.action.Action.{Action}
 use Rattle.of_actions.specs.declared.action.Action.TheVariants as actions
 use Rattle.of_symbolic.specs.declared.overlay.Overlay.{Overlay}
 use Rattle.of_symbolic.specs.declared.overlay.PushedTag.{PushedTag}
 use Rattle.of_symbolic.specs.declared.overlay.ReceivedTag.{ReceivedTag}
 use Rattle.of_symbolic.specs.Overlays.{IsOverlay, value_by}
-use Rattle.of_symbolic.specs.Tags.{Tags, PopsOwn, no_tags, tags_by, tags_set}
+use Rattle.of_symbolic.specs.Tags.{Tags, PopsOwn, no_tags, tags_by}
 
 -- ---- the tag of the frame that came in
 
@@ -22,10 +21,6 @@ record PopsFrom (k : Tags) (l : List Action) : Type 0 where
 
 later : (k : Tags) (a : Action) (l : List Action) → PopsFrom (tags_by a k) l → PopsFrom k (a ∷ l)
 later k a l h = record { before = a ∷ h.before; after = h.after; is = ap (λ (x : List Action). a ∷ x) h.is; none = h.none }
-
-set_stays : (f : Field) (n : ℕ) (ps : List PushedTag) (own : ReceivedTag) → (o : ReceivedTag) × ((tags_set f n ps (Some own)).own ≡ Some o)
-set_stays f n [] own = (_, refl)
-set_stays f n (p ∷ ps) own = (own, refl)
 
 pops_from : (l : List Action) (ps : List PushedTag) (own : ReceivedTag) → (fold (λ j a. tags_by a j) (record { pushed = ps; own = Some own }) l).own ≡ None → PopsFrom (record { pushed = ps; own = Some own }) l
 pops_from [] ps own h = absurd cc

@@ -46,9 +46,6 @@ listed_at entries i x is lt = rw (add-one) (ap (map (λ (e : Bor Entry). e.now))
 pub listed_end : (entries : List (Bor Entry)) (i : ℕ) → length entries ≤ i → map (λ (e : Bor Entry). e.now) (drop i entries) ≡ []
 listed_end entries i le = ap (map (λ (e : Bor Entry). e.now)) (drop_all i entries le)
 
-pub pulled_begun : (o : Overlay) (metadata : ℕ) (entries : List Entry) → IsPulledSoFar o metadata (flows_of entries) entries []
-pulled_begun o metadata entries = record { goes_on = λ rest are. are; among = λ e c. c }
-
 pub pulled_done : (o : Overlay) (metadata : ℕ) (flows : List FlowEntry) (left : List Entry) (out : List PulledEntry) → left ≡ [] → IsPulledSoFar o metadata flows left out → ArePulledEntries o metadata flows out
 pulled_done o metadata flows left out is h =
     let end : ArePulledEntries o metadata (flows_of left) [] = subst (λ (es : List Entry). ArePulledEntries o metadata (flows_of es) []) (sym is) tt in

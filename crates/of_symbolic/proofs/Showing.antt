@@ -97,9 +97,6 @@ all_show : (l : List Action) (set : Field → Option ℕ) (k : Tags) (v w : View
 all_show [] set k v w h = record { fields = h.fields; tags = h.tags }
 all_show (a ∷ l) set k v w h = all_show l (λ f. value_by a f (set f)) (tags_by a k) v (view_by (call_of a) w) (one_shows a set k v w h)
 
-own_same : (t : Tag) → t ≡ own_tag (record { vid = None; pcp = None }) t
-own_same t = refl
-
 tags_same : (ts : List Tag) → ts ≡ own_tags (record { vid = None; pcp = None }) ts
 tags_same [] = refl
 tags_same (t ∷ ts) = refl

@@ -9,7 +9,7 @@ ghost use Rattle.of_regions.specs.Searching.{InSome};
 ghost use Rattle.of_symbolic.specs.Parts.{AreLeftRegions, AreListsOfConditions, FindsInPart, HaveConditions, IsListed, IsMatchedPart, IsUnmatchedPart, IsWholePart};
 
 use of_headers::Field;
-use of_oxm::{Match, MatchField};
+use of_oxm::{Match, MatchField, same_fields};
 use of_regions::{Found, Meeting, Region, Rival, narrowed, regions_of, search_among};
 use std::alloc::{AllocError, Global};
 
@@ -78,18 +78,12 @@ fn rivals_in<'a>(alloc: Global, lacks: &'a [Vec<MatchField>]) -> Result<Vec<Riva
     Ok(rivals)
 }
 
-fn are_same(xs: &[MatchField], ys: &[MatchField]) -> bool
-    ensures { IsTrue result ↔ (xs.now ≡ ys.now) }
-{
-    xs == ys
-}
-
 // Whether a list of conditions is one of these.
 fn is_listed(lacks: &[Vec<MatchField>], fields: &[MatchField]) -> bool
     ensures { IsTrue result ↔ IsListed lacks.now fields.now }
 {
     for index in 0..lacks.len() {
-        if are_same(&lacks[index], fields) {
+        if same_fields(&lacks[index], fields) {
             return true;
         }
     }

@@ -4,7 +4,7 @@ use Rattle.std.specs.Prelude.{IfSome, map, slice_get}
 use Rattle.std.specs.Global.{Vec}
 use Rattle.std.specs.List.{Contains}
 use Rattle.std.specs.Option.{option_map}
-use Rattle.std.proofs.lemmas.List.{append-nil, drop_all, map-append}
+use Rattle.std.proofs.lemmas.List.{append-nil, map-append}
 use Rattle.std.proofs.lemmas.Option.{slice_get-get_or}
 use Rattle.of_layers.specs.declared.field.Field.{Field}
 use Rattle.of_actions.specs.declared.action.Action.{Action}
@@ -32,7 +32,7 @@ use Rattle.of_symbolic_run.specs.declared.state.SymbolicPacket.{SymbolicPacket}
 use Rattle.of_symbolic_run.specs.declared.state.SymbolicState.{SymbolicState}
 use Rattle.of_symbolic_run.specs.declared.state.SymbolicTask.{SymbolicTask}
 use Rattle.of_symbolic_run.specs.declared.state.Work.{Work}
-use Rattle.of_symbolic_run.specs.declared.state.Work.TheVariants.{Do, Lookup, RunSet}
+use Rattle.of_symbolic_run.specs.declared.state.Work.TheVariants.{Do, Lookup}
 use Rattle.of_symbolic_run.specs.Cases.{AreCases, AreCasesOf, AsksUnknownOf, IsAtEntry, IsCaseOf, IsEntered, IsTableOf, first_key, flow_found, flow_named, goes_to_table, lookup_line, flow_with_number}
 use Rattle.of_symbolic_run.specs.Later.{AreOneLater, IsOneLater}
 use Rattle.of_symbolic_run.specs.States.{IsStateCopy, answer_to_tasks, items_for, packet_for, row_for, task_for, work_for}
@@ -70,10 +70,6 @@ instruction_more l k i old new at lt e on h =
 pub instruction_last : (l : List Instruction) (k : ℕ) (i : Instruction) (old new : List Work) → slice_get l k ≡ Some i → k < length l → new ≡ old ++ Do i ∷ [] → goes_to_table i ≡ true → map work_for old ++ works (drop k l) ≡ works l → map work_for new ≡ works l
 instruction_last l k i old new at lt e last h =
     rw (e, map-append work_for old (Do i ∷ [])) (ap (λ (ws : List rows.Work). map work_for old ++ ws) (sym (ap works (works_at l k i at lt) ∙ last_works i (drop (k + 1) l) last)) ∙ h)
-
-pub instructions_done : (l : List Instruction) (k : ℕ) (old new : List Work) → length l ≤ k → new ≡ old ++ RunSet ∷ [] → map work_for old ++ works (drop k l) ≡ works l → map work_for new ≡ works l
-instructions_done l k old new le e h =
-    rw (e, map-append work_for old (RunSet ∷ [])) (ap (λ (is : List Instruction). map work_for old ++ works is) (sym (drop_all k l le)) ∙ h)
 
 -- ---- the packet at an entry
 

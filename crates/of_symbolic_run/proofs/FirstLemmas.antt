@@ -79,10 +79,6 @@ pub some_decrement : (ts : List SymbolicTask) → answer_to_tasks ts ≡ advance
 some_decrement [] h = absurd cc
 some_decrement (t ∷ ts) h = omega arith
 
-pub some_group : (ts : List SymbolicTask) (group : ℕ) → answer_to_tasks ts ≡ advances.Group group → 0 < length ts
-some_group [] group h = absurd cc
-some_group (t ∷ ts) group h = omega arith
-
 pub as_many : (ts copies : List SymbolicTask) → AreTaskCopies ts copies → length copies ≡ length ts
 as_many [] [] are = refl
 as_many [] (c ∷ copies) are = absurd are

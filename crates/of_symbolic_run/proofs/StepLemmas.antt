@@ -1,5 +1,5 @@
 -- What each kind of work leaves of a packet.
-use Rattle.std.proofs.Common.{◌≡◌, ℕ, Bool, true, false, cond, List, [], ◌∷◌, ◌++◌, refl, sym, ◌∙◌, ap, subst, drop, Option, Some, None, length, get_or, ◌<◌, ◌≤◌, ◌+◌, append_assoc}
+use Rattle.std.proofs.Common.{◌≡◌, ℕ, Bool, true, false, cond, List, [], ◌∷◌, ◌++◌, refl, sym, ◌∙◌, ap, drop, Some, None, length, get_or, ◌<◌, ◌≤◌, ◌+◌, append_assoc}
 use Rattle.std.specs.Prelude.{map, IsTrue, slice_get}
 use Rattle.std.proofs.lemmas.List.{append-nil, map-append, drop_all}
 use Rattle.std.proofs.lemmas.Option.{slice_get-get_or}
@@ -12,7 +12,6 @@ use Rattle.of_action_set.specs.Sets.{in_order}
 use Rattle.of_ports.specs.declared.port.Port.{Port}
 use Rattle.of_machine.specs.declared.data.Packet.{Packet}
 use Rattle.of_machine.specs.declared.data.Step.{Step}
-use Rattle.of_machine.specs.declared.data.Step.TheVariants.{End}
 use Rattle.of_machine.specs.declared.data.Step.TheVariants as step
 use Rattle.of_machine.specs.TheWorld.{TheWorld}
 use Rattle.of_machine.specs.Rows.{acts, emission, no_cookie}
@@ -21,7 +20,6 @@ use Rattle.of_machine.proofs.Moving.{acts_at}
 use Rattle.of_actions.specs.Supported.{is_supported}
 use Rattle.of_machine.proofs.Promises.{out_of_tables, settable, tag_type}
 use Rattle.of_symbolic.specs.Actions.{AreRewriting, IsRewriting, call_of, frame_by, frame_of_actions}
-use Rattle.of_symbolic_run.specs.declared.advance.Advance.{Advance}
 use Rattle.of_symbolic_run.specs.declared.advance.Advance.TheVariants.{Done}
 use Rattle.of_symbolic_run.specs.declared.state.SymbolicTask.{SymbolicTask}
 use Rattle.of_symbolic_run.specs.declared.state.Emission.{Emission}
@@ -29,7 +27,7 @@ use Rattle.of_symbolic_run.specs.declared.state.Emission.TheVariants as emission
 use Rattle.of_symbolic_run.specs.declared.state.Work.{Work}
 use Rattle.of_symbolic_run.specs.declared.state.Work.TheVariants.{Lookup, Do, RunSet, Act}
 use Rattle.of_symbolic_run.specs.Rewriting.{rewrites_alike, rewrites_frames}
-use Rattle.of_symbolic_run.specs.States.{TakesRow, TellsAdvance, TellsStep, answer_to, items_for, items_of_emission, work_line, packet_for, row_for, with_step_line, work_for}
+use Rattle.of_symbolic_run.specs.States.{TakesRow, TellsAdvance, answer_to, items_for, items_of_emission, work_line, packet_for, row_for, work_for}
 
 pub first_is : (l : List Work) (x : Work) → slice_get l 0 ≡ Some x → l ≡ x ∷ drop 1 l
 first_is [] x h = cc
@@ -173,18 +171,3 @@ row_line w p (Act (actions.Group group)) rest line h = absurd cc
 row_line w p (Act (actions.SetNwTtl ttl)) rest line h = cc
 row_line w p (Act actions.DecNwTtl) rest line h = absurd cc
 row_line w p (Act (actions.SetField f v)) rest line h = cc
-
-pub tells_is : (a : Advance) (ts : List SymbolicTask) (t : SymbolicTask) (rest : List SymbolicTask) (x : Work) (works : List Work) (l l' : List Step) → a ≡ answer_to x → ts ≡ t ∷ rest → t.work.items ≡ x ∷ works → l' ≡ with_step_line l (work_line x) → TellsAdvance a ts l l'
-tells_is a ts t rest x works l l' answer first work is = subst (λ (b : Advance). TellsAdvance b ts l l') (sym answer) (by_line (work_line x) refl)
-  where
-    by_line : (o : Option Step) → work_line x ≡ o → TellsAdvance (answer_to x) ts l l'
-    by_line None e = subst (λ (y : List Step). TellsAdvance (answer_to x) ts l y) (sym (is ∙ ap (with_step_line l) e)) (quiet x e ts l)
-    by_line (Some line) e = subst (λ (b : Advance). TellsAdvance b ts l l') (sym (is_answered x line e)) (subst (λ (us : List SymbolicTask). TellsStep us l l') (sym first) one)
-      where
-        one : (w : TheWorld) (frame : List ℕ) (port : ℕ) → l' ≡ l ++ (row_for w frame port t).line ∷ []
-        one w frame port =
-            let own : (row_for w frame port t).line ≡ line = ap (λ (ws : List Work). (rows.row w (packet_for t.packet frame port) (map work_for ws)).line) work ∙ row_line w (packet_for t.packet frame port) x (map work_for works) line e in
-            is ∙ ap (with_step_line l) e ∙ ap (λ (s : Step). l ++ s ∷ []) (sym own)
-
-pub tells_end : (ts : List SymbolicTask) (t : SymbolicTask) (rest : List SymbolicTask) (l l' : List Step) → ts ≡ t ∷ rest → t.work.items ≡ [] → l' ≡ l ++ End ∷ [] → TellsStep ts l l'
-tells_end ts t rest l l' first none is = subst (λ (us : List SymbolicTask). TellsStep us l l') (sym first) (λ w frame port. is ∙ ap (λ (ws : List Work). l ++ (rows.row w (packet_for t.packet frame port) (map work_for ws)).line ∷ []) (sym none))

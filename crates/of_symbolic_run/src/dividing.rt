@@ -1,5 +1,5 @@
 //! What a lookup makes of a state.
-ghost use Rattle.std.specs.Prelude.{◌≡◌, IfOk, IfSome, IfNone};
+ghost use Rattle.std.specs.Prelude.{◌≡◌, map, IfOk, IfSome, IfNone};
 ghost use Rattle.std.specs.List.{Contains};
 ghost use Rattle.of_machine.specs.TheWorld.{TheWorld};
 ghost use Rattle.of_table.specs.Entries.{flows_of};
@@ -25,7 +25,7 @@ pub struct Case<'a> {
 
 /// The entries of a walk.
 pub fn listed_entries<'a>(alloc: Global, entries: Entries<'a>) -> Result<Vec<&'a Entry>, AllocError>
-    ensures { IfOk result (λ listed. flows_listed listed.items ≡ flows_of entries.entry) }
+    ensures { IfOk result (λ listed. map (λ entry. entry.now) listed.items ≡ entries.entry) }
 {
     let mut listed = Vec::new(alloc);
     for entry in entries {

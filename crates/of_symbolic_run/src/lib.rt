@@ -23,7 +23,7 @@ mod written;
 
 pub use advance::{Advance, advance_state};
 pub use decrementing::divide_by_ttl;
-pub use dividing::{Case, look_up};
+pub use dividing::{Case, listed_entries, look_up};
 pub use finding::FrameFound;
 pub use frame_set::FrameSet;
 pub use grouping::run_group;

@@ -3,3 +3,4 @@ pub mod ReceivedLemmas
 pub mod GroupedLemmas
 pub mod SideLemmas
 pub mod Pairing
+pub mod ConditionLemmas

@@ -9,9 +9,6 @@ pub record SameIfLeft {X : Type 0} (whole other xs ys : List X) : Type 0 where
   pub left : whole ≡ other → xs ≡ ys
   pub back : xs ≡ ys → whole ≡ other
 
-pub pairing_begins : {X : Type 0} (whole other : List X) → SameIfLeft whole other whole other
-pairing_begins whole other = record { left = λ e. e; back = λ e. e }
-
 module _ {X : Type 0} (whole other xs ys : List X) (so_far : SameIfLeft whole other xs ys) where
   pub pairing_goes_on : (x y : X) (xs' ys' : List X) → xs ≡ x ∷ xs' → ys ≡ y ∷ ys' → x ≡ y → SameIfLeft whole other xs' ys'
   pairing_goes_on x y xs' ys' e f same = record {

@@ -1,5 +1,5 @@
 -- THE PORT NUMBERS of a switch, and conditions on the numbers of no port that receives (OpenFlow 1.3.5, 4.1 and 7.2.1).
-use Rattle.std.specs.Prelude.{◌≡◌, ℕ, ◌==◌, ◌&&◌, Bool, true, false, List, [], ◌∷◌, Option, Some, bit_and}
+use Rattle.std.specs.Prelude.{◌≡◌, ℕ, ◌==◌, ◌&&◌, Bool, true, false, List, [], ◌∷◌, Option, Some, None, bit_and}
 use Rattle.std.specs.List.{Contains, list_any}
 use Rattle.std.specs.Global.{Vec}
 use Rattle.of_layers.specs.declared.field.Field.{Field}
@@ -15,6 +15,10 @@ pub record IsReceivingPort (ports : List Port) (number : ℕ) : Type 0 where
   pub port : Port
   pub there : port_at ports number ≡ Some port
   pub receives : may_receive port ≡ true
+
+-- the condition that a packet came in by this port (7.2.3.7)
+abbrev pub came_in_by : ℕ → MatchField
+came_in_by port = record { field = InPort; value = port; mask = None }
 
 -- ---- numbers of no port that receives
 

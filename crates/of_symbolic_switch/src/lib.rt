@@ -6,6 +6,6 @@ mod ports;
 mod received;
 mod side;
 
-pub use ports::{absent_ports, receiving_port};
+pub use ports::{absent_ports, ingress_condition, receiving_port};
 pub use received::received_frames;
 pub use side::{Side, step_side};

@@ -1,11 +1,24 @@
 //! The port numbers at which a switch receives frames, and the others.
-ghost use Rattle.std.specs.Prelude.{◌≡◌, ◌↔◌, ◌≤◌, IfOk, IsTrue, OnOk, false};
-ghost use Rattle.of_symbolic_switch.specs.PortNumbers.{AreAbsences, IsConditionOf, IsReceivingPort, agrees_under, receives_under};
+ghost use Rattle.std.specs.Prelude.{◌≡◌, ◌↔◌, ◌≤◌, ◌∷◌, [], IfOk, IsTrue, OnOk, false};
+ghost use Rattle.of_regions.specs.Conditions.{AreConditions};
+ghost use Rattle.of_symbolic_switch.specs.PortNumbers.{AreAbsences, IsConditionOf, IsReceivingPort, agrees_under, came_in_by, receives_under};
 
 use of_headers::Field;
 use of_oxm::MatchField;
 use of_ports::{Port, find_port};
 use std::alloc::{AllocError, Global};
+
+/// The condition that a packet came in by this port.
+pub fn ingress_condition(port: u32) -> MatchField
+    ensures is { result ≡ came_in_by port }
+    ensures conditions { AreConditions (result ∷ []) }
+{
+    MatchField {
+        field: Field::InPort,
+        value: u128::from(port),
+        mask: None,
+    }
+}
 
 /// Whether there is a port of this number, and frames that arrive at it are received (OpenFlow 1.3.5, 7.2.1).
 pub fn receiving_port(ports: &[Port], number: u32) -> bool

@@ -1,5 +1,5 @@
 -- Entries after a flow is added.
-use Rattle.std.proofs.Common.{◌≡◌, ℕ, ◌<◌, ◌≤◌, suc, Bool, true, false, not, cond, ◌&&◌, List, [], ◌∷◌, ◌++◌, length, take, drop, get_or, Some, None, refl, sym, ap, ◌∙◌, arith}
+use Rattle.std.proofs.Common.{◌≡◌, ℕ, ◌<◌, ◌≤◌, suc, true, false, not, List, [], ◌∷◌, ◌++◌, length, take, drop, get_or, Some, None, refl, sym, ap, ◌∙◌, arith}
 use Rattle.std.specs.Prelude.{position, map, filter, remove, nat_le, slice_get}
 use Rattle.std.specs.List.{list_any}
 use Rattle.std.specs.Option.{option_map}
@@ -20,7 +20,7 @@ use Rattle.of_classifier.specs.Rows.{row_number}
 use Rattle.of_table.proofs.PlaceLemmas.{any-map, find-map, filter-map, find_none, filter_others, position_some, position_some-any, position_none}
 use Rattle.of_table.proofs.NumberLemmas.{used-rows}
 use Rattle.of_table.specs.Table.{FlowEntry, is_same, is_overlapped, add_flow_fault, kept_flow, with_flow, added}
-use Rattle.of_table.specs.declared.table_fault.TableFault.TheVariants.{Overlap, Full}
+use Rattle.of_table.specs.declared.table_fault.TableFault.TheVariants.{Full}
 use Rattle.of_table.specs.Entries.{Numbered, entry_of, numbered_entry, flows_of, classifier_row, rows_of, same_entry, IsNumberFor, added_entries}
 use Rattle.of_table.specs.declared.entry.Entry.{Entry}
 use Rattle.of_table.specs.declared.flow.Flow.{Flow}
@@ -118,24 +118,11 @@ old_flow flow es k h = any-map entry_of (is_same flow) es ∙ position_some-any 
 
 -- ---- why a flow is not added
 
-pub fault_overlap : (flow : Flow) (es : List Entry) → is_overlapped flow (flows_of es) ≡ true → add_flow_fault flow (flows_of es) ≡ Some Overlap
-fault_overlap flow es h = rw h refl
-
 pub fault_full : (flow : Flow) (es : List Entry) → is_overlapped flow (flows_of es) ≡ false → position (λ x. is_same flow (entry_of x)) es ≡ None → 4096 ≤ length es → add_flow_fault flow (flows_of es) ≡ Some Full
 fault_full flow es apart h le =
     let long : 4096 ≤ length (flows_of es) = rw length-map le in
     let test : nat_le 4096 (length (flows_of es)) ≡ true = grind (arith, nat_tests) in
     rw (apart, new_flow flow es h, test) refl
-
-pub fault_few : (flow : Flow) (es : List Entry) → is_overlapped flow (flows_of es) ≡ false → length es < 4096 → add_flow_fault flow (flows_of es) ≡ None
-fault_few flow es apart lt =
-    let short : length (flows_of es) < 4096 = rw length-map lt in
-    let test : nat_le 4096 (length (flows_of es)) ≡ false = grind (arith, nat_tests) in
-    rw (apart, test) (not_full (list_any (is_same flow) (flows_of es)))
-  where
-    not_full : (b : Bool) → cond (not b && false) (Some Full) None ≡ None
-    not_full true = refl
-    not_full false = refl
 
 pub fault_old : (flow : Flow) (es : List Entry) (k : ℕ) → is_overlapped flow (flows_of es) ≡ false → position (λ x. is_same flow (entry_of x)) es ≡ Some k → add_flow_fault flow (flows_of es) ≡ None
 fault_old flow es k apart h = rw (apart, old_flow flow es k h) refl

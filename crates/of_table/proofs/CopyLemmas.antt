@@ -11,11 +11,6 @@ pub replicate_more : {X : Type 0} (n : ℕ) (x : X) → replicate n x ++ x ∷ [
 replicate_more zero x = refl
 replicate_more {X} (suc n) x = ap (λ (xs : List X). x ∷ xs) (replicate_more n x)
 
-pub replicate_at : {X : Type 0} (n k : ℕ) (x d : X) → k < n → get_or (replicate n x) k d ≡ x
-replicate_at zero k x d lt = absurd (omega (arith, lt))
-replicate_at (suc n) zero x d lt = refl
-replicate_at (suc n) (suc k) x d lt = replicate_at n k x d (omega (arith, lt))
-
 pub take-replicate : {X : Type 0} (n k : ℕ) (x : X) → k ≤ n → take k (replicate n x) ≡ replicate k x
 take-replicate n zero x le = refl
 take-replicate zero (suc k) x le = absurd (omega (arith, le))

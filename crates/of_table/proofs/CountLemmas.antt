@@ -3,7 +3,7 @@ use Rattle.std.proofs.Common.{◌≡◌, ℕ, ◌<◌, ◌≤◌, zero, suc, fal
 use Rattle.std.proofs.lemmas.Bool.{ltb-false}
 use Rattle.std.proofs.lemmas.List.{length-map}
 use Rattle.of_table.proofs.PlaceLemmas.{any-place}
-use Rattle.of_table.specs.Table.{FlowEntry, counted_entry, counted_at, flow_at}
+use Rattle.of_table.specs.Table.{FlowEntry, counted_entry, counted_at}
 use Rattle.of_table.specs.Entries.{entry_of, flows_of, entry_number, entry_numbers, place_of, is_entry_there}
 use Rattle.of_table.specs.declared.entry.Entry.{Entry}
 
@@ -11,14 +11,6 @@ pub counted-set : (now bytes : ℕ) (es : List Entry) (k : ℕ) (e d : Entry) �
 counted-set now bytes [] k e d lt is = absurd (omega arith)
 counted-set now bytes (x ∷ es) zero e d lt is = ap (λ (f : FlowEntry). f ∷ flows_of es) is
 counted-set now bytes (x ∷ es) (suc k) e d lt is = ap (λ (fs : List FlowEntry). entry_of x ∷ fs) (counted-set now bytes es k e d (omega arith) is)
-
--- counting changes no flow
-pub flow_at-counted : (now j k bytes : ℕ) (flows : List FlowEntry) → flow_at j (counted_at now k bytes flows) ≡ flow_at j flows
-flow_at-counted now j k bytes [] = refl
-flow_at-counted now zero zero bytes (e ∷ flows) = refl
-flow_at-counted now (suc j) zero bytes (e ∷ flows) = refl
-flow_at-counted now zero (suc k) bytes (e ∷ flows) = refl
-flow_at-counted now (suc j) (suc k) bytes (e ∷ flows) = flow_at-counted now j k bytes flows
 
 counted_past : (now k bytes : ℕ) (flows : List FlowEntry) → length flows ≤ k → counted_at now k bytes flows ≡ flows
 counted_past now k bytes [] le = refl

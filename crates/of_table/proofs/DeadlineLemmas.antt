@@ -1,7 +1,6 @@
 -- Before which moment no entry expires, as entries are added, change and are removed.
-use Rattle.std.proofs.Common.{◌≡◌, ℕ, ◌+◌, ◌*◌, ◌<◌, Bool, true, false, not, cond, ◌&&◌, min, List, [], ◌∷◌, ◌++◌, Option, Some, None, set, refl, ap, ◌∙◌, arith}
-use Rattle.std.specs.Prelude.{filter, is_none, unwrap_or}
-use Rattle.std.proofs.lemmas.Bool.Decides.{nat_tests}
+use Rattle.std.proofs.Common.{◌≡◌, ℕ, ◌+◌, ◌<◌, Bool, true, false, not, cond, ◌&&◌, min, List, [], ◌∷◌, ◌++◌, Option, Some, None, set, refl, ap, ◌∙◌, arith}
+use Rattle.std.specs.Prelude.{filter, is_none}
 use Rattle.std.proofs.lemmas.List.Folds.{list_all-append}
 use Rattle.of_actions.specs.declared.instruction.Instruction.{Instruction}
 use Rattle.of_table.specs.declared.entry.Entry.{Entry}
@@ -11,22 +10,12 @@ use Rattle.of_table.specs.declared.selection.Cause.{Cause}
 use Rattle.of_table.specs.declared.selection.Cause.TheVariants.{Moment}
 use Rattle.of_table.specs.Table.{FlowEntry, is_same, with_flow}
 use Rattle.of_table.specs.Entries.{entry_of, same_entry, added_entries}
-use Rattle.of_table.specs.Selecting.{is_over, modifies, modified_by, modified_entries, modified_entry, reason_of, stays, told_by, numbered_notices, kept_of}
+use Rattle.of_table.specs.Selecting.{modifies, modified_by, modified_entries, modified_entry, reason_of, stays, told_by, numbered_notices, kept_of}
 use Rattle.of_table.specs.Deadlines.{all_stay, NoneOver}
 use Rattle.of_table.proofs.Soundness.{all-filter, all-set}
 use Rattle.std.specs.Option.{option_map, option_to_list}
 use Rattle.of_oxm.proofs.Related.{and_true}
 use Rattle.of_wire.specs.declared.reasons.FlowRemovedReason.{FlowRemovedReason}
-
-pub not_over : (now since seconds : ℕ) → now < since + 1000000000 * seconds → is_over now since seconds ≡ false
-not_over now since seconds lt = grind (arith, nat_tests)
-
-pub stays_until : (now : ℕ) (e : FlowEntry) → is_over now e.created e.flow.hard_timeout ≡ false → is_over now (unwrap_or e.last e.created) e.flow.idle_timeout ≡ false → stays (Moment now) e ≡ true
-stays_until now e hard idle = rw (hard, idle) refl
-
-pub new_stays : (at now : ℕ) (flow : Flow) (old : Option FlowEntry) → is_over at now flow.hard_timeout ≡ false → is_over at now flow.idle_timeout ≡ false → stays (Moment at) (with_flow now flow old) ≡ true
-new_stays at now flow None hard idle = rw (hard, idle) refl
-new_stays at now flow (Some e) hard idle = rw (hard, idle) refl
 
 pub added_none_over : (due until number now : ℕ) (flow : Flow) (es : List Entry) → NoneOver due es → ((at : ℕ) (old : Option FlowEntry) → at < until → stays (Moment at) (with_flow now flow old) ≡ true) → NoneOver (min due until) (added_entries number now flow es)
 added_none_over due until number now flow es none new at lt =

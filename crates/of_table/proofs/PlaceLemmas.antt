@@ -4,7 +4,6 @@ use Rattle.std.specs.Prelude.{position, find, filter, map, nat_lt}
 use Rattle.std.specs.List.{list_any, position_or_len}
 use Rattle.std.specs.Option.{option_map}
 use Rattle.std.proofs.lemmas.Bool.Decides.{nat_tests}
-use Rattle.std.proofs.lemmas.List.{length-map}
 
 pub any-place : {X : Type 0} (p : X → Bool) (xs : List X) → list_any p xs ≡ nat_lt (position_or_len p xs) (length xs)
 any-place p [] = refl
@@ -56,9 +55,6 @@ place-map g p (x ∷ xs) = rw (place-map g p xs) refl
 pub any-map : {X Y : Type 0} (g : X → Y) (p : Y → Bool) (xs : List X) → list_any p (map g xs) ≡ list_any (λ x. p (g x)) xs
 any-map g p [] = refl
 any-map g p (x ∷ xs) = rw (any-map g p xs) refl
-
-pub position-map : {X Y : Type 0} (g : X → Y) (p : Y → Bool) (xs : List X) → position p (map g xs) ≡ position (λ x. p (g x)) xs
-position-map g p xs = rw (place-map g p xs, length-map) refl
 
 pub find-map : {X Y : Type 0} (g : X → Y) (p : Y → Bool) (xs : List X) → find p (map g xs) ≡ option_map g (find (λ x. p (g x)) xs)
 find-map g p [] = refl

@@ -1,15 +1,7 @@
 -- Entries after some that were replaced.
-use Rattle.std.proofs.Common.{◌≡◌, ℕ, Bool, zero, suc, ◌+◌, ◌-◌, ◌<◌, ◌≤◌, List, [], ◌∷◌, ◌++◌, Some, length, get_or, take, drop, refl, sym, ap, ◌∙◌, arith}
-use Rattle.std.specs.Prelude.{position, remove}
+use Rattle.std.proofs.Common.{◌≡◌, ℕ, zero, suc, ◌+◌, ◌-◌, ◌<◌, ◌≤◌, List, [], ◌∷◌, ◌++◌, length, get_or, take, drop, refl, sym, ap, ◌∙◌, arith}
+use Rattle.std.specs.Prelude.{remove}
 use Rattle.std.proofs.lemmas.List.{length-drop, length-take-le, length-append, drop-drop, drop-append-le, get_or-drop, drop_at, drop_all, take_all, append-nil}
-use Rattle.of_table.proofs.PlaceLemmas.{position_some}
-
--- the first entry after them exists
-pub is_behind : {X : Type 0} (p : X → Bool) (xs : List X) (r k : ℕ) → position p (drop r xs) ≡ Some k → r + k < length xs
-is_behind p xs r k h =
-    let s = position_some p (drop r xs) k h in
-    let long : length (drop r xs) ≡ length xs - r = length-drop r xs in
-    omega (arith, s.1, long)
 
 -- one that comes after them
 pub at_behind : {X : Type 0} (xs : List X) (r k : ℕ) (x : X) → x ≡ get_or xs (r + k) x → x ≡ get_or (drop r xs) k x

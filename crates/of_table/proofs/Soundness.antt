@@ -1,6 +1,6 @@
 -- The invariants of the entries of each table are kept.
 use Rattle.std.proofs.Common.{◌≡◌, ℕ, zero, suc, ◌+◌, ◌<◌, ◌≤◌, Bool, true, false, not, cond, ltb, ltb-true, List, [], ◌∷◌, ◌&&◌, length, set, get_or, refl, sym, ap, arith, ◌∙◌}
-use Rattle.std.specs.Prelude.{filter, map, find, replicate, Option, Some, None, slice_index_or}
+use Rattle.std.specs.Prelude.{filter, map, find, Option, Some, None, slice_index_or}
 use Rattle.std.specs.List.{list_all}
 use Rattle.std.proofs.lemmas.Bool.Decides.{nat_tests}
 use Rattle.std.proofs.lemmas.List.Folds.{list_all-append}
@@ -100,10 +100,6 @@ sound_set j (suc k) (u ∷ ts) t h s = let same : j + suc k ≡ suc j + k = omeg
 
 none_sound : (k : ℕ) → AreSoundEntries k []
 none_sound k = record { few = omega arith; unlike = refl; fit = refl; checked = refl }
-
-pub empty_sound : (k n : ℕ) → AllSound k (replicate n empty_table)
-empty_sound k zero = tt
-empty_sound k (suc n) = (none_sound k, empty_sound (suc k) n)
 
 left_one_sound : (cause : Cause) (k : ℕ) (t : Table) → AreSoundEntries k t.flows → AreSoundEntries k (left_table cause k t).flows
 left_one_sound cause k t s = by_test (concerns cause k)

@@ -1,9 +1,9 @@
 -- What is outside a span, where none passes, does not count.
 use Rattle.std.proofs.Common.{◌≡◌, ℕ, suc, zero, ◌+◌, ◌-◌, ◌<◌, ◌≤◌, Bool, true, false, not, cond, ◌&&◌, ◌||◌, List, [], ◌∷◌, ◌++◌, Option, Some, None, Result, Ok, Err, length, get_or, take, drop, refl, sym, ap, subst, ◌∙◌, arith, add-one}
-use Rattle.std.specs.Prelude.{OnOk, count_by, filter, map, position, remove}
+use Rattle.std.specs.Prelude.{OnOk, count_by, map, position, remove}
 use Rattle.std.specs.Option.{option_to_list}
 use Rattle.std.specs.List.{list_any, list_all, slice_range}
-use Rattle.std.proofs.lemmas.List.{take-append-drop, drop_all, append-nil, map-append, drop_more, length-take}
+use Rattle.std.proofs.lemmas.List.{take-append-drop, append-nil, map-append, drop_more}
 use Rattle.std.proofs.lemmas.List.Concat.{flat_map-append}
 use Rattle.std.proofs.lemmas.List.Elements.{filter-append}
 use Rattle.std.proofs.lemmas.List.Folds.{drop_split}
@@ -26,7 +26,7 @@ use Rattle.of_table.specs.Deadlines.{all_stay}
 use Rattle.of_table.specs.Sound.{Key, entry_key, is_same_key, are_unlike}
 use Rattle.of_table.specs.Spans.{Outside}
 use Rattle.of_table.proofs.PlaceLemmas.{any-map, position_none}
-use Rattle.of_table.proofs.Unlike.{same_key, unlike_parts, none_first, none_second, filter_fewer}
+use Rattle.of_table.proofs.Unlike.{same_key, unlike_parts, none_first, none_second}
 use Rattle.of_table.proofs.DeadlineLemmas.{all_kept, none_told}
 
 -- ---- lists in parts
@@ -46,12 +46,6 @@ outside_less p q xs a b less o = record {
   before = none_less p q less (take a xs) o.before;
   behind = none_less p q less (drop b xs) o.behind;
 }
-
--- the span of all
-pub all_inside : {X : Type 0} (p : X → Bool) (xs : List X) (n : ℕ) → n ≡ length xs → Outside p xs 0 n
-all_inside p xs n is =
-    let long : length xs ≤ n = omega arith in
-    record { order = omega arith; within = omega arith; before = refl; behind = ap (list_any p) (drop_all n xs long) }
 
 -- that of none
 pub none_inside : {X : Type 0} (p : X → Bool) (xs : List X) → list_any p xs ≡ false → Outside p xs 0 0
@@ -103,17 +97,6 @@ meant_nowhere w priority es is h =
     subst (λ (o : Option ℕ). Outside (λ e. is_meant_by o w (entry_of e)) es 0 0) (sym is) (none_inside (λ e. is_same_row w.fields priority (classifier_row e)) es (position_none (λ e. is_same_row w.fields priority (classifier_row e)) es h))
 
 -- ---- what a span has is what all have
-
-none_filtered : {X : Type 0} (p : X → Bool) (xs : List X) → list_any p xs ≡ false → filter p xs ≡ []
-none_filtered p [] h = refl
-none_filtered p (x ∷ xs) h = rw (none_first (p x) (list_any p xs) h) (none_filtered p xs (none_second (p x) (list_any p xs) h))
-
-pub filter_inside : {X : Type 0} (p : X → Bool) (xs : List X) (a b : ℕ) → Outside p xs a b → filter p xs ≡ filter p (slice_range xs a b)
-filter_inside {X} p xs a b o =
-    ap (filter p) (in_parts xs a b o.order) ∙ filter-append p (take a xs) (slice_range xs a b ++ drop b xs)
-    ∙ (λ i. none_filtered p (take a xs) o.before i ++ filter-append p (slice_range xs a b) (drop b xs) i)
-    ∙ ap (λ (ys : List X). filter p (slice_range xs a b) ++ ys) (none_filtered p (drop b xs) o.behind)
-    ∙ append-nil (filter p (slice_range xs a b))
 
 -- the copies that a MODIFY needs
 none_wanted : (w : Selector) (es : List Entry) → list_any (λ e. is_meant w (entry_of e)) es ≡ false → wanted w es ≡ 0
@@ -250,14 +233,3 @@ one_stays cause es k d o is =
 
 pub one_goes : (cause : Cause) (es : List Entry) (k : ℕ) (d : Entry) → Outside (λ e. not (stays cause (entry_of e))) es k (k + 1) → stays cause (entry_of (get_or es k d)) ≡ false → kept_of cause es ≡ remove es k
 one_goes cause es k d o is = one_split cause es k d o ∙ rw (is, add-one k) refl
-
--- ---- at most one
-
--- a filter by priority and match has that one entry alone
-pub one_of_key : (fields : List MatchField) (priority : ℕ) (es : List Entry) (k : ℕ) → are_unlike (map entry_key (flows_of es)) ≡ true → position (λ e. is_same_row fields priority (classifier_row e)) es ≡ Some k →
-    length (filter (λ e. is_same_row fields priority (classifier_row e)) es) ≤ 1
-one_of_key fields priority es k unlike h =
-    let p = λ (e : Entry). is_same_row fields priority (classifier_row e) in
-    let o = one_inside fields priority es k unlike h in
-    let short : length (slice_range es k (k + 1)) ≤ 1 = omega (arith, length-take (k + 1 - k) (drop k es)) in
-    rw (filter_inside p es k (k + 1) o) (omega (arith, short, filter_fewer p (slice_range es k (k + 1))))

@@ -3,4 +3,3 @@ pub mod FieldLemmas
 pub mod SightLemmas
 pub mod NotingLemmas
 pub mod NoteLemmas
-pub mod LineLemmas

@@ -127,12 +127,3 @@ frame_told w frame port k sound is_frame few =
     let p = entering frame port in
     let low = frame_low w sound p is_frame few in
     (told_after w sound 13328 (sight_of p ∷ []) k (starting p (Lookup 0 ∷ [])) (frame_fits w sound p refl, tt) (record { low = (low, tt); told = refl })).told
-
--- ---- copies of a packet
-
-one_copy_more : (n : ℕ) (s : Sight) (xs : List Sight) → replicate n s ++ s ∷ xs ≡ s ∷ replicate n s ++ xs
-one_copy_more zero s xs = refl
-one_copy_more (suc n) s xs = ap (λ (l : List Sight). s ∷ l) (one_copy_more n s xs)
-
-pub copy_more : (n m : ℕ) (s : Sight) (xs : List Sight) → n ≡ suc m → replicate m s ++ s ∷ xs ≡ replicate n s ++ xs
-copy_more n m s xs e = rw e (one_copy_more m s xs)

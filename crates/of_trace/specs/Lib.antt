@@ -5,4 +5,3 @@ pub mod Json
 pub mod Notes
 pub mod Files
 pub mod OnlyNotes
-pub mod FirstLines

@@ -9,9 +9,9 @@ ghost use Rattle.of_machine.specs.Runs.{after, starting};
 ghost use Rattle.of_datapath.specs.declared.effect.Effect.{Effect};
 ghost use Rattle.of_datapath.specs.Datapath.{Forwarding};
 ghost use Rattle.of_replay.specs.Told.{Known, Left};
-ghost use Rattle.of_replay.specs.FileRuns.{Runs, TextOf, event_file, flow_text, is_text};
+ghost use Rattle.of_replay.specs.FileRuns.{Runs, TextOf, flow_text, is_text};
 ghost use Rattle.of_replay.specs.declared.event_file.Ended.TheVariants.{Done};
-ghost use Rattle.of_trace.specs.Files.{trace_of, trace_on};
+ghost use Rattle.of_trace.specs.Files.{trace_of};
 ghost use Rattle.of_trace.specs.declared.form.Output.{Output};
 ghost use Rattle.of_trace.specs.declared.form.Style.{Style};
 ghost use Rattle.of_trace.specs.declared.form.Form.{Form};
@@ -35,14 +35,11 @@ pub fn notes_only_add()
 {}
 
 /// From the bytes of a file to the bytes of the output, where no read and no write fails and memory suffices: where a reader has `file` left,
-/// and its end is read, what a writer holds grows by the text of the trace on the switch that the file says, by its flow text or by its rows.
+/// and its end is read, what a writer holds grows by the text of the trace on the switch of the flow text.
 ///
 /// What is left of a reader and held by a writer is as `files_come_whole` of of_replay says.
 pub fn traces_come_whole()
-    ensures flows { (output : Output) (port : ℕ) (frame file : List ℕ) (known : Known) (ends ends' : ℕ) (old new : Option (List ℕ)) →
+    ensures { (output : Output) (port : ℕ) (frame file : List ℕ) (known : Known) (ends ends' : ℕ) (old new : Option (List ℕ)) →
         Runs flow_text (is_text (trace_of output port frame)) Done (Left (Some file)) known ends ends' old new → ends < ends' →
         TextOf flow_text (is_text (trace_of output port frame)) file old new }
-    ensures events { (output : Output) (port : ℕ) (frame file : List ℕ) (known : Known) (ends ends' : ℕ) (old new : Option (List ℕ)) →
-        Runs event_file (is_text (trace_on output port frame)) Done (Left (Some file)) known ends ends' old new → ends < ends' →
-        TextOf event_file (is_text (trace_on output port frame)) file old new }
 {}

@@ -5,7 +5,8 @@ use Rattle.std.proofs.lemmas.Bool.{eq-eqb, ne_eqb, lt-ltb, le-ltb}
 use Rattle.of_layers.specs.declared.field.Field.{Field}
 use Rattle.of_oxm.specs.declared.match_field.MatchField.{MatchField}
 use Rattle.of_table.specs.Table.{FlowEntry, winner_place}
-use Rattle.of_tracing.specs.Why.{first_difference, reason_in, reason_of_entry}
+use Rattle.of_oxm.specs.Relations.{first_difference}
+use Rattle.of_tracing.specs.Why.{reason_in, reason_of_entry}
 use Rattle.of_tracing.specs.declared.reason.Reason.{Reason}
 use Rattle.of_tracing.specs.declared.reason.Reason.TheVariants.{Won, Differs, LowerPriority, Younger}
 

@@ -1,9 +1,9 @@
 -- WHY AN ENTRY OF A TABLE WON OR DID NOT, for a packet of these fields (OpenFlow 1.3.5, 5.3).
-use Rattle.std.specs.Prelude.{◌≡◌, ℕ, ◌<◌, ◌==◌, nat_lt, true, false, not, find, List, Option, Some, None, slice_get, if◌then◌else◌}
+use Rattle.std.specs.Prelude.{◌≡◌, ℕ, ◌<◌, ◌==◌, nat_lt, true, false, List, Option, Some, None, slice_get, if◌then◌else◌}
 use Rattle.std.specs.Option.{option_map}
 use Rattle.of_layers.specs.declared.field.Field.{Field}
 use Rattle.of_oxm.specs.declared.match_field.MatchField.{MatchField}
-use Rattle.of_oxm.specs.Relations.{agrees, matches_map}
+use Rattle.of_oxm.specs.Relations.{agrees, first_difference, matches_map}
 use Rattle.of_table.specs.Table.{FlowEntry, winner_place}
 use Rattle.of_tracing.specs.declared.reason.Reason.{Reason}
 use Rattle.of_tracing.specs.declared.reason.Reason.TheVariants.{Won, Differs, LowerPriority, Younger}
@@ -53,10 +53,6 @@ Explains flows map place (Some (LowerPriority winner)) = HasLowerPriority flows 
 Explains flows map place (Some (Younger winner)) = IsYounger flows map place winner
 
 -- ---- the one reason that there is
-
--- the first field of a match that does not agree
-abbrev pub first_difference : List MatchField → (Field → Option ℕ) → Option MatchField
-first_difference fields map = find (λ e. not (agrees e (map e.field))) fields
 
 abbrev pub beaten_by : FlowEntry → ℕ → Option FlowEntry → Reason
 beaten_by e winner None = Younger winner

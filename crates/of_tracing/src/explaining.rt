@@ -1,9 +1,8 @@
 //! Why an entry won or did not.
-ghost use Rattle.std.specs.Prelude.{◌≡◌, ◌<◌, ℕ, Option, Some, true, not, find, slice_get};
-ghost use Rattle.std.specs.Option.{option_copied};
+ghost use Rattle.std.specs.Prelude.{◌≡◌, ◌<◌, ℕ, Option, Some, true, slice_get};
 ghost use Rattle.of_layers.specs.declared.field.Field.{Field};
 ghost use Rattle.of_headers.specs.FieldMap.{value};
-ghost use Rattle.of_oxm.specs.Relations.{agrees as agrees_with, matches_map};
+ghost use Rattle.of_oxm.specs.Relations.{matches_map};
 ghost use Rattle.of_table.specs.Entries.{entry_of};
 ghost use Rattle.of_table.specs.Table.{winner_place};
 ghost use Rattle.of_table.specs.Tables.{table_at};
@@ -12,26 +11,9 @@ ghost use Rattle.of_tracing.specs.Why.{Explains, reason_in, reason_of_entry};
 use crate::reason::Reason;
 use of_classifier::Lookup;
 use of_headers::FieldKey;
-use of_oxm::MatchField;
+use of_oxm::first_difference;
 use of_switch::Switch;
 use of_table::Entry;
-
-// Whether the field of a match agrees with a value, or with its absence.
-fn agrees(e: &MatchField, found: Option<u128>) -> bool
-    ensures { result ≡ agrees_with e.now found }
-{
-    match found {
-        None => false,
-        Some(found) => found & e.mask.unwrap_or(e.field.row().ones) == e.value,
-    }
-}
-
-// The first field that does not agree.
-fn first_difference<'a>(fields: &'a [MatchField], key: &FieldKey) -> Option<&'a MatchField>
-    ensures { option_copied result ≡ find (λ e. not (agrees_with e (value key.now e.field))) fields.now }
-{
-    fields.iter().find(|e| !agrees(e, key.get(e.field)))
-}
 
 // Why an entry that matches won or did not, where this one wins.
 fn why_matching<L: Lookup>(

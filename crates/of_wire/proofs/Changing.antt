@@ -6,10 +6,6 @@ use Rattle.std.specs.Prelude.{map}
 abbrev pub changed_to : {X : Type 0} → (X → X) → ℕ → List X → List X
 changed_to f i xs = map f (take i xs) ++ drop i xs
 
-pub changed_none : {X : Type 0} (f : X → X) (xs : List X) → xs ≡ changed_to f 0 xs
-changed_none f [] = refl
-changed_none f (x ∷ xs) = refl
-
 changed_at : {X : Type 0} (f : X → X) (i : ℕ) (xs : List X) (d : X) → i < length xs → get_or (changed_to f i xs) i d ≡ get_or xs i d
 changed_at f i [] d lt = absurd (omega (arith, lt))
 changed_at f zero (x ∷ xs) d lt = refl

@@ -1,12 +1,12 @@
 -- The oldest of the highest, one more element at a time, and what it is.
-use Rattle.std.proofs.Common.{◌≡◌, ℕ, ◌<◌, ◌≤◌, Bool, true, false, cond, List, [], ◌∷◌, ◌++◌, Option, Some, None, max, refl, sym, ◌∙◌, ap, arith, inl, inr, ◌⊎◌, ⊎_elim}
+use Rattle.std.proofs.Common.{◌≡◌, ℕ, ◌<◌, ◌≤◌, Bool, true, false, cond, List, [], ◌∷◌, ◌++◌, Option, Some, None, max, refl, sym, ◌∙◌, arith, inl, inr, ◌⊎◌, ⊎_elim}
 use Rattle.std.specs.Prelude.{find, map, nat_le, if◌then◌else◌}
 use Rattle.std.specs.List.{list_all}
 use Rattle.std.specs.Option.{option_or, option_map}
 use Rattle.std.proofs.lemmas.Bool.{cases_lt}
 use Rattle.std.proofs.lemmas.Bool.Decides.{nat_tests}
 use Rattle.std.proofs.lemmas.List.Folds.{find-append}
-use Rattle.of_wire.specs.Highest.{is_highest, oldest_highest}
+use Rattle.of_wire.specs.Highest.{oldest_highest}
 
 -- the better of the best so far and one more element, which has to rank higher
 abbrev pub better : {X : Type 0} → (X → ℕ) → Option X → X → Option X
@@ -95,12 +95,6 @@ find-map {X} {Y} g p (x ∷ xs) = by_test (p (g x)) (find-map g p xs)
 list_all-map : {X Y : Type 0} (g : X → Y) (p : Y → Bool) (xs : List X) → list_all p (map g xs) ≡ list_all (λ x. p (g x)) xs
 list_all-map g p [] = refl
 list_all-map g p (x ∷ xs) = rw (list_all-map g p xs) refl
-
--- the oldest of the highest of an image is the image of that of the list, ranked through the function
-pub oldest_highest-map : {X Y : Type 0} (g : X → Y) (rank : Y → ℕ) (xs : List X) → oldest_highest rank (map g xs) ≡ option_map g (oldest_highest (λ x. rank (g x)) xs)
-oldest_highest-map g rank xs =
-    find-map g (is_highest rank (map g xs)) xs
-    ∙ ap (option_map g) (find_same _ _ (λ x. list_all-map g (λ y. nat_le (rank y) (rank (g x))) xs) xs)
 
 -- ---- of no element alone there is none
 

@@ -1,15 +1,12 @@
 -- Lists whose elements have numbers, after elements are added, removed and moved.
-use Rattle.std.proofs.Common.{◌≡◌, ℕ, ◌<◌, suc, zero, Bool, true, false, not, cond, eqb, List, [], ◌∷◌, ◌++◌, length, get_or, refl, sym, ap, arith}
+use Rattle.std.proofs.Common.{◌≡◌, ℕ, ◌<◌, suc, zero, Bool, true, false, cond, eqb, List, [], ◌∷◌, ◌++◌, length, get_or, refl, sym, ap, arith}
 use Rattle.std.specs.Prelude.{remove, map, filter}
 use Rattle.std.proofs.lemmas.Bool.Decides.{nat_tests, eqb_tells}
 use Rattle.std.proofs.lemmas.List.Folds.{list_any-append}
-use Rattle.std.proofs.lemmas.List.{append-nil, map-append}
+use Rattle.std.proofs.lemmas.List.{append-nil}
 use Rattle.of_wire.specs.Numbered.{is_used, is_distinct, without, only, moved_to_end}
 
 -- ---- one more element
-
-pub used-push : {X : Type 0} (f : X → ℕ) (m : ℕ) (xs : List X) (x : X) → is_used f m xs ≡ false → eqb (f x) m ≡ false → is_used f m (xs ++ x ∷ []) ≡ false
-used-push f m xs x u d = rw (list_any-append (λ y. eqb (f y) m) xs (x ∷ []), u, d) refl
 
 pub distinct-push : {X : Type 0} (f : X → ℕ) (xs : List X) (x : X) → is_distinct f xs ≡ true → is_used f (f x) xs ≡ false → is_distinct f (xs ++ x ∷ []) ≡ true
 distinct-push f [] x d u = refl
@@ -107,12 +104,3 @@ filter-map {X} {Y} g p (x ∷ xs) = by_test (p (g x)) (filter-map g p xs)
     by_test : (b : Bool) → filter p (map g xs) ≡ map g (filter (λ y. p (g y)) xs) → cond b (g x ∷ filter p (map g xs)) (filter p (map g xs)) ≡ map g (cond b (x ∷ filter (λ y. p (g y)) xs) (filter (λ y. p (g y)) xs))
     by_test true ih = ap (λ ys. g x ∷ ys) ih
     by_test false ih = ih
-
-pub without-map : {X Y : Type 0} (g : X → Y) (f : Y → ℕ) (n : ℕ) (xs : List X) → without f n (map g xs) ≡ map g (without (λ x. f (g x)) n xs)
-without-map g f n xs = filter-map g (λ y. not (eqb (f y) n)) xs
-
-pub only-map : {X Y : Type 0} (g : X → Y) (f : Y → ℕ) (n : ℕ) (xs : List X) → only f n (map g xs) ≡ map g (only (λ x. f (g x)) n xs)
-only-map g f n xs = filter-map g (λ y. eqb (f y) n) xs
-
-pub moved_to_end-map : {X Y : Type 0} (g : X → Y) (f : Y → ℕ) (n : ℕ) (xs : List X) → moved_to_end f n (map g xs) ≡ map g (moved_to_end (λ x. f (g x)) n xs)
-moved_to_end-map g f n xs = rw (without-map g f n xs, only-map g f n xs) (sym (map-append g (without (λ x. f (g x)) n xs) (only (λ x. f (g x)) n xs)))

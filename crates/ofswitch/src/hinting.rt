@@ -7,14 +7,6 @@ use std::alloc::{AllocError, Global};
 use std::fs::File;
 use std::io::{self, Read};
 
-/// A file that was read before; `None` where it does not give its bytes again.
-pub fn bytes_of(rt: &HostRuntime, path: &str) -> Option<Vec<u8>> {
-    let mut file = File::open(rt, path).ok()?;
-    let mut bytes = Vec::new(rt.alloc());
-    file.read_to_end(&mut bytes).ok()?;
-    Some(bytes)
-}
-
 /// Lines that were read, of which one may be at fault.
 #[derive(Drop)]
 pub struct Seen {

@@ -2,16 +2,12 @@
 
 use crate::hinting::say_refusal;
 use of_hints::import_hint;
-use of_import::{
-    Import, ImportError, ImportText, LineFaults, LineRefusal, Mode, import_tables, import_text,
-    name_of,
-};
+use of_import::{ImportError, ImportText, LineFaults, LineRefusal, Mode, import_text, name_of};
 use of_import_report::{import_as_json, left_out};
-use of_replay::streams::{ReaderSource, WriterSink};
-use of_replay::{Ended, READ_SIZE, ended_by, read_file, write_all, zeros};
+use of_replay::streams::WriterSink;
+use of_replay::{Ended, write_all};
 use of_text::TextFault;
 use std::alloc::Global;
-use std::io::Read;
 
 /// Why nothing was printed, or not all.
 #[derive(Drop)]
@@ -30,19 +26,6 @@ struct Tally {
     last: usize,
 }
 
-/// The bytes of a source.
-pub fn read_whole<R: Read + Drop>(alloc: Global, reader: R) -> Result<Vec<u8>, Ended> {
-    let mut reader = ReaderSource::new(reader);
-    let Ok(mut buffer) = zeros(alloc, READ_SIZE) else {
-        return Err(Ended::NoMemory);
-    };
-    let mut bytes = Vec::new(alloc);
-    match read_file(&mut reader, &mut buffer, &mut bytes) {
-        Ok(()) => Ok(bytes),
-        Err(halt) => Err(ended_by(Err(halt))),
-    }
-}
-
 // Writes the text whole.
 fn print_text(rt: &HostRuntime, text: &[u8]) -> Result<(), NotImported> {
     let mut writer = WriterSink::new(rt.stdout());
@@ -54,26 +37,16 @@ fn print_text(rt: &HostRuntime, text: &[u8]) -> Result<(), NotImported> {
 }
 
 /// Prints the flow text of a table, and returns how many of its lines were left out or lost an action; standard error names them.
-pub fn imported<R: Read + Drop>(
-    rt: &HostRuntime,
-    reader: R,
-    mode: Mode,
-) -> Result<u128, NotImported> {
-    let bytes = read_whole(rt.alloc(), reader).map_err(NotImported::Ended)?;
-    let done = text_of(rt, &bytes, mode)?;
+pub fn imported(rt: &HostRuntime, bytes: &[u8], mode: Mode) -> Result<u128, NotImported> {
+    let done = text_of(rt, bytes, mode)?;
     print_text(rt, &done.text)?;
     say_faults(rt, &done.faults, &done.refused);
     Ok(left_out(&done.faults, &done.refused, done.changed))
 }
 
 /// The same as one JSON document, which also says what is refused; standard error names nothing.
-pub fn imported_as_json<R: Read + Drop>(
-    rt: &HostRuntime,
-    reader: R,
-    mode: Mode,
-) -> Result<u128, NotImported> {
-    let bytes = read_whole(rt.alloc(), reader).map_err(NotImported::Ended)?;
-    let Ok(answer) = import_as_json(rt.alloc(), &bytes, mode) else {
+pub fn imported_as_json(rt: &HostRuntime, bytes: &[u8], mode: Mode) -> Result<u128, NotImported> {
+    let Ok(answer) = import_as_json(rt.alloc(), bytes, mode) else {
         return Err(NotImported::Ended(Ended::NoMemory));
     };
     print_text(rt, &answer.json)?;
@@ -83,17 +56,9 @@ pub fn imported_as_json<R: Read + Drop>(
     }
 }
 
-/// The flow text of a table; if there is none, standard error says why.
-pub fn text_of(rt: &HostRuntime, bytes: &[u8], mode: Mode) -> Result<ImportText, NotImported> {
+// The flow text of a table; if there is none, standard error says why.
+fn text_of(rt: &HostRuntime, bytes: &[u8], mode: Mode) -> Result<ImportText, NotImported> {
     match import_text(rt.alloc(), bytes, mode) {
-        Ok(done) => Ok(done),
-        Err(error) => Err(say_no_import(rt, bytes, &error)),
-    }
-}
-
-/// The import of a table, with its flows; if there is none, standard error says why.
-pub fn import_of(rt: &HostRuntime, bytes: &[u8], mode: Mode) -> Result<Import, NotImported> {
-    match import_tables(rt.alloc(), bytes, mode) {
         Ok(done) => Ok(done),
         Err(error) => Err(say_no_import(rt, bytes, &error)),
     }

@@ -1,7 +1,7 @@
 //! A switch that forwards the frames of a network.
-use crate::drawing::draw_seed;
-use crate::hinting::bytes_of;
+use crate::files::bytes_of;
 use crate::lookups::Lookups;
+use crate::seed::draw_seed;
 use of_command_line::{Live as Asked, PortPeer};
 use of_live::{Live, live};
 use of_network::Peer;
@@ -47,7 +47,7 @@ fn watched_ports<'r>(
     }
     let mut ports = PortRows::new(rt, &first_ports(rt, asked.ports)?)?;
     if let Some(path) = &asked.events {
-        if let Some(file) = bytes_of(rt, path.as_str()) {
+        if let Ok(file) = bytes_of(rt, path.as_str()) {
             ports.read(&file, rows)?;
         }
     }

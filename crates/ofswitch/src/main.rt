@@ -5,31 +5,31 @@ ghost use Rattle.std.specs.Prelude.{◌≡◌};
 
 mod checking;
 mod diffing;
-mod dividing;
-mod drawing;
+mod files;
 mod hinting;
 mod importing;
 mod live;
 mod lookups;
-mod parts;
-mod saying;
+mod paths;
+mod say;
+mod seed;
 mod serving;
 mod tracing;
 
-use crate::checking::{NoReport, reported};
-use crate::diffing::{NoDiff, diffed};
-use crate::dividing::divided;
+use crate::checking::{CheckVerdict, checked};
+use crate::diffing::diffed;
+use crate::files::{NoFile, Opened, bytes_of, open, read_whole};
 use crate::lookups::Lookups;
-use hinting::{Seen, Watched, bytes_of, say_hint, say_refusal, say_unread};
-use importing::{NotImported, imported, imported_as_json, read_whole};
+use crate::paths::{NoPaths, divided};
+use crate::tracing::{TraceVerdict, traced};
+use hinting::{Seen, Watched, say_hint, say_refusal, say_unread};
+use importing::{NotImported, imported, imported_as_json};
 use live::live_rows;
 use of_asking::Answering;
 use of_calls::{ended_unopened, read_rows};
-use of_check::{check_events, check_file};
-use of_classifier::Scan;
 use of_command_line::{
-    Check, CheckOutput, Diff, FileKind, Live, NoRequest, PathsAsked, ReplayOutput, Request, Serve,
-    Trace, read_request,
+    Check, Diff, FileRun, Live, NoRequest, PathsAsked, ReplayOutput, Request, Run, Serve, Trace,
+    read_request,
 };
 use of_diff_report::DiffVerdict;
 use of_explain::{Explaining, ExplainingJson};
@@ -37,17 +37,12 @@ use of_import::Mode;
 use of_paths_report::PathsVerdict;
 use of_replay::streams::{ReaderSource, WriterSink};
 use of_replay::{Ended, Plain, RowPrinter, Sink, Source, asm, dis, print_file, status};
-use of_sockets::StandardInput;
 use of_switch::Event;
 use of_text::TextFault;
-use parts::print_part;
-use saying::{Unsaid, said};
+use say::{Unsaid, said};
 use serving::serve_rows;
-use std::alloc::Global;
-use std::fs::File;
 use std::io::{self, Read};
 use std::process::ExitCode;
-use tracing::{traced, traced_by_content};
 
 /// The exit status if the arguments are not understood.
 const BAD_ARGUMENTS: u8 = 1;
@@ -64,7 +59,8 @@ const LEFT_OUT: u8 = 4;
 /// The exit status if `check` found something, or `diff` a difference.
 const FOUND: u8 = 4;
 
-/// The exit status if `diff` found no difference, or `paths` found paths, but frames are undecided.
+/// The exit status if `diff` found no difference, or `paths` found paths, but frames are undecided; or if ports are named that a switch does not
+/// have.
 const UNDECIDED: u8 = 5;
 
 // Failures to write to standard error are ignored and do not change the exit status.
@@ -103,9 +99,8 @@ fn tell(rt: &HostRuntime, why: &NoRequest) -> ExitCode {
 
 fn carry_out(rt: &HostRuntime, request: &Request) -> ExitCode {
     match request {
-        Request::Replay { file, .. } | Request::Assemble { file } | Request::Disassemble { file } =>
-            run_file(rt, request, file.as_str()),
-        Request::Trace(asked) => run_trace(rt, request, asked),
+        Request::File(asked) => run_file(rt, asked),
+        Request::Trace(asked) => run_trace(rt, asked),
         Request::Check(asked) => run_check(rt, asked),
         Request::Diff(asked) => run_diff(rt, asked),
         Request::Paths(asked) => run_paths(rt, asked),
@@ -130,13 +125,15 @@ fn carry_out(rt: &HostRuntime, request: &Request) -> ExitCode {
 }
 
 fn run_import(rt: &HostRuntime, path: &str, mode: Mode, json: bool) -> ExitCode {
-    let done = if path == "-" {
-        import_over(rt, StandardInput::new(rt), mode, json)
+    let bytes = match bytes_of(rt, path) {
+        Ok(bytes) => bytes,
+        Err(why) => return end_unread(rt, path, why),
+    };
+    // how many lines of a table are left out or lose an action
+    let done = if json {
+        imported_as_json(rt, &bytes, mode)
     } else {
-        match File::open(rt, path) {
-            Ok(file) => import_over(rt, file, mode, json),
-            Err(error) => return end_unopened(rt, path, &error),
-        }
+        imported(rt, &bytes, mode)
     };
     match done {
         Ok(0) => ExitCode::SUCCESS,
@@ -146,25 +143,11 @@ fn run_import(rt: &HostRuntime, path: &str, mode: Mode, json: bool) -> ExitCode 
     }
 }
 
-// How many lines of a table are left out or lose an action.
-fn import_over<R: Read + Drop>(
-    rt: &HostRuntime,
-    reader: R,
-    mode: Mode,
-    json: bool,
-) -> Result<u128, NotImported> {
-    if json {
-        imported_as_json(rt, reader, mode)
-    } else {
-        imported(rt, reader, mode)
-    }
-}
-
 fn run_say(rt: &HostRuntime, word: &str) -> ExitCode {
     match said(rt, word) {
         Ok(()) => ExitCode::SUCCESS,
         Err(Unsaid::Ended(ended)) => end(rt, &ended),
-        Err(Unsaid::Unopened(error)) => end_unopened(rt, word, &error),
+        Err(Unsaid::Unread(why)) => end_unread(rt, word, why),
         Err(Unsaid::BadHex) => {
             let _ = eprintln!(rt;
                 "bad hex: messages are hexadecimal digits, two per byte, or the bytes themselves"
@@ -178,15 +161,14 @@ fn run_say(rt: &HostRuntime, word: &str) -> ExitCode {
     }
 }
 
-fn run_file(rt: &HostRuntime, request: &Request, path: &str) -> ExitCode {
-    if path == "-" {
-        return run_over(rt, request, path, StandardInput::new(rt));
-    }
-    match File::open(rt, path) {
-        Ok(file) => {
-            let ended = run(rt, request, file);
+fn run_file(rt: &HostRuntime, asked: &FileRun) -> ExitCode {
+    let path = asked.file.as_str();
+    match open(rt, path) {
+        Ok(Opened::File(file)) => {
+            let ended = run(rt, &asked.run, file);
             end_file(rt, path, &seen_again(rt, path, &ended), &ended)
         }
+        Ok(Opened::Input(input)) => run_over(rt, asked, input),
         Err(error) => end_unopened(rt, path, &error),
     }
 }
@@ -197,71 +179,44 @@ fn seen_again(rt: &HostRuntime, path: &str, ended: &Ended) -> Seen {
         return Seen::nothing(rt.alloc());
     }
     match bytes_of(rt, path) {
-        Some(bytes) => Seen::whole(bytes),
-        None => Seen::nothing(rt.alloc()),
+        Ok(bytes) => Seen::whole(bytes),
+        Err(_) => Seen::nothing(rt.alloc()),
     }
 }
 
-fn run_trace(rt: &HostRuntime, request: &Request, asked: &Trace) -> ExitCode {
+// A file that gives its lines only once. A flow text is read before it is used.
+fn run_over<R: Read + Drop>(rt: &HostRuntime, asked: &FileRun, reader: R) -> ExitCode {
     let path = asked.file.as_str();
-    if matches!(asked.kind, FileKind::Flows | FileKind::Events) {
-        return run_file(rt, request, path);
-    }
-    match traced_by_content(rt, asked) {
-        Ok((ended, seen)) => end_file(rt, path, &seen, &ended),
-        Err(why) => end_unread(rt, path, why),
-    }
-}
-
-// Whether the file is a flow text, which is read before it is used.
-fn takes_text(request: &Request) -> bool {
-    match request {
-        Request::Assemble { .. } => true,
-        Request::Trace(asked) => asked.kind == FileKind::Flows,
-        _ => false,
-    }
-}
-
-fn run_over<R: Read + Drop>(
-    rt: &HostRuntime,
-    request: &Request,
-    path: &str,
-    reader: R,
-) -> ExitCode {
-    if !takes_text(request) {
+    if asked.run != Run::Assemble {
         let mut watched = Watched::new(rt.alloc(), reader);
-        let ended = run(rt, request, &mut watched);
+        let ended = run(rt, &asked.run, &mut watched);
         return end_file(rt, path, &watched.seen, &ended);
     }
     match read_whole(rt.alloc(), reader) {
         Ok(text) => {
             let seen = Seen::whole(text);
-            let ended = run(rt, request, seen.bytes());
+            let ended = run(rt, &asked.run, seen.bytes());
             end_file(rt, path, &seen, &ended)
         }
         Err(ended) => end_file(rt, path, &Seen::nothing(rt.alloc()), &ended),
     }
 }
 
-fn run_check(rt: &HostRuntime, asked: &Check) -> ExitCode {
-    if asked.output != CheckOutput::Lines {
-        return run_report(rt, asked);
-    }
-    let (path, kind, steps) = (asked.file.as_str(), asked.kind, asked.steps as usize);
-    if path == "-" {
-        return check_over(rt, path, kind, steps, StandardInput::new(rt));
-    }
-    match File::open(rt, path) {
-        Ok(file) => check_over(rt, path, kind, steps, file),
-        Err(error) => end_unopened(rt, path, &error),
+fn run_trace(rt: &HostRuntime, asked: &Trace) -> ExitCode {
+    match traced(rt, asked) {
+        Ok(TraceVerdict::Traced) => ExitCode::SUCCESS,
+        Ok(TraceVerdict::MissingPorts) => ExitCode::from(UNDECIDED),
+        Ok(TraceVerdict::NoPort) => ExitCode::from(BAD_ARGUMENTS),
+        Err(why) => end_unread(rt, asked.of.path.as_str(), why),
     }
 }
 
-fn run_report(rt: &HostRuntime, asked: &Check) -> ExitCode {
-    let path = asked.file.as_str();
-    match reported(rt, asked) {
-        Ok((found, seen)) => end_check(rt, path, &seen, found),
-        Err(why) => end_unread(rt, path, why),
+fn run_check(rt: &HostRuntime, asked: &Check) -> ExitCode {
+    match checked(rt, asked) {
+        Ok(CheckVerdict::Nothing) => ExitCode::SUCCESS,
+        Ok(CheckVerdict::Found) => ExitCode::from(FOUND),
+        Ok(CheckVerdict::MissingPorts) => ExitCode::from(UNDECIDED),
+        Err(why) => end_unread(rt, asked.of.path.as_str(), why),
     }
 }
 
@@ -270,7 +225,7 @@ fn run_diff(rt: &HostRuntime, asked: &Diff) -> ExitCode {
         Ok(DiffVerdict::Same) => ExitCode::SUCCESS,
         Ok(DiffVerdict::Differs | DiffVerdict::OtherPorts) => ExitCode::from(FOUND),
         Ok(DiffVerdict::Undecided) => ExitCode::from(UNDECIDED),
-        Err(why) => end_without_switch(rt, why),
+        Err(no) => end_unread(rt, no.path, no.why),
     }
 }
 
@@ -278,75 +233,18 @@ fn run_paths(rt: &HostRuntime, asked: &PathsAsked) -> ExitCode {
     match divided(rt, asked) {
         Ok(PathsVerdict::Complete) => ExitCode::SUCCESS,
         Ok(PathsVerdict::Undecided) => ExitCode::from(UNDECIDED),
-        Err(why) => end_without_switch(rt, why),
+        Err(NoPaths::File(why)) => end_unread(rt, asked.of.path.as_str(), why),
+        Err(NoPaths::NoMatch) => ExitCode::from(BAD_LINES),
+        Err(NoPaths::NoPort) => ExitCode::from(BAD_ARGUMENTS),
     }
 }
 
-// Why nothing is found about the switches of files.
-fn end_without_switch(rt: &HostRuntime, why: NoDiff<'_>) -> ExitCode {
+// Why a file was not read, or describes no switch.
+fn end_unread(rt: &HostRuntime, path: &str, why: NoFile) -> ExitCode {
     match why {
-        NoDiff::Ended(ended) => end(rt, &ended),
-        NoDiff::NoMatch => ExitCode::from(BAD_LINES),
-        NoDiff::File { path, seen, ended } => end_file(rt, path, &seen, &ended),
-        NoDiff::Unread { path, why } => end_unread(rt, path, why),
-    }
-}
-
-// Why a file that was read whole has no report or no trace.
-fn end_unread(rt: &HostRuntime, path: &str, why: NoReport) -> ExitCode {
-    match why {
-        NoReport::Ended(ended) => end_file(rt, path, &Seen::nothing(rt.alloc()), &ended),
-        NoReport::Unopened(error) => end_unopened(rt, path, &error),
-        NoReport::Faults => ExitCode::from(BAD_LINES),
-    }
-}
-
-fn check_over<R: Read + Drop>(
-    rt: &HostRuntime,
-    path: &str,
-    kind: FileKind,
-    steps: usize,
-    reader: R,
-) -> ExitCode {
-    if kind != FileKind::Events {
-        return check_text(rt, path, steps, reader);
-    }
-    let mut watched = Watched::new(rt.alloc(), reader);
-    let found = check_rows(rt, steps, &mut watched);
-    end_check(rt, path, &watched.seen, found)
-}
-
-fn check_rows<R: Read + Drop>(rt: &HostRuntime, steps: usize, reader: R) -> Result<bool, Ended> {
-    let mut source = ReaderSource::new(reader);
-    let mut writer = WriterSink::new(rt.stdout());
-    check_events::<Lookups, _, _>(rt.alloc(), &mut source, steps, &mut writer)
-}
-
-fn check_text<R: Read + Drop>(rt: &HostRuntime, path: &str, steps: usize, reader: R) -> ExitCode {
-    match read_whole(rt.alloc(), reader) {
-        Ok(text) => {
-            let seen = Seen::whole(text);
-            let found = text_found(rt, seen.bytes(), steps);
-            end_check(rt, path, &seen, found)
-        }
-        Err(ended) => end_file(rt, path, &Seen::nothing(rt.alloc()), &ended),
-    }
-}
-
-// Whether some flow never wins, or something is remarked. A table is looked up about once for each flow, so for a text a scan is enough: a map
-// for each mask costs more where masks are many.
-fn text_found(rt: &HostRuntime, text: &[u8], steps: usize) -> Result<bool, Ended> {
-    print_part(rt, text)?;
-    let mut source = ReaderSource::new(text);
-    let mut writer = WriterSink::new(rt.stdout());
-    check_file::<Scan, _, _>(rt.alloc(), &mut source, steps, &mut writer)
-}
-
-fn end_check(rt: &HostRuntime, path: &str, seen: &Seen, found: Result<bool, Ended>) -> ExitCode {
-    match found {
-        Ok(true) => ExitCode::from(FOUND),
-        Ok(false) => ExitCode::SUCCESS,
-        Err(ended) => end_file(rt, path, seen, &ended),
+        NoFile::Ended { seen, ended } => end_file(rt, path, &seen, &ended),
+        NoFile::Unopened(error) => end_unopened(rt, path, &error),
+        NoFile::Faults => ExitCode::from(BAD_LINES),
     }
 }
 
@@ -355,23 +253,9 @@ fn rows_of(rt: &HostRuntime, events: Option<&str>) -> Result<Vec<Event>, ExitCod
     let Some(path) = events else {
         return Ok(Vec::new(rt.alloc()));
     };
-    if path == "-" {
-        return rows_in(rt, path, StandardInput::new(rt));
-    }
-    match File::open(rt, path) {
-        Ok(file) => rows_in(rt, path, file),
-        Err(error) => Err(end_unopened(rt, path, &error)),
-    }
-}
-
-fn rows_in<R: Read + Drop>(
-    rt: &HostRuntime,
-    path: &str,
-    reader: R,
-) -> Result<Vec<Event>, ExitCode> {
-    let seen = match read_whole(rt.alloc(), reader) {
+    let seen = match bytes_of(rt, path) {
         Ok(bytes) => Seen::whole(bytes),
-        Err(ended) => return Err(end_file(rt, path, &Seen::nothing(rt.alloc()), &ended)),
+        Err(why) => return Err(end_unread(rt, path, why)),
     };
     let mut source = ReaderSource::new(seen.bytes());
     match read_rows(rt.alloc(), &mut source) {
@@ -422,19 +306,15 @@ fn end_unopened(rt: &HostRuntime, path: &str, error: &io::Error) -> ExitCode {
     code
 }
 
-fn run<R: Read + Drop>(rt: &HostRuntime, request: &Request, reader: R) -> Ended {
-    if let Request::Trace(asked) = request {
-        return traced(rt, asked, reader);
-    }
+fn run<R: Read + Drop>(rt: &HostRuntime, run: &Run, reader: R) -> Ended {
     let mut reader = ReaderSource::new(reader);
     let mut writer = WriterSink::new(rt.stdout());
-    match request {
-        Request::Replay {
+    match run {
+        Run::Replay {
             dpid,
             output,
             ask,
             reads,
-            ..
         } => {
             let (dpid, reads) = (*dpid, *reads);
             let (from, to) = (&mut reader, &mut writer);
@@ -450,18 +330,8 @@ fn run<R: Read + Drop>(rt: &HostRuntime, request: &Request, reader: R) -> Ended 
                 }
             }
         }
-        Request::Assemble { .. } => asm(rt.alloc(), &mut reader, &mut writer),
-        Request::Disassemble { .. } => {
-            dis::<Lookups, _, _>(rt.alloc(), &mut reader, &mut writer)
-        }
-        Request::Trace(_)
-        | Request::Check { .. }
-        | Request::Diff(_)
-        | Request::Paths(_)
-        | Request::Import { .. }
-        | Request::Say { .. }
-        | Request::Serve(_)
-        | Request::Live(_) => Ended::Done,
+        Run::Assemble => asm(rt.alloc(), &mut reader, &mut writer),
+        Run::Disassemble => dis::<Lookups, _, _>(rt.alloc(), &mut reader, &mut writer),
     }
 }
 

@@ -1,7 +1,7 @@
 //! A switch that serves controllers over sockets.
-use crate::drawing::draw_seed;
-use crate::hinting::bytes_of;
+use crate::files::bytes_of;
 use crate::lookups::Lookups;
+use crate::seed::draw_seed;
 use of_calls::Refusals;
 use of_command_line::Serve;
 use of_replay::Ended;
@@ -18,7 +18,7 @@ fn refusals_of(rt: &HostRuntime, asked: &Serve, rows: &[Event]) -> Option<Refusa
     if asked.quiet || path == "-" {
         return None;
     }
-    let file = bytes_of(rt, path)?;
+    let file = bytes_of(rt, path).ok()?;
     Refusals::new::<Lookups>(rt.alloc(), &file, rows).ok()
 }
 

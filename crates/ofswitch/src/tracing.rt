@@ -1,15 +1,21 @@
 //! Traces of frames.
-ghost use Rattle.std.specs.Prelude.{◌≡◌};
-
-use crate::checking::{NoReport, bytes_of, content_as, text_whole};
+use crate::files::{Described, NoFile, bytes_of, has_port, read_switch, say_missing};
 use crate::hinting::Seen;
 use crate::lookups::Lookups;
 use of_command_line::{Asked, FileKind, Trace};
+use of_replay::Ended;
 use of_replay::streams::{ReaderSource, WriterSink};
-use of_replay::{Ended, Source};
-use of_report::Content;
-use of_trace::{FirstLines, Form, Output, trace_events, trace_file};
-use std::io::Read;
+use of_trace::{Form, Output, trace_file, write_trace};
+
+/// Whether a frame was traced.
+#[derive(Clone, Copy, PartialEq, Eq)]
+pub enum TraceVerdict {
+    Traced,
+    /// It was, but groups or flows name ports that the switch does not have.
+    MissingPorts,
+    /// The switch does not have the port, which standard error says.
+    NoPort,
+}
 
 fn form_of(explain: bool, why: Option<Asked>) -> Form {
     match why {
@@ -26,70 +32,54 @@ fn output_of(asked: &Trace) -> Output {
     let form = form_of(asked.explain, asked.why);
     if asked.json {
         Output::Json
-    } else if asked.words {
-        Output::Words(form)
-    } else {
+    } else if asked.lines {
         Output::Lines(form)
+    } else {
+        Output::Words(form)
     }
 }
 
-// Prints the trace on the switch with the groups and flows of a flow text.
-fn traced_on_flows<S: Source>(rt: &HostRuntime, asked: &Trace, reader: &mut S) -> Ended
-    requires reads { S.reads reader.old ≡ 0 }
-{
-    let output = output_of(asked);
+// The trace on the switch of a file that an option calls a flow text, which has ports 1 to 64.
+fn traced_on_text(rt: &HostRuntime, asked: &Trace) -> Result<TraceVerdict, NoFile> {
+    let bytes = bytes_of(rt, asked.of.path.as_str())?;
     let (alloc, port, frame) = (rt.alloc(), asked.port, asked.frame.as_slice());
+    let mut reader = ReaderSource::new(bytes.as_slice());
     let mut writer = WriterSink::new(rt.stdout());
-    trace_file::<Lookups, _, _>(alloc, reader, port, frame, output, &mut writer)
-}
-
-fn traced_on_rows<S: Source>(rt: &HostRuntime, asked: &Trace, reader: &mut S) -> Ended
-    requires reads { S.reads reader.old ≡ 0 }
-{
     let output = output_of(asked);
-    let (alloc, port, frame) = (rt.alloc(), asked.port, asked.frame.as_slice());
-    let mut writer = WriterSink::new(rt.stdout());
-    trace_events::<Lookups, _, _>(alloc, reader, port, frame, output, &mut writer)
-}
-
-// The switch before a line is the one that the lines before it leave.
-fn traced_at<S: Source + Drop>(rt: &HostRuntime, asked: &Trace, source: S) -> Ended
-    requires reads { S.reads source ≡ 0 }
-{
-    let mut source = source;
-    match asked.at {
-        Some(row) => {
-            let lines = u64::from(row).saturating_sub(1);
-            traced_on_rows(rt, asked, &mut FirstLines::new(source, lines))
-        }
-        None => traced_on_rows(rt, asked, &mut source),
+    match trace_file::<Lookups, _, _>(alloc, &mut reader, port, frame, output, &mut writer) {
+        Ended::Done => Ok(TraceVerdict::Traced),
+        ended => Err(NoFile::Ended {
+            seen: Seen::whole(bytes),
+            ended,
+        }),
     }
 }
 
-/// Prints the trace of a frame on the switch of a file that an option calls a flow text or an event file. The file is read as it is played.
-pub fn traced<R: Read + Drop>(rt: &HostRuntime, asked: &Trace, reader: R) -> Ended {
-    let mut source = ReaderSource::new(reader);
-    if asked.kind == FileKind::Events {
-        return traced_at(rt, asked, source);
+// The trace on the switch of a file, with the ports that it names; before a line it is the one that the lines before it leave.
+fn traced_on_switch(rt: &HostRuntime, asked: &Trace) -> Result<TraceVerdict, NoFile> {
+    let lines = asked.at.map(|row| u64::from(row).saturating_sub(1));
+    let Described { switch, missing } = read_switch(rt, &asked.of, lines, false)?;
+    if !has_port(rt, &switch, "--port", asked.port) {
+        return Ok(TraceVerdict::NoPort);
     }
-    traced_on_flows(rt, asked, &mut source)
-}
-
-/// Prints the trace of a frame on the switch of a file, which is what its content or an option says. Returns how the run ended, and what was
-/// read.
-pub fn traced_by_content(rt: &HostRuntime, asked: &Trace) -> Result<(Ended, Seen), NoReport> {
-    let bytes = bytes_of(rt, asked.file.as_str())?;
-    let ended = match content_as(asked.kind, &bytes) {
-        Content::EventFile => traced_at(rt, asked, ReaderSource::new(bytes.as_slice())),
-        Content::FlowText => {
-            let mut reader = ReaderSource::new(bytes.as_slice());
-            traced_on_flows(rt, asked, &mut reader)
-        }
-        Content::OvsTable => {
-            let done = text_whole(rt, asked.kind, &bytes)?;
-            let mut reader = ReaderSource::new(done.text.as_slice());
-            traced_on_flows(rt, asked, &mut reader)
-        }
+    let (alloc, frame, output) = (rt.alloc(), asked.frame.as_slice(), output_of(asked));
+    let some_missing = match say_missing(rt, asked.json, &missing) {
+        Ok(some) => some,
+        Err(ended) => return Err(NoFile::ended(alloc, ended)),
     };
-    Ok((ended, Seen::whole(bytes)))
+    let mut writer = WriterSink::new(rt.stdout());
+    match write_trace(alloc, &switch, asked.port, frame, output, &mut writer) {
+        Ended::Done if some_missing => Ok(TraceVerdict::MissingPorts),
+        Ended::Done => Ok(TraceVerdict::Traced),
+        ended => Err(NoFile::ended(alloc, ended)),
+    }
+}
+
+/// Prints the trace of a frame on the switch of a file.
+pub fn traced(rt: &HostRuntime, asked: &Trace) -> Result<TraceVerdict, NoFile> {
+    if asked.of.kind == FileKind::Flows && asked.of.ports.is_none() {
+        traced_on_text(rt, asked)
+    } else {
+        traced_on_switch(rt, asked)
+    }
 }

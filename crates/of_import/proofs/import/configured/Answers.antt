@@ -5,5 +5,5 @@ pub returns-in-Err-Refused-clause-failed : goal.returns-in-Err-Refused-clause-fa
 returns-in-Err-Refused-clause-failed c = (
   c.in-Err-Refused.place,
   refused_first _ c.in-Err-Refused.field-0 c.in-Err-Refused.place c.in-Err-Refused.code c.in-Err-Refused.field-0-is c.in-Err-Refused.ensures.failed,
-  c.line_of.ensures,
+  c.number_at.ensures,
 )

@@ -23,9 +23,9 @@ returns-in-Err-clause-faults g c =
 pub returns-clause-config : goal.returns-clause-config
 returns-clause-config g c =
     let r = c.read_file in
-    read_whole flow_text c.configured.result (g.S.Source.answers c.args.reader.now) (g.S.Source.answers r.new.reader) (g.S.Source.ends c.args.reader.now) (g.S.Source.ends r.new.reader) r.new.file.items c.in-Ok-read_file.ensures.gave (rw c.deref.ensures.value at c.configured.ensures)
+    read_whole flow_text c.config_of_text.result (g.S.Source.answers c.args.reader.now) (g.S.Source.answers r.new.reader) (g.S.Source.ends c.args.reader.now) (g.S.Source.ends r.new.reader) r.new.file.items c.in-Ok-read_file.ensures.gave (rw c.deref.ensures.value at c.config_of_text.ensures)
 
 pub returns-clause-faults : goal.returns-clause-faults
 returns-clause-faults g c =
     let r = c.read_file in
-    faults_whole flow_text c.configured.result r.new.file.items (g.S.Source.reads r.new.reader) (g.S.Source.ends c.args.reader.now) (g.S.Source.ends r.new.reader) (g.S.Source.failures c.args.reader.now) (g.S.Source.failures r.new.reader) (rw c.deref.ensures.value at c.configured.ensures) c.in-Ok-read_file.ensures.reads
+    faults_whole flow_text c.config_of_text.result r.new.file.items (g.S.Source.reads r.new.reader) (g.S.Source.ends c.args.reader.now) (g.S.Source.ends r.new.reader) (g.S.Source.failures c.args.reader.now) (g.S.Source.failures r.new.reader) (rw c.deref.ensures.value at c.config_of_text.ensures) c.in-Ok-read_file.ensures.reads

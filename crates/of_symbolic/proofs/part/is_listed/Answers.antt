@@ -3,17 +3,17 @@ use Rattle.of_symbolic.specs.Parts.{IsListed}
 use Rattle.of_symbolic.proofs.PartLemmas.{contains_index, one_unlisted}
 use Rattle.of_symbolic.proofs.part.is_listed.Goals as goal
 
-pub returns-then-are_same : goal.returns-then-are_same
-returns-then-are_same c =
+pub returns-then-same_fields : goal.returns-then-same_fields
+returns-then-same_fields c =
     let lacks = c.args.lacks.now in
     let own = c.index-lacks-index.result in
-    let listed : IsListed lacks c.args.fields.now = (own, contains_index lacks c.loop-index.index own c.index-lacks-index.is c.loop-index-test.true, sym c.deref.ensures.value ∙ c.are_same.ensures.0 c.if-are_same.true) in
+    let listed : IsListed lacks c.args.fields.now = (own, contains_index lacks c.loop-index.index own c.index-lacks-index.is c.loop-index-test.true, sym c.deref.ensures.value ∙ c.same_fields.ensures.same.0 c.if-same_fields.true) in
     (λ yes. listed, λ x. refl)
 
 pub loop-index-preserved : goal.loop-index-preserved
 loop-index-preserved c =
     one_unlisted c.args.lacks.now c.loop-index.index c.index-lacks-index.result c.args.fields.now c.index-lacks-index.is c.loop-index-test.true
-    (λ same. (let yes : c.are_same.result ≡ true = c.are_same.ensures.1 (c.deref.ensures.value ∙ same) in let no = c.if-are_same.false in absurd cc)) c.loop-index.invariant
+    (λ same. (let yes : c.same_fields.result ≡ true = c.same_fields.ensures.same.1 (c.deref.ensures.value ∙ same) in let no = c.if-same_fields.false in absurd cc)) c.loop-index.invariant
 
 pub returns : goal.returns
 returns c =

@@ -29,8 +29,8 @@ returns-clause-first c w is =
     let frames = c.args.frames.now in
     let state = c.args.first.now in
     let cases = first_cases c.in_ok-cases-in-Some.cases.items in
-    let flows : flows_listed c.deref.result.now ≡ flows_of c.args.entries = ap flows_listed c.deref.ensures.value ∙ c.in_ok-listed.ensures in
-    let flows-2 : flows_listed c.deref-in-Some.result.now ≡ flows_of c.args.entries = ap flows_listed c.deref-in-Some.ensures.value ∙ c.in_ok-listed.ensures in
+    let flows : flows_listed c.deref.result.now ≡ flows_of c.args.entries = ap flows_listed c.deref.ensures.value ∙ ap flows_of c.in_ok-listed.ensures in
+    let flows-2 : flows_listed c.deref-in-Some.result.now ≡ flows_of c.args.entries = ap flows_listed c.deref-in-Some.ensures.value ∙ ap flows_of c.in_ok-listed.ensures in
     let all = own_branches _ c.in_ok-branches.field-0 made c.in-Some.is c.in_ok-branches.ensures.some packet.rewrites c.in_ok-overlay.ensures c.known.ensures in
     let are : AreBranches (flows_of c.args.entries) packet.rewrites packet.metadata frames.part made.items = subst (λ (fs : List FlowEntry). AreBranches fs packet.rewrites packet.metadata frames.part made.items) flows all in
     let own : AreCasesOf c.args.table (flows_of c.args.entries) frames state made.items cases = subst (λ (fs : List FlowEntry). AreCasesOf c.args.table fs frames state made.items cases) flows-2 c.in_ok-cases-in-Some.ensures.first in
@@ -44,8 +44,8 @@ returns-clause-second c w is =
     let first = c.args.first.now in
     let state = c.args.second.now in
     let cases = second_cases c.in_ok-cases-in-Some.cases.items in
-    let flows : flows_listed c.deref.result.now ≡ flows_of c.args.entries = ap flows_listed c.deref.ensures.value ∙ c.in_ok-listed.ensures in
-    let flows-2 : flows_listed c.deref-in-Some.result.now ≡ flows_of c.args.entries = ap flows_listed c.deref-in-Some.ensures.value ∙ c.in_ok-listed.ensures in
+    let flows : flows_listed c.deref.result.now ≡ flows_of c.args.entries = ap flows_listed c.deref.ensures.value ∙ ap flows_of c.in_ok-listed.ensures in
+    let flows-2 : flows_listed c.deref-in-Some.result.now ≡ flows_of c.args.entries = ap flows_listed c.deref-in-Some.ensures.value ∙ ap flows_of c.in_ok-listed.ensures in
     let all = own_branches _ c.in_ok-branches.field-0 made c.in-Some.is c.in_ok-branches.ensures.some packet.rewrites c.in_ok-overlay.ensures c.known.ensures in
     let are : AreBranches (flows_of c.args.entries) packet.rewrites packet.metadata frames.part made.items = subst (λ (fs : List FlowEntry). AreBranches fs packet.rewrites packet.metadata frames.part made.items) flows all in
     let own : AreCasesOf c.args.table (flows_of c.args.entries) frames state made.items cases = subst (λ (fs : List FlowEntry). AreCasesOf c.args.table fs frames state made.items cases) flows-2 c.in_ok-cases-in-Some.ensures.second in
@@ -55,7 +55,7 @@ returns-clause-second c w is =
 pub returns-in-None-clause-none : goal.returns-in-None-clause-none
 returns-in-None-clause-none c =
     let o = c.in_ok-overlay.overlay in
-    let flows : flows_listed c.deref.result.now ≡ flows_of c.args.entries = ap flows_listed c.deref.ensures.value ∙ c.in_ok-listed.ensures in
+    let flows : flows_listed c.deref.result.now ≡ flows_of c.args.entries = ap flows_listed c.deref.ensures.value ∙ ap flows_of c.in_ok-listed.ensures in
     unknown_first c.args.first.now.tasks.items c.index.result.now c.args.table o (flows_of c.args.entries) c.requires.lookup c.index.ensures c.in_ok-overlay.ensures
     (subst (AsksUnknown o) flows (subst (λ (found : Option (Vec Branch)). IfNone found (AsksUnknown o (flows_listed c.deref.result.now))) c.in-None.is c.in_ok-branches.ensures.none))
 

@@ -14,4 +14,4 @@ pub returns : goal.returns
 returns c =
     let same : vec_len c.self.inside.bytes ≡ length c.self.inside.bytes.items = search rules in
     extended c.extend_from_slice.result c.self.inside.bytes.items c.args.part.now c.front_part.result.now c.extend_from_slice.new.self.items c.args.self.now c.len-room.result
-    c.extend_from_slice.ensures.items c.front_part.ensures (c.len-room.ensures ∙ same) c.self.inside.short c.self.view_is
+    c.extend_from_slice.ensures.items c.front_part.ensures.front (c.len-room.ensures ∙ same) c.self.inside.short c.self.view_is

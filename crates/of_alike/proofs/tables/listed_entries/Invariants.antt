@@ -1,7 +1,0 @@
-use Rattle.std.proofs.Common.{◌≡◌, ◌++◌, map}
-use Rattle.std.specs.Borrow.{Bor}
-use Rattle.of_table.specs.declared.entry.Entry.{Entry}
-use Rattle.of_alike.proofs.tables.listed_entries.Given as goal
-
-abbrev pub invariant-loop-entry : goal.invariant-loop-entry
-invariant-loop-entry l = map (λ (x : Bor Entry). x.now) l.listed.items ++ l.entry-iterator ≡ l.fn.entries

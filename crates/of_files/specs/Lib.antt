@@ -1,0 +1,5 @@
+pub mod Contents
+pub mod FlowLines
+pub mod NamedPorts
+pub mod Playing
+pub mod FileTables

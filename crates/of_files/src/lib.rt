@@ -1,0 +1,15 @@
+//! What files are read as: groups and flows of a flow text or of what ovs-ofctl prints, or the switch after the rows of an event file; and
+//! the ports of a switch that has the groups and flows of a file.
+#![tactic(auto)]
+
+mod contents;
+mod flow_lines;
+mod playing;
+mod ports;
+mod tables;
+
+pub use contents::{Content, content_of};
+pub use flow_lines::text_origins;
+pub use playing::play_file;
+pub use ports::{FIRST_PORTS, missing_ports, named_ports, ports_for};
+pub use tables::{FileTables, read_table, read_text};

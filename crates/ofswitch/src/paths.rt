@@ -1,0 +1,123 @@
+//! Paths of the frames of a switch.
+use crate::files::{Described, NoFile, has_port, read_switch, say_missing};
+use crate::lookups::Lookups;
+use of_command_line::{Leading, PathsAsked};
+use of_frame_words::NoFrame;
+use of_oxm::MatchField;
+use of_paths::Merging;
+use of_paths_report::{Destination, PathsForm, PathsVerdict, asked_conditions, write_paths};
+use of_replay::Ended;
+use of_replay::streams::WriterSink;
+use of_switch::Switch;
+
+/// Why nothing is found about the frames of a switch.
+#[derive(Drop)]
+pub enum NoPaths {
+    File(NoFile),
+    /// Words are no match, which standard error says.
+    NoMatch,
+    /// The switch does not have a port, which standard error says.
+    NoPort,
+}
+
+fn destination_of(leading: Leading) -> Destination {
+    match leading {
+        Leading::Port(port) => Destination::Port(port),
+        Leading::Controller => Destination::Controller,
+        Leading::Drop => Destination::Nothing,
+    }
+}
+
+// The place to which paths lead, if one is asked for.
+fn asked_place(to: Option<Leading>) -> Option<Destination> {
+    match to {
+        None => None,
+        Some(leading) => Some(destination_of(leading)),
+    }
+}
+
+fn merging_of(each: bool) -> Merging {
+    if each {
+        Merging::Each
+    } else {
+        Merging::SameWay
+    }
+}
+
+fn form_of(json: bool) -> PathsForm {
+    if json {
+        PathsForm::Json
+    } else {
+        PathsForm::Words
+    }
+}
+
+// Whether the switch has the ports that are asked for.
+fn has_ports(rt: &HostRuntime, asked: &PathsAsked, switch: &Switch<Lookups>) -> bool {
+    let ingress = match asked.port {
+        Some(port) => has_port(rt, switch, "--port", port),
+        None => true,
+    };
+    let egress = match asked.to {
+        Some(Leading::Port(port)) => has_port(rt, switch, "--to", port),
+        _ => true,
+    };
+    ingress && egress
+}
+
+// Says why words are no match.
+fn without_match(rt: &HostRuntime, why: &NoFrame) -> NoPaths {
+    match why {
+        NoFrame::NoMemory => NoPaths::File(NoFile::ended(rt.alloc(), Ended::NoMemory)),
+        NoFrame::Refused(refusal) => {
+            let word = std::str::from_utf8(&refusal.word).unwrap_or("?");
+            let _ = eprintln!(rt; "bad match: {word}: {}", refusal.why);
+            NoPaths::NoMatch
+        }
+    }
+}
+
+// Prints the paths of the frames that a switch receives and that match.
+fn paths_within(
+    rt: &HostRuntime,
+    asked: &PathsAsked,
+    described: &Described,
+    within: &[MatchField],
+) -> Result<PathsVerdict, Ended> {
+    let missing = say_missing(rt, asked.json, &described.missing)?;
+    let (alloc, to, steps) = (rt.alloc(), asked_place(asked.to), asked.steps as usize);
+    let (merging, form) = (merging_of(asked.each), form_of(asked.json));
+    let mut out = WriterSink::new(rt.stdout());
+    match write_paths(
+        alloc,
+        &described.switch,
+        within,
+        merging,
+        to,
+        steps,
+        form,
+        &mut out,
+    )? {
+        PathsVerdict::Complete if missing => Ok(PathsVerdict::Undecided),
+        verdict => Ok(verdict),
+    }
+}
+
+/// Prints which steps the frames take that the switch of a file receives, and returns whether it is known of all of them.
+pub fn divided(rt: &HostRuntime, asked: &PathsAsked) -> Result<PathsVerdict, NoPaths> {
+    let described = match read_switch(rt, &asked.of, None, true) {
+        Ok(described) => described,
+        Err(why) => return Err(NoPaths::File(why)),
+    };
+    if !has_ports(rt, asked, &described.switch) {
+        return Err(NoPaths::NoPort);
+    }
+    let within = match asked_conditions(rt.alloc(), asked.port, asked.within.as_bytes()) {
+        Ok(within) => within,
+        Err(why) => return Err(without_match(rt, &why)),
+    };
+    match paths_within(rt, asked, &described, &within) {
+        Ok(verdict) => Ok(verdict),
+        Err(ended) => Err(NoPaths::File(NoFile::ended(rt.alloc(), ended))),
+    }
+}
