@@ -9,8 +9,8 @@ use Rattle.of_machine.specs.declared.data.Item.TheVariants.{Sent}
 use Rattle.of_machine.specs.declared.data.Packet.{Packet}
 use Rattle.of_machine.specs.Rows.{Emitted, emission, to_port}
 use Rattle.of_machine.specs.TheWorld.{TheWorld}
-use Rattle.of_symbolic_switch.specs.PortNumbers.{IsReceivingPort}
-use Rattle.of_symbolic_switch.specs.Received.{IsReceivedAt}
+use Rattle.of_symbolic_run.specs.PortNumbers.{IsReceivingPort}
+use Rattle.of_symbolic_run.specs.Received.{IsReceivedAt}
 use Rattle.of_alike.specs.SamePorts.{PortKey, SamePorts, port_key}
 
 -- the first port and the others

@@ -19,8 +19,8 @@ use Rattle.of_regions.specs.Regions.{InRegion}
 use Rattle.of_symbolic.specs.Parts.{received_fields}
 use Rattle.of_symbolic_run.specs.declared.frame_set.FrameSet.{FrameSet}
 use Rattle.of_symbolic_run.specs.FrameSets.{InFrames}
-use Rattle.of_symbolic_switch.specs.PortNumbers.{came_in_by}
-use Rattle.of_symbolic_switch.proofs.ConditionLemmas.{within_port}
+use Rattle.of_symbolic_run.specs.PortNumbers.{came_in_by}
+use Rattle.of_symbolic_run.proofs.ConditionLemmas.{within_port}
 use Rattle.of_alike.specs.IngressPorts.{HasNoneFrom, MatchesAllFrom}
 
 met_from : (port : ℕ) → port < 2 ^ 32 → (fields : Field → Option ℕ) → fields InPort ≡ Some port → matches_map (came_in_by port ∷ []) fields ≡ true

@@ -13,7 +13,7 @@ use Rattle.of_symbolic_run.specs.declared.state.Emission.TheVariants.{InvalidTtl
 use Rattle.of_symbolic_run.specs.declared.state.SymbolicPacket.{SymbolicPacket}
 use Rattle.of_symbolic_run.specs.FrameSets.{InFrames}
 use Rattle.of_symbolic_run.specs.States.{items_for, items_of_emission}
-use Rattle.of_symbolic_switch.specs.PortNumbers.{IsReceivingPort}
+use Rattle.of_symbolic_run.specs.PortNumbers.{IsReceivingPort}
 use Rattle.of_alike.specs.Alike.{LeavesAlike}
 use Rattle.of_alike.specs.SamePorts.{SamePorts}
 use Rattle.of_alike.specs.declared.alike.Compared.{Compared}

@@ -9,8 +9,7 @@ ghost use Rattle.of_alike.specs.IngressPorts.{HasNoneFrom, MatchesAllFrom};
 use of_headers::Field;
 use of_oxm::MatchField;
 use of_regions::{Meeting, Region};
-use of_symbolic_run::FrameSet;
-use of_symbolic_switch::ingress_condition;
+use of_symbolic_run::{FrameSet, ingress_condition};
 
 // Whether a condition matches no packet of the region.
 fn never_matches(region: &Region, condition: MatchField) -> bool

@@ -23,7 +23,7 @@ use Rattle.of_layers.specs.declared.field.Field.{Field}
 use Rattle.of_layers.specs.declared.field.Field.TheVariants.{InPort}
 use Rattle.of_oxm.specs.declared.match_field.MatchField.{MatchField}
 use Rattle.of_oxm.specs.Relations.{agrees, bits_looked_at, matches_map}
-use Rattle.of_remarks.specs.Actions.{is_in_port, required_port}
+use Rattle.of_check.specs.Actions.{is_in_port, required_port}
 use Rattle.of_table.specs.declared.flow.Flow.{Flow}
 use Rattle.of_table.specs.Table.{FlowEntry, flow_at}
 use Rattle.of_table.specs.Tables.{table_at}

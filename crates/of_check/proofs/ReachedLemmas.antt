@@ -17,7 +17,7 @@ use Rattle.of_table.specs.declared.flow.Flow.{Flow}
 use Rattle.of_table.specs.Table.{FlowEntry, Table, empty_table, flow_at}
 use Rattle.of_table.specs.Tables.{table_at}
 use Rattle.of_text.specs.Flows.{Flow as TextFlow, goes_to}
-use Rattle.of_remarks.specs.Tables.{IsReached, is_way, leads_to_table}
+use Rattle.of_check.specs.Tables.{IsReached, is_way, leads_to_table}
 use Rattle.of_machine.specs.declared.data.Packet.{Packet}
 use Rattle.of_machine.specs.declared.data.Step.{Step}
 use Rattle.of_machine.specs.TheWorld.{TheWorld}

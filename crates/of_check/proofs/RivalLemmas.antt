@@ -11,8 +11,8 @@ use Rattle.of_oxm.specs.declared.match_field.MatchField.{MatchField}
 use Rattle.of_oxm.specs.NormalForm.{IsKept, IsMatch}
 use Rattle.of_oxm.specs.Relations.{matches_map, overlaps_match}
 use Rattle.of_layers.specs.Reading.{layers_of}
-use Rattle.of_shapes.specs.Rules.{shape_of, tagging_of}
-use Rattle.of_shapes.proofs.Shapes.{shaped, tags_seen}
+use Rattle.of_frames.specs.Rules.{shape_of, tagging_of}
+use Rattle.of_frames.proofs.Shapes.{shaped, tags_seen}
 use Rattle.of_table.specs.Table.{FlowEntry}
 use Rattle.of_regions.specs.declared.rival.Rival.{Rival}
 use Rattle.of_regions.specs.declared.witness.Packet.{Packet as PacketFound}

@@ -18,8 +18,8 @@ use Rattle.of_action_set.specs.Sets.{in_order, is_group, is_output, rank, with_a
 use Rattle.of_table.specs.declared.flow.Flow.{Flow}
 use Rattle.of_table.specs.Tables.{table_at}
 use Rattle.of_text.specs.Flows.{Flow as TextFlow}
-use Rattle.of_remarks.specs.Tables.{flows_at}
-use Rattle.of_remarks.specs.Actions.{is_clear, is_goto, is_used_later, may_send_packet, some_writes_sending, writes_sending}
+use Rattle.of_check.specs.Tables.{flows_at}
+use Rattle.of_check.specs.Actions.{is_clear, is_goto, is_used_later, may_send_packet, some_writes_sending, writes_sending}
 use Rattle.of_machine.specs.declared.data.Packet.{Packet}
 use Rattle.of_machine.specs.declared.data.Step.{Step}
 use Rattle.of_machine.specs.TheWorld.{TheWorld}

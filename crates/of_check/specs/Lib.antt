@@ -1,6 +1,10 @@
-pub mod Verdicts
-pub mod Outlines
+pub mod Actions
 pub mod Findings
-pub mod Rules
+pub mod Groups
+pub mod Outlines
 pub mod Reached
+pub mod Remarks
+pub mod Rules
+pub mod Tables
 pub mod Unseen
+pub mod Verdicts

@@ -4,12 +4,12 @@ ghost use Rattle.std.specs.List.{list_any};
 ghost use Rattle.of_check.specs.Findings.{AreFindings, Checks, entries_below};
 ghost use Rattle.of_check.specs.Verdicts.{is_never as is_never_in};
 
+use crate::Remark;
 use crate::finding::Finding;
 use crate::outline::outlines_of;
 use crate::search::check_among;
 use crate::verdict::Verdict;
 use of_classifier::Lookup;
-use of_remarks::Remark;
 use of_switch::Switch;
 use of_wire::limits::TABLES;
 use std::alloc::{AllocError, Global};

@@ -1,13 +1,13 @@
 //! What calls of sockets and files mean, and the pauses between calls that nobody answers.
 use crate::checks::same;
 use of_cache::Cached;
-use of_calls::{
-    Ending, Pauses, Refusals, RefusedRow, ended_unopened, ending_of, is_nobody, read_rows,
-    reading_of, write_some,
-};
 use of_mask_groups::MaskGroups;
 use of_replay::memory::MemorySource;
 use of_replay::{Ended, Reading};
+use of_sockets::{
+    Ending, Pauses, Refusals, RefusedRow, ended_unopened, ending_of, is_nobody, read_rows,
+    reading_of, write_some,
+};
 use of_switch::SwitchError;
 use std::alloc::Global;
 use std::io::{self, ErrorKind, Write};

@@ -1,15 +1,15 @@
 //! A switch on a network in memory: what passes, against the text that RFC 7348 and the rows of event files give.
 use crate::checks::same;
 use of_cache::Cached;
-use of_calls::read_rows;
 use of_live::{Live, live};
 use of_mask_groups::MaskGroups;
 use of_network::Endpoint;
 use of_replay::Ended;
 use of_replay::memory::MemorySource;
+use of_sockets::read_rows;
 use of_switch::{Event, Switch};
 use of_test_peers::network::{Line, MemoryNetwork, Passed, Taking};
-use of_test_rows::bytes_of;
+use of_test_peers::rows::bytes_of;
 use of_wire::Bytes;
 use std::alloc::Global;
 use std::process::Abort;

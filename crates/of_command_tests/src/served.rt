@@ -1,13 +1,13 @@
 use crate::checks::same;
 use of_cache::Cached;
-use of_calls::read_rows;
 use of_mask_groups::MaskGroups;
 use of_replay::Ended;
 use of_replay::memory::{MemorySink, MemorySource};
 use of_serve::serve;
+use of_sockets::read_rows;
 use of_switch::Event;
 use of_test_peers::peers::{Failing, Line, MemoryClock, MemoryPeers};
-use of_test_rows::bytes_of;
+use of_test_peers::rows::bytes_of;
 use of_wire::Bytes;
 use std::alloc::Global;
 use std::process::Abort;

@@ -45,7 +45,7 @@ use Rattle.of_text.proofs.FillLemmas.{sixteen, table_at as text_table_at}
 use Rattle.of_datapath.specs.Commands.{flags_of}
 use Rattle.of_datapath.specs.Configuring.{AreKeptEntries, AreKeptFrom}
 use Rattle.of_datapath.specs.Loading.{configuration_of, loaded_entry, loaded_table, loaded_tables, flow_kept, entry_text, table_text, texts_from}
-use Rattle.of_buffers.specs.Buffers.{HeldFrames}
+use Rattle.of_datapath.specs.Buffers.{HeldFrames}
 use Rattle.of_datapath.specs.Numbers.{without_numbers}
 use Rattle.of_datapath.specs.Standing.{names_existing_groups, all_name_existing_groups, is_numbered, GroupsExist}
 use Rattle.of_datapath.proofs.StandingLemmas.{absent_mapped, same_named}

@@ -18,7 +18,7 @@ use Rattle.of_datapath.specs.Told.{each_told, effects_of, frames_for, given_item
 use Rattle.of_datapath.specs.Applying.{with_held, with_reception, without_used}
 use Rattle.of_datapath.specs.declared.reception.Reception.{Reception}
 use Rattle.of_datapath.specs.Datapath.{Forwarding, world_of, applied, forwards, all_sent, all_tallied}
-use Rattle.of_buffers.specs.Buffers.{Held, HeldFrames, given_since, hold_all, is_id, none_held, used}
+use Rattle.of_datapath.specs.Buffers.{Held, HeldFrames, given_since, hold_all, is_id, none_held, used}
 use Rattle.of_datapath.specs.Numbers.{Contents, contents, without_numbers, numbered_world, place_in, all_placed}
 use Rattle.of_datapath.proofs.Worlds.{AreDistinct, renumbered_world}
 

@@ -2,8 +2,8 @@
 use Rattle.std.proofs.Common.{◌≡◌, ◌<◌, ◌+◌, ℕ, Bool, true, false, List, [], ◌∷◌, ◌++◌, length, take, flat_map, slice_get, Some, ap, ◌∙◌, sym, refl}
 use Rattle.std.proofs.lemmas.Grind.{flat_map-append}
 use Rattle.of_wire.specs.declared.limits.TheConstants.{OFP_NO_BUFFER}
-use Rattle.of_buffers.specs.Buffers.{Held, HeldFrames, held, hold, hold_all, is_id, last_id, most_held}
-use Rattle.of_buffers.proofs.Circle.{all_is_id, held_under, others_under}
+use Rattle.of_datapath.specs.Buffers.{Held, HeldFrames, held, hold, hold_all, is_id, last_id, most_held}
+use Rattle.of_datapath.proofs.Circle.{all_is_id, held_under, others_under}
 use Rattle.of_machine.specs.declared.data.Item.{Item}
 use Rattle.of_machine.specs.declared.data.Item.TheVariants.{Sent, PacketIn}
 use Rattle.of_machine.specs.declared.data.ToController.{ToController}

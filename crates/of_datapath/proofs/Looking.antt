@@ -24,7 +24,7 @@ use Rattle.of_machine.specs.Sound.{IsSound}
 use Rattle.of_ports.specs.Ports.{is_live_at, number_of_port}
 use Rattle.of_actions.specs.Rising.{is_ascending}
 use Rattle.of_datapath.specs.Datapath.{world_of, winner_in, flow_in}
-use Rattle.of_buffers.specs.Buffers.{none_held}
+use Rattle.of_datapath.specs.Buffers.{none_held}
 use Rattle.of_datapath.specs.Numbers.{without_numbers, entries_at}
 use Rattle.of_datapath.proofs.GroupWorlds.{are_buckets}
 use Rattle.of_datapath.proofs.Worlds.{AreFit, table_is, flow_some, flow_none, flow_fit, both}

@@ -47,7 +47,7 @@ use Rattle.of_ports.specs.Ports.{may_receive, port_at}
 use Rattle.of_datapath.specs.Told.{effects_of, held_after}
 use Rattle.of_datapath.specs.Commands.{names_absent_group}
 use Rattle.of_datapath.specs.Loading.{loaded_entry, loaded_table, loaded_tables}
-use Rattle.of_buffers.specs.Buffers.{HeldFrames}
+use Rattle.of_datapath.specs.Buffers.{HeldFrames}
 use Rattle.of_datapath.specs.Datapath.{Forwarding, world_of, applied, arriving, count_port, framed, taken_in, through, tallied, all_tallied, sent, all_sent}
 use Rattle.of_datapath.specs.Standing.{names_existing_groups, all_name_existing_groups, is_numbered, GroupsExist}
 

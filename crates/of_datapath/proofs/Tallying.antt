@@ -9,7 +9,7 @@ use Rattle.of_table.specs.Tables.{NumberedTables, all_numbers}
 use Rattle.of_machine.specs.declared.data.Count.{Count}
 use Rattle.of_machine.specs.declared.data.Count.TheVariants.{Lookup, Matched, TxDropped, Group, Bucket}
 use Rattle.of_datapath.specs.declared.effect.Effect.{Effect}
-use Rattle.of_buffers.specs.Buffers.{Held}
+use Rattle.of_datapath.specs.Buffers.{Held}
 use Rattle.of_datapath.specs.declared.reception.Reception.{Reception}
 use Rattle.of_datapath.specs.Applying.{with_held, with_reception}
 use Rattle.of_datapath.specs.Datapath.{Forwarding, tallied, all_tallied, sent, all_sent}

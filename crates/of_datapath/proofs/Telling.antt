@@ -1,6 +1,6 @@
 -- What is told of items, one after the other.
 use Rattle.std.proofs.Common.{◌≡◌, ℕ, true, false, List, [], ◌∷◌, ◌++◌, ap, ◌∙◌, sym, refl, flat_map, append_assoc, suc, arith}
-use Rattle.of_buffers.specs.Buffers.{Held, HeldFrames, hold, hold_all}
+use Rattle.of_datapath.specs.Buffers.{Held, HeldFrames, hold, hold_all}
 use Rattle.of_machine.specs.declared.data.Item.{Item}
 use Rattle.of_machine.specs.Growth.{AllShort}
 use Rattle.of_ports.specs.declared.port.Port.{Port}

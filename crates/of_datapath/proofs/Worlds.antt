@@ -29,7 +29,7 @@ use Rattle.of_machine.specs.Renumbering.{IsRenumbered}
 use Rattle.of_ports.specs.Ports.{is_live_at, number_of_port}
 use Rattle.of_actions.specs.Rising.{is_ascending}
 use Rattle.of_datapath.specs.Datapath.{world_of}
-use Rattle.of_buffers.specs.Buffers.{none_held}
+use Rattle.of_datapath.specs.Buffers.{none_held}
 use Rattle.of_datapath.specs.Numbers.{without_numbers, entries_at, entry_number_at, numbered_flow, numbered_world, place_in}
 use Rattle.of_datapath.proofs.GroupWorlds.{are_buckets}
 use Rattle.of_datapath.proofs.PlaceNumbers.{itself, number_at_place, place_of_number}

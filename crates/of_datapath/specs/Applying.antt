@@ -1,6 +1,6 @@
 -- What a run does besides what it counts: a reception is counted, a held frame is used, and frames are held.
 use Rattle.std.specs.Prelude.{ℕ, List, Option, Some, None}
-use Rattle.of_buffers.specs.Buffers.{Held, HeldFrames, hold_all, used}
+use Rattle.of_datapath.specs.Buffers.{Held, HeldFrames, hold_all, used}
 use Rattle.of_datapath.specs.declared.reception.Reception.{Reception}
 use Rattle.of_datapath.specs.Datapath.{Forwarding, count_port}
 

@@ -3,7 +3,7 @@ use Rattle.std.specs.Prelude.{ℕ, ◌%◌, ◌^◌, ◌==◌, ◌&&◌, bit_and
 use Rattle.std.specs.List.{list_any}
 use Rattle.std.specs.Option.{option_map}
 use Rattle.of_wire.specs.declared.limits.TheConstants.{OFPFF_CHECK_OVERLAP, OFPFF_NO_BYT_COUNTS, OFPFF_NO_PKT_COUNTS, OFPFF_RESET_COUNTS, OFPFF_SEND_FLOW_REM, OFPTT_ALL, OFPP_ANY, OFP_NO_BUFFER}
-use Rattle.of_buffers.specs.Buffers.{Held, HeldFrames, held, used}
+use Rattle.of_datapath.specs.Buffers.{Held, HeldFrames, held, used}
 use Rattle.of_wire.specs.declared.codes.TheConstants.{OFPBAC_BAD_OUT_GROUP, OFPBRC_BUFFER_UNKNOWN, OFPFMFC_OVERLAP, OFPFMFC_TABLE_FULL}
 use Rattle.of_wire.specs.Reasons.{flow_removed_number}
 use Rattle.of_wire.specs.declared.code.Code.{Code}

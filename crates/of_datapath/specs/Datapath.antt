@@ -11,7 +11,7 @@ use Rattle.of_groups.specs.Groups.{bucket_at, counted, bucket_counted}
 use Rattle.of_groups.specs.Chains.{chain}
 use Rattle.of_groups.specs.Liveness.{chosen}
 use Rattle.of_ports.specs.declared.port.Port.{Port}
-use Rattle.of_buffers.specs.Buffers.{Held, HeldFrames, none_held, used}
+use Rattle.of_datapath.specs.Buffers.{Held, HeldFrames, none_held, used}
 use Rattle.of_machine.specs.declared.data.Count.{Count}
 use Rattle.of_machine.specs.declared.data.Count.TheVariants.{Lookup, Matched, TxDropped, Group as GroupUse, Bucket}
 use Rattle.of_machine.specs.declared.data.Packet.{Packet}

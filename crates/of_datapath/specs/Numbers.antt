@@ -12,7 +12,7 @@ use Rattle.of_groups.specs.Groups.{bucket_at}
 use Rattle.of_groups.specs.Chains.{chain}
 use Rattle.of_groups.specs.Liveness.{chosen}
 use Rattle.of_ports.specs.declared.port.Port.{Port}
-use Rattle.of_buffers.specs.Buffers.{HeldFrames}
+use Rattle.of_datapath.specs.Buffers.{HeldFrames}
 use Rattle.of_machine.specs.declared.data.Count.{Count}
 use Rattle.of_machine.specs.TheWorld.{TheWorld}
 use Rattle.of_machine.specs.Renumbering.{renumbered_count}

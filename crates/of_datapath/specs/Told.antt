@@ -4,7 +4,7 @@ use Rattle.std.specs.Option.{option_map_or}
 use Rattle.of_wire.specs.declared.limits.TheConstants.{OFP_NO_BUFFER}
 use Rattle.of_wire.specs.Reasons.{packet_in_number}
 use Rattle.of_headers.specs.Faults.{frame_fault}
-use Rattle.of_buffers.specs.Buffers.{Held, HeldFrames, id_following, hold_all}
+use Rattle.of_datapath.specs.Buffers.{Held, HeldFrames, id_following, hold_all}
 use Rattle.of_messages.specs.Written.{packet_in_bytes}
 use Rattle.of_wire.specs.declared.reasons.PacketInReason.{PacketInReason}
 use Rattle.of_wire.specs.declared.reasons.PacketInReason.TheVariants as reason

@@ -9,7 +9,7 @@ use Rattle.of_symbolic_run.specs.FrameSets.{InFrames}
 use Rattle.of_symbolic_run.specs.States.{IsAt, items_for}
 use Rattle.of_alike.specs.declared.alike.Compared.{Compared}
 use Rattle.of_diff.specs.declared.pair.Pair.{Pair}
-use Rattle.of_symbolic_switch.specs.Received.{IsReceivedAt, items_at}
+use Rattle.of_symbolic_run.specs.Received.{IsReceivedAt, items_at}
 use Rattle.of_diff.specs.Differences.{IsTreatedAlike}
 use Rattle.of_alike.specs.Emitting.{LeaveAlike}
 use Rattle.of_diff.specs.Pairs.{AreStatesOfRuns}

@@ -12,7 +12,7 @@ use Rattle.of_diff.specs.declared.difference.Difference.{Difference}
 use Rattle.of_diff.specs.declared.difference.Differences.{Differences}
 use Rattle.of_diff.specs.declared.difference.Undecided.{Undecided}
 use Rattle.of_diff.specs.declared.pair.Pair.{Pair}
-use Rattle.of_symbolic_switch.specs.Received.{IsReceivedAt}
+use Rattle.of_symbolic_run.specs.Received.{IsReceivedAt}
 use Rattle.of_diff.specs.Comparing.{AreDifferences}
 use Rattle.of_diff.specs.Differences.{InDifferences, InUndecided, IsDifference, IsTreatedAlike}
 use Rattle.of_alike.specs.SamePorts.{SamePorts}

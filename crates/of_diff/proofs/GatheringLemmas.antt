@@ -7,7 +7,7 @@ use Rattle.of_machine.specs.TheWorld.{TheWorld}
 use Rattle.of_symbolic_run.specs.declared.frame_set.FrameSet.{FrameSet}
 use Rattle.of_oxm.specs.declared.match_field.MatchField.{MatchField}
 use Rattle.of_symbolic_run.specs.FrameSets.{AreFramesMatching, InFrames}
-use Rattle.of_symbolic_switch.specs.Received.{IsReceivedAt, items_at}
+use Rattle.of_symbolic_run.specs.Received.{IsReceivedAt, items_at}
 use Rattle.of_alike.specs.Alike.{DiffersAt}
 use Rattle.of_diff.specs.Differences.{InDifferences, InSets, IsDifference, SomeDiffers}
 use Rattle.of_diff.specs.Pairs.{PutsDifference, place_of_difference}

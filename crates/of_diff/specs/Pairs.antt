@@ -8,7 +8,7 @@ use Rattle.of_symbolic_run.specs.declared.joint.JointCase.{JointCase}
 use Rattle.of_symbolic_run.specs.declared.state.SymbolicState.{SymbolicState}
 use Rattle.of_symbolic_run.specs.FrameSets.{InFrames}
 use Rattle.of_symbolic_run.specs.States.{IsAt, IsStateCopy}
-use Rattle.of_symbolic_switch.specs.Received.{IsReceivedAt}
+use Rattle.of_symbolic_run.specs.Received.{IsReceivedAt}
 use Rattle.of_diff.specs.Differences.{InDifferences, InSets, IsTreatedAlike, IsDifference}
 use Rattle.of_alike.specs.declared.alike.Compared.{Compared}
 use Rattle.of_alike.specs.declared.alike.Where.{Where}

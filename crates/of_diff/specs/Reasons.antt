@@ -4,9 +4,9 @@ use Rattle.std.specs.List.{Contains}
 use Rattle.of_machine.specs.TheWorld.{TheWorld}
 use Rattle.of_symbolic_run.specs.declared.frame_set.FrameSet.{FrameSet}
 use Rattle.of_symbolic_run.specs.FrameSets.{InFrames}
-use Rattle.of_symbolic_switch.specs.Received.{IsReceivedAt}
-use Rattle.of_symbolic_switch.specs.Sides.{IsUnknownLookup}
-use Rattle.of_symbolic_switch.specs.Unfound.{FindsNone}
+use Rattle.of_symbolic_run.specs.Received.{IsReceivedAt}
+use Rattle.of_symbolic_run.specs.Sides.{IsUnknownLookup}
+use Rattle.of_symbolic_run.specs.Unfound.{FindsNone}
 use Rattle.of_alike.specs.Agreeing.{AgreeFrom, GoOnAlike}
 use Rattle.of_diff.specs.Differences.{IsDifference, IsTreatedAlike}
 use Rattle.of_diff.specs.Pairs.{ArePairs, AreStatesOfRuns}

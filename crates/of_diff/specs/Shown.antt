@@ -4,7 +4,7 @@ use Rattle.of_rewrite.specs.Frames.{IsFrame}
 use Rattle.of_machine.specs.TheWorld.{TheWorld}
 use Rattle.of_symbolic_run.specs.declared.frame_set.FrameSet.{FrameSet}
 use Rattle.of_symbolic_run.specs.FrameSets.{InFrames}
-use Rattle.of_symbolic_switch.specs.Received.{IsReceivedAt, items_at}
+use Rattle.of_symbolic_run.specs.Received.{IsReceivedAt, items_at}
 use Rattle.of_alike.specs.Alike.{DiffersAt}
 use Rattle.of_diff.specs.Reasons.{IsTriedReason}
 use Rattle.of_alike.specs.declared.alike.Compared.{Compared}

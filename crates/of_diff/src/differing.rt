@@ -11,7 +11,7 @@ ghost use Rattle.of_diff.specs.Pairs.{AreStatesOfRuns};
 ghost use Rattle.of_diff.specs.Reasons.{ArePairsAfter};
 ghost use Rattle.of_alike.specs.SamePorts.{SamePorts};
 ghost use Rattle.of_diff.specs.SoFar.{IsSoFar, NextIs};
-ghost use Rattle.of_symbolic_switch.specs.Received.{IsReceivedAt};
+ghost use Rattle.of_symbolic_run.specs.Received.{IsReceivedAt};
 
 use crate::agreement::agreement_of;
 use crate::difference::{Differences, Undecided, Why};
@@ -21,8 +21,7 @@ use crate::stepping::step_pair;
 use of_alike::{Compared, have_same_ports};
 use of_classifier::Lookup;
 use of_datapath::Datapath;
-use of_symbolic_run::received_state;
-use of_symbolic_switch::received_frames;
+use of_symbolic_run::{received_frames, received_state};
 use std::alloc::{AllocError, Global};
 
 // Puts what comes of a pair to the others.

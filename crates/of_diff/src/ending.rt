@@ -17,8 +17,7 @@ use of_alike::{Compared, Where, first_difference};
 use of_classifier::Lookup;
 use of_datapath::Datapath;
 use of_machine::Items;
-use of_symbolic_run::{FrameFound, FrameSet};
-use of_symbolic_switch::{ingress_condition, receiving_port};
+use of_symbolic_run::{FrameFound, FrameSet, ingress_condition, receiving_port};
 use std::alloc::{AllocError, Global};
 
 /// A frame for which something else leaves, and where.

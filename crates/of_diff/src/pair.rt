@@ -11,8 +11,7 @@ use crate::difference::{Difference, Undecided, Why};
 use crate::ending::not_decided;
 use of_classifier::Lookup;
 use of_datapath::Datapath;
-use of_symbolic_run::{Case, FrameSet, SymbolicState};
-use of_symbolic_switch::{Side, step_side};
+use of_symbolic_run::{Case, FrameSet, Side, SymbolicState, step_side};
 use std::alloc::{AllocError, Global};
 
 /// The states of the runs of two switches, for all frames of a set.

@@ -3,7 +3,7 @@ use Rattle.std.specs.Prelude.{◌≡◌, ◌≢◌, ℕ, ◌==◌, List, length,
 use Rattle.of_datapath.specs.Datapath.{Forwarding, world_of}
 use Rattle.of_replay.specs.declared.event_file.Ended.{Ended}
 use Rattle.of_replay.specs.declared.event_file.Ended.TheVariants.{Done}
-use Rattle.of_symbolic_switch.specs.Received.{IsReceivedAt}
+use Rattle.of_symbolic_run.specs.Received.{IsReceivedAt}
 use Rattle.of_diff.specs.Comparing.{AreDifferences}
 use Rattle.of_diff.specs.Differences.{IsDifference, IsTreatedAlike}
 use Rattle.of_alike.specs.SamePorts.{SamePorts}

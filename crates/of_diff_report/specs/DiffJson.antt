@@ -10,7 +10,7 @@ use Rattle.of_diff.specs.declared.difference.Differences.{Differences}
 use Rattle.of_diff.specs.declared.difference.Undecided.{Undecided}
 use Rattle.of_diff.specs.declared.difference.Why.{Why}
 use Rattle.of_diff.specs.declared.difference.Why.TheVariants.{OtherActions, Search, Steps, UnknownTag}
-use Rattle.of_leaving.specs.LeavingJson.{items_member, place_member}
+use Rattle.of_json.specs.LeavingJson.{items_member, place_member}
 use Rattle.of_diff_report.specs.DiffWords.{are_same}
 
 -- ---- a difference

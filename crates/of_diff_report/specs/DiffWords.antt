@@ -4,8 +4,8 @@ use Rattle.std.specs.List.{flat_map}
 use Rattle.of_text.specs.Lines.{ended}
 use Rattle.of_datapath.specs.Datapath.{Forwarding}
 use Rattle.of_trace.specs.Words.{heading}
-use Rattle.of_leaving.specs.LeavingWords.{frame_line, side_words}
-use Rattle.of_leaving.specs.UndecidedWords.{undecided_count, undecided_sets}
+use Rattle.of_json.specs.LeavingWords.{frame_line, side_words}
+use Rattle.of_json.specs.UndecidedWords.{undecided_count, undecided_sets}
 use Rattle.of_alike.specs.declared.alike.Where.{Where}
 use Rattle.of_alike.specs.declared.alike.Where.TheVariants.{Controller, Port as ByPort}
 use Rattle.of_diff.specs.declared.difference.Difference.{Difference}

@@ -6,9 +6,9 @@ use crate::words::is_same;
 use of_alike::Where;
 use of_diff::{Difference, Differences, Undecided, Why};
 use of_json::{
-    push_array_member, push_bytes_member, push_key, push_number_member, push_quoted, push_truth,
+    push_array_member, push_bytes_member, push_controller_place, push_items_member, push_key,
+    push_number_member, push_port_place, push_quoted, push_truth,
 };
-use of_leaving::{push_controller_place, push_items_member, push_port_place};
 use std::alloc::{AllocError, Global};
 
 #[tactic(auto, unfolding(crate::specs::DiffJson::at_member))]

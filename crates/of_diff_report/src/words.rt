@@ -6,7 +6,7 @@ ghost use Rattle.of_diff_report.specs.DiffWords.{are_same, count_why, diff_summa
 use of_alike::Where;
 use of_classifier::Lookup;
 use of_diff::{Difference, Differences, Undecided, Why};
-use of_leaving::{push_frame_line, push_side, push_undecided_count, push_undecided_sets};
+use of_json::{push_frame_line, push_side, push_undecided_count, push_undecided_sets};
 use of_switch::Switch;
 use of_trace::push_heading;
 use of_values::push_decimal;

@@ -2,7 +2,7 @@
 ghost use Rattle.std.specs.Prelude.{◌≡◌, ◌<◌, ◌↔◌, ℕ, List, IfOk, Ok, None, Some};
 ghost use Rattle.of_datapath.specs.Datapath.{Forwarding, world_of};
 ghost use Rattle.of_replay.specs.FileRuns.{Writes, ended_as};
-ghost use Rattle.of_symbolic_switch.specs.Received.{IsReceivedAt};
+ghost use Rattle.of_symbolic_run.specs.Received.{IsReceivedAt};
 ghost use Rattle.of_diff.specs.Differences.{IsDifference, IsTreatedAlike};
 ghost use Rattle.of_alike.specs.declared.alike.Compared.{Compared as WhatIsCompared};
 ghost use Rattle.of_diff.specs.declared.difference.Difference.{Difference};

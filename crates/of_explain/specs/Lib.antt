@@ -1,9 +1,10 @@
-pub mod Names
-pub mod Notes
+pub mod Explained
 pub mod Fields
 pub mod Messages
-pub mod Requests
+pub mod Names
+pub mod Notes
+pub mod Questions
 pub mod Replies
-pub mod Explained
-pub mod Saying
+pub mod Requests
 pub mod RowObjects
+pub mod Saying

@@ -1,6 +1,7 @@
-//! Event files explained: what each row did, in words.
+//! Event files explained: what each row did, in words, and questions about the switch, answered while its rows are played.
 #![tactic(auto)]
 
+mod answering;
 mod effects;
 mod explaining;
 mod fields;
@@ -10,6 +11,7 @@ mod laws;
 mod messages;
 mod names;
 mod notes;
+mod question;
 mod replies;
 mod requests;
 mod rows;
@@ -17,6 +19,7 @@ mod said;
 mod saying;
 mod told;
 
+pub use answering::Answering;
 pub use explaining::{explain, explain_json};
 pub use fields::{Field, Form};
 pub use frames::push_frame_notes;

@@ -10,7 +10,7 @@ use Rattle.of_actions.specs.PortNumbers.{is_number}
 use Rattle.of_text.specs.Configs.{Configuration}
 use Rattle.of_text.specs.Flows.{Flow}
 use Rattle.of_text.specs.Groups.{TextBucket, TextGroup}
-use Rattle.of_remarks.specs.Actions.{required_port}
+use Rattle.of_check.specs.Actions.{required_port}
 
 -- ---- what names a port: an OUTPUT, a match on IN_PORT, and a bucket that watches one
 

@@ -5,7 +5,7 @@ use of_actions::{
 };
 use of_layers::Field;
 use of_oxm::read_match;
-use of_test_rows::bytes_of;
+use of_test_peers::rows::bytes_of;
 use of_wire::Code;
 use of_wire::limits::{OFPP_MAX, OFPP_TABLE};
 use std::alloc::Global;

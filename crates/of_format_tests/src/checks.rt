@@ -2,7 +2,7 @@
 use crate::numbers::numbers;
 use of_actions::{read_actions, read_instructions};
 use of_messages::{Role, agreed_version, read_message, read_message_as};
-use of_test_rows::{bytes_of, number_of, sides};
+use of_test_peers::rows::{bytes_of, number_of, sides};
 use of_wire::{Code, ReadError};
 use std::alloc::Global;
 use std::fmt::Debug;

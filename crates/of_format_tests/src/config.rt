@@ -1,7 +1,7 @@
 use crate::checks::same;
 use of_build::messages;
-use of_config::{ConfigFault, build, config_of};
-use of_test_rows::bytes_of;
+use of_laws::{ConfigFault, build, config_of};
+use of_test_peers::rows::bytes_of;
 use of_text::{Config, assemble, disassemble};
 use of_wire::{Bytes, Code};
 use std::alloc::Global;

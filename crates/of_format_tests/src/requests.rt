@@ -1,10 +1,10 @@
 use crate::checks::same;
 use of_actions::{Action, ActionList};
+use of_laws::{WriteError, write_message};
 use of_messages::{
     Message, MessageBytes, MultipartRequest, PacketData, PacketOut, TableMod, read_message,
 };
-use of_requests::{WriteError, write_message};
-use of_test_rows::bytes_of;
+use of_test_peers::rows::bytes_of;
 use std::alloc::Global;
 use std::test::Fail;
 

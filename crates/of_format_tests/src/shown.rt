@@ -3,7 +3,7 @@ use crate::checks::same;
 use crate::groups_and_ports::{self, WANTED_PORT_MOD, is_added};
 use crate::messages::{self, brings, goes_to_tables, sends_on};
 use of_messages::{GroupMod, Message, read_message};
-use of_test_rows::bytes_of;
+use of_test_peers::rows::bytes_of;
 use std::alloc::Global;
 use std::process::Abort;
 use std::test::Fail;

@@ -3,7 +3,7 @@ use crate::actions::{actions_again, instructions_again};
 use crate::checks::{Asked, are_answered, is_written};
 use crate::requests::message_again;
 use crate::{actions, channel, groups_and_ports, messages, requests};
-use of_test_rows::sides;
+use of_test_peers::rows::sides;
 use std::alloc::Global;
 use std::process::Abort;
 use std::test::Fail;

@@ -5,7 +5,7 @@ use Rattle.of_layers.specs.declared.field.Field.{Field}
 use Rattle.of_layers.specs.Fields.{row_of}
 use Rattle.of_headers.specs.declared.key.FieldKey.{FieldKey}
 use Rattle.of_headers.specs.FieldMap.{value}
-use Rattle.of_shapes.specs.declared.shape.Shape.{Shape}
+use Rattle.of_frames.specs.declared.shape.Shape.{Shape}
 use Rattle.of_frames.specs.Given.{or_zero}
 use Rattle.of_frames.proofs.KeyLemmas.{numbers_are}
 use Rattle.of_frame_words.specs.Frames.{shape_by}

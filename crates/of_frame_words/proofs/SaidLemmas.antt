@@ -8,8 +8,8 @@ use Rattle.of_layers.specs.declared.field.Field.TheVariants.{InPort}
 use Rattle.of_layers.specs.Fields.{row_of, number_of, ones_of}
 use Rattle.of_headers.specs.declared.key.FieldKey.{FieldKey}
 use Rattle.of_headers.specs.FieldMap.{value}
-use Rattle.of_shapes.specs.declared.shape.Shape.{Shape}
-use Rattle.of_shapes.specs.declared.shape.Tagging.{Tagging}
+use Rattle.of_frames.specs.declared.shape.Shape.{Shape}
+use Rattle.of_frames.specs.declared.shape.Tagging.{Tagging}
 use Rattle.of_frames.specs.Given.{number, or_zero}
 use Rattle.of_frames.specs.Packets.{frame_given}
 use Rattle.of_frames.proofs.KeyLemmas.{numbers_are}

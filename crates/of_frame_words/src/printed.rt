@@ -10,9 +10,9 @@ use crate::frame::read_frame;
 use crate::said::shape_of;
 use crate::why::NoFrame;
 use of_actions::is_number;
+use of_frames::Shape;
 use of_headers::{Field, FieldKey, Known};
 use of_ovs_words::text_for;
-use of_shapes::Shape;
 use of_values::{push_decimal, push_value_words};
 use std::alloc::{AllocError, Global};
 

@@ -5,9 +5,9 @@ ghost use Rattle.of_layers.specs.Fields.{prerequisite_of};
 ghost use Rattle.of_frame_words.specs.Frames.{at_port, shape_of_ipv4_protocol as shape_over_ipv4, shape_of_ipv6_protocol as shape_over_ipv6, set_by, shape_by, tagging_by, why_missed as why_missed_so, word_why_missing as why_missing_so};
 
 use crate::why::Why;
+use of_frames::{PRESENT, Shape, Tagging};
 use of_headers::{Field, FieldKey, Prerequisite};
 use of_oxm::{MatchField, is_met};
-use of_shapes::{PRESENT, Shape, Tagging};
 
 // Nothing but the port.
 fn key_at(port: u32) -> FieldKey

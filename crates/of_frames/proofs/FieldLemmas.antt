@@ -7,10 +7,10 @@ use Rattle.of_layers.specs.Fields.{row_of}
 use Rattle.of_layers.specs.Layers.{cells}
 use Rattle.of_headers.specs.FieldMap.{field_map}
 use Rattle.of_headers.specs.Places.{width}
-use Rattle.of_shapes.specs.declared.shape.Shape.{Shape}
-use Rattle.of_shapes.specs.declared.shape.Shape.TheVariants as shapes
-use Rattle.of_shapes.specs.declared.shape.Tagging.{Tagging}
-use Rattle.of_shapes.specs.declared.shape.Tagging.TheVariants.{Untagged, Tagged}
+use Rattle.of_frames.specs.declared.shape.Shape.{Shape}
+use Rattle.of_frames.specs.declared.shape.Shape.TheVariants as shapes
+use Rattle.of_frames.specs.declared.shape.Tagging.{Tagging}
+use Rattle.of_frames.specs.declared.shape.Tagging.TheVariants.{Untagged, Tagged}
 use Rattle.of_frames.specs.Given.{fields_given}
 use Rattle.of_frames.specs.Packets.{layers_given, frame_size}
 

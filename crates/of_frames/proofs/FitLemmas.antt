@@ -10,10 +10,10 @@ use Rattle.of_layers.specs.Fields.{row_of, bit_count}
 use Rattle.of_layers.specs.Layers.{items_of, addresses, body_cells, encoded}
 use Rattle.of_layers.specs.Reading.{is_tag_type, over_ipv4, over_ipv6, whole_in, has_extension, is_fragment, has_options, extension_size}
 use Rattle.of_layers.specs.WellFormed.{AreBytes, FitsItems, AreTags, carried_size, IsArp, IsIpv4, IsIpv6, IsBody, IsLayers, has_packet}
-use Rattle.of_shapes.specs.declared.shape.Shape.{Shape}
-use Rattle.of_shapes.specs.declared.shape.Shape.TheVariants as shapes
-use Rattle.of_shapes.specs.declared.shape.Tagging.{Tagging}
-use Rattle.of_shapes.specs.declared.shape.Tagging.TheVariants.{Untagged, Tagged}
+use Rattle.of_frames.specs.declared.shape.Shape.{Shape}
+use Rattle.of_frames.specs.declared.shape.Shape.TheVariants as shapes
+use Rattle.of_frames.specs.declared.shape.Tagging.{Tagging}
+use Rattle.of_frames.specs.declared.shape.Tagging.TheVariants.{Untagged, Tagged}
 use Rattle.of_frames.specs.Given.{given_number, type_given}
 use Rattle.of_frames.specs.Checksums.{protocol_with, size_with, ipv4_sum, ipv6_sum, carried_checksum}
 use Rattle.of_frames.specs.Packets.{ends_given, tags_given, arp_given, ipv4_given, ipv6_given, numbers_given, bytes_behind, carried_given, body_given, layers_given}

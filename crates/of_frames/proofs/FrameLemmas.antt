@@ -10,8 +10,8 @@ use Rattle.of_headers.specs.FieldMap.{field_map}
 use Rattle.of_headers.specs.Places.{width}
 use Rattle.of_rewrite.specs.Frames.{IsFrame}
 use Rattle.of_rewrite.proofs.Framing.{bytes_are, bytes_below, length_in}
-use Rattle.of_shapes.specs.declared.shape.Shape.{Shape}
-use Rattle.of_shapes.specs.declared.shape.Tagging.{Tagging}
+use Rattle.of_frames.specs.declared.shape.Shape.{Shape}
+use Rattle.of_frames.specs.declared.shape.Tagging.{Tagging}
 use Rattle.of_frames.specs.Given.{fields_given}
 use Rattle.of_frames.specs.Packets.{layers_given, frame_given, frame_size}
 use Rattle.of_frames.proofs.FitLemmas.{layers_fit}

@@ -10,11 +10,11 @@ use Rattle.of_layers.specs.declared.field.Prerequisite.TheVariants as needs
 use Rattle.of_layers.specs.Fields.{row_of, bit_count, ones_of, prerequisite_of}
 use Rattle.of_layers.specs.Reading.{layers_of}
 use Rattle.of_headers.specs.FieldMap.{field_map, seen}
-use Rattle.of_shapes.specs.declared.shape.Shape.{Shape}
-use Rattle.of_shapes.specs.declared.shape.Tagging.{Tagging}
-use Rattle.of_shapes.specs.declared.shape.Tagging.TheVariants.{Untagged, Tagged}
-use Rattle.of_shapes.specs.declared.shape.Rule.TheVariants.{Absent, Under}
-use Rattle.of_shapes.specs.Rules.{Obeys, HasShape, IsTagging, has_header, of_tagging, protocol_of, shape_type, valued}
+use Rattle.of_frames.specs.declared.shape.Shape.{Shape}
+use Rattle.of_frames.specs.declared.shape.Tagging.{Tagging}
+use Rattle.of_frames.specs.declared.shape.Tagging.TheVariants.{Untagged, Tagged}
+use Rattle.of_frames.specs.declared.shape.Rule.TheVariants.{Absent, Under}
+use Rattle.of_frames.specs.Rules.{Obeys, HasShape, IsTagging, has_header, of_tagging, protocol_of, shape_type, valued}
 use Rattle.of_frames.specs.Given.{given_number, or_zero, fields_given, vlan_vid_given, vlan_pcp_given}
 use Rattle.of_frames.specs.Knowing.{AreWithinBits, IsAmong, IsKnown}
 use Rattle.of_frames.specs.Packets.{frame_given}

@@ -1,9 +1,10 @@
 pub mod AddingLemmas
-pub mod SumLemmas
-pub mod FitLemmas
 pub mod FieldLemmas
-pub mod OctetLemmas
-pub mod KeyLemmas
+pub mod FitLemmas
 pub mod FrameLemmas
+pub mod KeyLemmas
 pub mod KnownLemmas
+pub mod OctetLemmas
 pub mod RightLemmas
+pub mod Shapes
+pub mod SumLemmas

@@ -19,10 +19,10 @@ use Rattle.of_rewrite.specs.Checksum.{fold, never_zero, number_of_bits, words_of
 use Rattle.of_rewrite.specs.Right.{header_is_right, carried_is_right, left_out}
 use Rattle.of_rewrite.specs.Rewriting.{words}
 use Rattle.of_rewrite.proofs.Folding.{fold_is}
-use Rattle.of_shapes.specs.declared.shape.Shape.{Shape}
-use Rattle.of_shapes.specs.declared.shape.Shape.TheVariants as shapes
-use Rattle.of_shapes.specs.declared.shape.Tagging.{Tagging}
-use Rattle.of_shapes.specs.Rules.{is_ipv4_shape, protocol_of}
+use Rattle.of_frames.specs.declared.shape.Shape.{Shape}
+use Rattle.of_frames.specs.declared.shape.Shape.TheVariants as shapes
+use Rattle.of_frames.specs.declared.shape.Tagging.{Tagging}
+use Rattle.of_frames.specs.Rules.{is_ipv4_shape, protocol_of}
 use Rattle.of_rewrite.proofs.Renewing.{number-bits}
 use Rattle.of_frames.specs.Given.{given_number}
 use Rattle.of_frames.specs.Checksums.{checksum_of, word_sum, protocol_with, size_with, service_given, header_sum, ipv4_sum, ipv6_sum, carried_checksum}

@@ -6,10 +6,10 @@ use Rattle.of_layers.specs.declared.field.Prerequisite.TheVariants as needs
 use Rattle.of_layers.specs.Fields.{number_of, bit_count, prerequisite_of}
 use Rattle.of_headers.specs.declared.numbers.Numbers.{Numbers}
 use Rattle.of_headers.specs.Numbers.{numbers_in}
-use Rattle.of_shapes.specs.declared.shape.Shape.{Shape}
-use Rattle.of_shapes.specs.declared.shape.Tagging.{Tagging}
-use Rattle.of_shapes.specs.declared.shape.Tagging.TheVariants.{Untagged, Tagged}
-use Rattle.of_shapes.specs.Rules.{has_header, shape_type, protocol_of}
+use Rattle.of_frames.specs.declared.shape.Shape.{Shape}
+use Rattle.of_frames.specs.declared.shape.Tagging.{Tagging}
+use Rattle.of_frames.specs.declared.shape.Tagging.TheVariants.{Untagged, Tagged}
+use Rattle.of_frames.specs.Rules.{has_header, shape_type, protocol_of}
 
 -- the numbers of a key, each by its field
 abbrev pub number : Numbers → Field → ℕ

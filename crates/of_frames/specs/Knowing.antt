@@ -4,10 +4,10 @@ use Rattle.of_layers.specs.declared.field.Field.{Field}
 use Rattle.of_layers.specs.declared.field.Field.TheVariants.{VlanVid, VlanPcp}
 use Rattle.of_layers.specs.Fields.{ones_of}
 use Rattle.of_headers.specs.FieldMap.{seen}
-use Rattle.of_shapes.specs.declared.shape.Shape.{Shape}
-use Rattle.of_shapes.specs.declared.shape.Tagging.{Tagging}
-use Rattle.of_shapes.specs.declared.shape.Tagging.TheVariants.{Untagged}
-use Rattle.of_shapes.specs.Rules.{HasShape, IsTagging}
+use Rattle.of_frames.specs.declared.shape.Shape.{Shape}
+use Rattle.of_frames.specs.declared.shape.Tagging.{Tagging}
+use Rattle.of_frames.specs.declared.shape.Tagging.TheVariants.{Untagged}
+use Rattle.of_frames.specs.Rules.{HasShape, IsTagging}
 
 -- a packet of which this is known
 abbrev pub IsAmong : (Field → Option ℕ) → (Field → Option ℕ) → (Field → Option ℕ) → Type 0

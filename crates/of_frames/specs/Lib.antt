@@ -1,6 +1,7 @@
-pub mod Given
-pub mod Checksums
-pub mod Packets
 pub mod Adding
-pub mod Knowing
 pub mod Beside
+pub mod Checksums
+pub mod Given
+pub mod Knowing
+pub mod Packets
+pub mod Rules

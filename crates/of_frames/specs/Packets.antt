@@ -6,10 +6,10 @@ use Rattle.of_layers.specs.declared.transport.Transport.TheVariants.{Nothing, Tc
 use Rattle.of_layers.specs.Layers.{Carried, Body, Plain, Arp, Ipv4, Ipv6, Layers, cells}
 use Rattle.of_layers.specs.declared.field.Field.{Field}
 use Rattle.of_rewrite.specs.Frames.{bytes_in}
-use Rattle.of_shapes.specs.declared.shape.Shape.{Shape}
-use Rattle.of_shapes.specs.declared.shape.Shape.TheVariants as shapes
-use Rattle.of_shapes.specs.declared.shape.Tagging.{Tagging}
-use Rattle.of_shapes.specs.declared.shape.Tagging.TheVariants.{Untagged, Tagged}
+use Rattle.of_frames.specs.declared.shape.Shape.{Shape}
+use Rattle.of_frames.specs.declared.shape.Shape.TheVariants as shapes
+use Rattle.of_frames.specs.declared.shape.Tagging.{Tagging}
+use Rattle.of_frames.specs.declared.shape.Tagging.TheVariants.{Untagged, Tagged}
 use Rattle.of_frames.specs.Given.{given_number, type_given, vid_given}
 use Rattle.of_frames.specs.Checksums.{checksum_of, protocol_with, size_with, header_sum, ipv4_sum, ipv6_sum, carried_checksum}
 

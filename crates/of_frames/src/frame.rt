@@ -8,8 +8,8 @@ ghost use Rattle.of_frames.specs.Packets.{frame_given, frame_size, layers_given}
 
 use crate::bits::{known_bytes, push_word};
 use crate::packets::{push_body, push_ends, push_tags};
+use crate::{Shape, Tagging};
 use of_headers::{FieldKey, Numbers};
-use of_shapes::{Shape, Tagging};
 use std::alloc::{AllocError, Global};
 
 // The type: that of the header behind it, or else the one that is given.

@@ -1,15 +1,20 @@
-//! Texts of JSON (RFC 8259). Strings of our own words need no escape: letters, digits and signs of ASCII other than quotation marks and backslashes.
-//! Strings of other words may have any bytes.
+//! Texts of JSON (RFC 8259), and what leaves a switch, in words and as JSON. Strings of our own words need no escape: letters, digits and signs of
+//! ASCII other than quotation marks and backslashes. Strings of other words may have any bytes.
 #![tactic(auto)]
 
 mod counters;
+mod items;
+mod json_items;
 mod lines;
 mod listing;
 mod matches;
 mod parts;
 mod strings;
+mod undecided;
 
 pub use counters::push_counters_member;
+pub use items::{push_frame_line, push_side};
+pub use json_items::{push_controller_place, push_items_member, push_port_place};
 pub use lines::push_line_strings;
 pub use listing::{push_array_member, push_listed};
 pub use matches::push_match_object;
@@ -18,3 +23,4 @@ pub use parts::{
     push_text_member, push_truth, push_truth_member,
 };
 pub use strings::{begin_array, push_string, push_string_member};
+pub use undecided::{push_undecided_count, push_undecided_sets};

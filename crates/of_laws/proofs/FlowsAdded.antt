@@ -29,7 +29,7 @@ use Rattle.of_messages.specs.Written.{flow_mod_bytes, flow_mod_fixed_part, flow_
 use Rattle.of_messages.proofs.Appended.{length_flow_mod}
 use Rattle.of_build.specs.Building.{chunk_line}
 use Rattle.of_build.specs.Listing.{add_of, flow_adds}
-use Rattle.of_buffers.specs.Buffers.{none_held}
+use Rattle.of_datapath.specs.Buffers.{none_held}
 use Rattle.of_switch.specs.declared.event.Event.{Event}
 use Rattle.of_switch.specs.declared.event.Event.TheVariants.{Chunk}
 use Rattle.of_datapath.specs.Commands.{flow_mod_refusals, flow_of, has_flag, names_absent_group}

@@ -1,46 +1,57 @@
-mod AlwaysThere
-mod Widths
-mod FrameValues
-pub mod Places
-mod Items
-mod ActionTails
 mod ActionStructs
-pub mod InstructionStructs
-mod InstructionTails
-mod MatchTails
+mod ActionTails
+mod AlwaysThere
+mod AnyMessage
 mod BucketTails
-mod Heads
-pub mod OnlySmall
-pub mod OnlyLarge
-mod OnlyRequests
-pub mod Only
-pub mod FoundSmall
+pub mod BuildingLemmas
+pub mod BuiltAgain
+mod ByteLemmas
+pub mod Chunks
+mod ComingBack
+pub mod ConfigBack
+mod FlowAgain
+pub mod FlowsAdded
+pub mod Found
 pub mod FoundLarge
 mod FoundRequests
-pub mod Found
-mod OneMessage
-mod Senders
-pub mod Writings
-pub mod WrittenRequests
-mod WrittenTold
-mod OneTold
-mod ManyReplyRows
-mod WrittenReplyRows
-mod WrittenReplyGroups
-mod WrittenReplies
-mod OneReplyRow
-mod OneReplyGroup
-mod OneReply
-mod AnyMessage
-pub mod Chunks
-mod ByteLemmas
-mod FlowAgain
-pub mod StreamMessages
-pub mod FlowsAdded
-pub mod Present
+pub mod FoundSmall
+mod FrameValues
 pub mod GroupsAdded
-mod ComingBack
+mod Heads
+pub mod InstructionStructs
+mod InstructionTails
+mod Items
+mod ManyReplyRows
+mod MatchTails
+mod OneMessage
+mod OneReply
+mod OneReplyGroup
+mod OneReplyRow
+mod OneTold
+pub mod Only
+pub mod OnlyLarge
+mod OnlyRequests
+pub mod OnlySmall
+pub mod Outcomes
+pub mod Places
+pub mod Present
+pub mod Pushing
 mod Refusing
 mod RefusingFlows
-mod RefusingMessages
 mod RefusingGroups
+mod RefusingMessages
+mod Senders
+pub mod SendingLemmas
+pub mod Setting
+pub mod StreamMessages
+pub mod Tagging
+mod Unencoded
+mod Widths
+pub mod Writings
+mod Written
+mod WrittenLarge
+mod WrittenReplies
+mod WrittenReplyGroups
+mod WrittenReplyRows
+pub mod WrittenRequests
+mod WrittenTold

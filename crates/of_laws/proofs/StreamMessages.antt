@@ -6,7 +6,7 @@ use Rattle.of_messages.specs.Heads.{header_length}
 use Rattle.of_messages.specs.Written.{message}
 use Rattle.of_messages.proofs.Lengths.{is_message}
 use Rattle.of_session.specs.Stream.{IsWholeMessage, length_of}
-use Rattle.of_buffers.specs.Buffers.{none_held}
+use Rattle.of_datapath.specs.Buffers.{none_held}
 use Rattle.of_datapath.specs.Control.{new_control}
 use Rattle.of_switch.specs.State.{Core}
 

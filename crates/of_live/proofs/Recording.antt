@@ -4,7 +4,7 @@ use Rattle.std.specs.Prelude.{map, nat_lt, if◌then◌else◌}
 use Rattle.std.specs.List.{flat_map, AllByRecursion}
 use Rattle.std.proofs.lemmas.List.{append-nil, map-append}
 use Rattle.std.proofs.lemmas.List.Concat.{flat_map-append}
-use Rattle.of_vxlan.specs.Header.{Encapsulated, carried, sent_header}
+use Rattle.of_network.specs.Header.{Encapsulated, carried, sent_header}
 use Rattle.of_datapath.specs.declared.effect.Effect.{Effect}
 use Rattle.of_datapath.specs.declared.effect.Effect.TheVariants as effect
 use Rattle.of_switch.specs.declared.event.Event.{Event}

@@ -1,6 +1,6 @@
 -- A SWITCH ON A NETWORK: what it holds, and the events of what comes to it. Port N is VXLAN network N (RFC 7348).
 use Rattle.std.specs.Prelude.{ℕ, ◌&&◌, ◌||◌, not, Bool, true, false, List, [], ◌∷◌, ◌++◌, Option, Some, None, Result, Ok, Err, if◌then◌else◌}
-use Rattle.of_vxlan.specs.Header.{Encapsulated, carried}
+use Rattle.of_network.specs.Header.{Encapsulated, carried}
 use Rattle.of_session.specs.Session.{is_disconnected}
 use Rattle.of_ports.specs.Ports.{has_port}
 use Rattle.of_switch.specs.declared.event.Event.{Event}

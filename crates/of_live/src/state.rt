@@ -1,6 +1,6 @@
 //! A switch on a network.
 ghost use Rattle.std.specs.Prelude.{◌≡◌, ◌≤◌, ◌<◌, ◌++◌, ◌∷◌, [], OnOk, IfOk, IfErr, Ok, Err, length, ◌||◌, ◌&&◌, if◌then◌else◌, true, false, not, drop, Bool, List, ℕ};
-ghost use Rattle.of_vxlan.specs.Header.{carried};
+ghost use Rattle.of_network.specs.Header.{carried};
 ghost use Rattle.of_switch.specs.declared.event.Event.TheVariants.{Chunk, Moment};
 ghost use Rattle.of_switch.specs.Steps.{lost};
 ghost use Rattle.of_switch.specs.Runs.{effects_in};
@@ -14,11 +14,12 @@ ghost use Rattle.of_live.specs.Working.{Does, Goes, Hears, Passes, Settles, asks
 
 use crate::work::{Work, happen, happen_due, happen_frame};
 use of_classifier::Lookup;
-use of_network::{Dropped, Endpoint, Input, Network, Peer, Written, learn, may_send, peer_of};
+use of_network::{
+    Dropped, Endpoint, Input, Network, Peer, Written, learn, may_send, peer_of, read_datagram,
+};
 use of_replay::Halt;
 use of_serve::Rows;
 use of_switch::{Event, Switch};
-use of_vxlan::read_datagram;
 use of_wire::{Bytes, front_of};
 use std::alloc::{AllocError, Global};
 use std::marker::Model;

@@ -10,10 +10,9 @@ ghost use Rattle.of_live.specs.Turns.{sent_in, sent_to};
 ghost use Rattle.of_live.specs.Working.{Does, logged, logged_text};
 
 use of_classifier::Lookup;
-use of_network::{Dropped, Network, Peer, peer_of, push_frame_row, push_row};
+use of_network::{Dropped, Network, Peer, peer_of, push_frame_row, push_row, write_header};
 use of_serve::{Rows, push_answers, waits};
 use of_switch::{Effect, Event, Report, Switch, SwitchError};
-use of_vxlan::write_header;
 use std::alloc::{AllocError, Global};
 use std::marker::Model;
 

@@ -1,4 +1,5 @@
-pub mod Inputs
 pub mod Acts
+pub mod Header
+pub mod Inputs
 pub mod Peers
 pub mod RunningRows

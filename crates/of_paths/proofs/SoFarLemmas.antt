@@ -18,8 +18,8 @@ use Rattle.of_symbolic_run.specs.Cases.{AreCases}
 use Rattle.of_symbolic_run.specs.FrameSets.{InFrames}
 use Rattle.of_symbolic_run.specs.Later.{AreOneLater, IsOneLater}
 use Rattle.of_symbolic_run.specs.States.{IsAt}
-use Rattle.of_symbolic_switch.specs.Received.{IsReceivedAt}
-use Rattle.of_symbolic_switch.specs.Unfound.{FindsNone}
+use Rattle.of_symbolic_run.specs.Received.{IsReceivedAt}
+use Rattle.of_symbolic_run.specs.Unfound.{FindsNone}
 use Rattle.of_paths.specs.declared.path.Merging.{Merging}
 use Rattle.of_paths.specs.declared.path.Merging.TheVariants.{Each, SameWay}
 use Rattle.of_paths.specs.declared.path.Path.{Path}

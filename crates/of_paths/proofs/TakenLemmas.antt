@@ -5,7 +5,7 @@ use Rattle.of_machine.specs.TheWorld.{TheWorld}
 use Rattle.of_symbolic_run.specs.declared.dividing.Case.{Case}
 use Rattle.of_symbolic_run.specs.Cases.{AreCases}
 use Rattle.of_symbolic_run.specs.Later.{AreOneLater}
-use Rattle.of_symbolic_switch.specs.Sides.{IsUnknownLookup}
+use Rattle.of_symbolic_run.specs.Sides.{IsUnknownLookup}
 use Rattle.of_paths.specs.Reasons.{AreCaseSteps, AreLeftAfter, IsCaseStep}
 
 pub at_most : (taken left steps : ℕ) → taken + left ≡ steps → taken ≤ steps

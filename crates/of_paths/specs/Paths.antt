@@ -6,7 +6,7 @@ use Rattle.of_oxm.specs.Relations.{matches_map}
 use Rattle.of_machine.specs.TheWorld.{TheWorld}
 use Rattle.of_symbolic.specs.Parts.{received_fields}
 use Rattle.of_symbolic_run.specs.FrameSets.{InFrames}
-use Rattle.of_symbolic_switch.specs.Received.{IsReceivedAt, items_at}
+use Rattle.of_symbolic_run.specs.Received.{IsReceivedAt, items_at}
 use Rattle.of_paths.specs.declared.path.Merging.{Merging}
 use Rattle.of_paths.specs.declared.path.Merging.TheVariants.{Each, SameWay}
 use Rattle.of_paths.specs.declared.path.Path.{Path}

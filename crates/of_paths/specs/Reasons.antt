@@ -12,9 +12,9 @@ use Rattle.of_symbolic_run.specs.Cases.{AreCases}
 use Rattle.of_symbolic_run.specs.FrameSets.{InFrames}
 use Rattle.of_symbolic_run.specs.Later.{AreOneLater}
 use Rattle.of_symbolic_run.specs.States.{IsAt}
-use Rattle.of_symbolic_switch.specs.Received.{IsReceivedAt}
-use Rattle.of_symbolic_switch.specs.Sides.{IsUnknownLookup}
-use Rattle.of_symbolic_switch.specs.Unfound.{FindsNone}
+use Rattle.of_symbolic_run.specs.Received.{IsReceivedAt}
+use Rattle.of_symbolic_run.specs.Sides.{IsUnknownLookup}
+use Rattle.of_symbolic_run.specs.Unfound.{FindsNone}
 use Rattle.of_paths.specs.declared.path.UndecidedFrames.{UndecidedFrames}
 use Rattle.of_paths.specs.declared.path.WhyUndecided.{WhyUndecided}
 use Rattle.of_paths.specs.declared.path.WhyUndecided.TheVariants as why

@@ -9,9 +9,9 @@ use Rattle.of_symbolic_run.specs.declared.dividing.Case.{Case}
 use Rattle.of_symbolic_run.specs.Cases.{AreCases}
 use Rattle.of_symbolic_run.specs.FrameSets.{InFrames}
 use Rattle.of_symbolic_run.specs.Later.{AreOneLater}
-use Rattle.of_symbolic_switch.specs.Received.{IsReceivedAt}
-use Rattle.of_symbolic_switch.specs.Sides.{IsUnknownLookup}
-use Rattle.of_symbolic_switch.specs.Unfound.{FindsNone}
+use Rattle.of_symbolic_run.specs.Received.{IsReceivedAt}
+use Rattle.of_symbolic_run.specs.Sides.{IsUnknownLookup}
+use Rattle.of_symbolic_run.specs.Unfound.{FindsNone}
 use Rattle.of_paths.specs.declared.path.Merging.{Merging}
 use Rattle.of_paths.specs.declared.path.Merging.TheVariants.{Each, SameWay}
 use Rattle.of_paths.specs.declared.path.Path.{Path}

@@ -12,8 +12,7 @@ use crate::path::{Merging, Path, PathClass, Paths, UndecidedFrames, WhyUndecided
 use crate::ways::place_of_way;
 use of_classifier::Lookup;
 use of_datapath::Datapath;
-use of_symbolic_run::{FrameFound, FrameSet};
-use of_symbolic_switch::receiving_port;
+use of_symbolic_run::{FrameFound, FrameSet, receiving_port};
 use std::alloc::{AllocError, Global};
 
 // No frame of the path is known that the switch receives.

@@ -4,7 +4,7 @@ ghost use Rattle.of_paths.specs.Ingress.{ingress_match};
 ghost use Rattle.of_regions.specs.Conditions.{AreConditions};
 
 use of_oxm::MatchField;
-use of_symbolic_switch::ingress_condition;
+use of_symbolic_run::ingress_condition;
 use std::alloc::{AllocError, Global};
 
 /// That a frame comes in by this port, if one is given (IN_PORT; OpenFlow 1.3.5, 7.2.3.7). No port: each frame. Err: out of memory.

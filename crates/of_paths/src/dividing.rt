@@ -9,7 +9,7 @@ ghost use Rattle.of_machine.specs.TheWorld.{TheWorld};
 ghost use Rattle.of_symbolic.specs.Parts.{received_fields};
 ghost use Rattle.of_symbolic_run.specs.FrameSets.{InFrames};
 ghost use Rattle.of_symbolic_run.specs.declared.dividing.Case.{Case as ACase};
-ghost use Rattle.of_symbolic_switch.specs.Received.{IsReceivedAt};
+ghost use Rattle.of_symbolic_run.specs.Received.{IsReceivedAt};
 ghost use Rattle.of_paths.specs.declared.path.Merging.{Merging as AMerging};
 ghost use Rattle.of_paths.specs.Paths.{ArePaths};
 ghost use Rattle.of_paths.specs.Reasons.{AreLeftAfter, AreMatched, IsStateOfRuns};
@@ -21,8 +21,7 @@ use crate::stepping::{Next, step_case};
 use of_classifier::Lookup;
 use of_datapath::Datapath;
 use of_oxm::MatchField;
-use of_symbolic_run::{Case, received_state};
-use of_symbolic_switch::received_frames;
+use of_symbolic_run::{Case, received_frames, received_state};
 use std::alloc::{AllocError, Global};
 
 // Puts what comes of a state to the others.

@@ -7,8 +7,7 @@ ghost use Rattle.of_paths.specs.SoFar.{IsNextOf};
 use crate::path::{Path, UndecidedFrames, WhyUndecided};
 use of_classifier::Lookup;
 use of_datapath::Datapath;
-use of_symbolic_run::{Case, FrameSet, SymbolicState, ended_states_give_runs};
-use of_symbolic_switch::{Side, step_side};
+use of_symbolic_run::{Case, FrameSet, Side, SymbolicState, ended_states_give_runs, step_side};
 use std::alloc::{AllocError, Global};
 
 /// What comes of the state of a run, for all frames of a set.

@@ -28,7 +28,7 @@ use Rattle.of_machine.specs.Rows.{Act, Do, Emitted, Lookup, Row, RunSet, Task, W
 use Rattle.of_machine.specs.Runs.{Machine, or_end, run_of, starting, step, taken, until_none}
 use Rattle.of_machine.specs.Weights.{task_weight}
 use Rattle.of_symbolic.specs.Parts.{received_fields}
-use Rattle.of_symbolic_switch.specs.Received.{IsReceivedAt, items_at}
+use Rattle.of_symbolic_run.specs.Received.{IsReceivedAt, items_at}
 use Rattle.of_paths.specs.declared.path.Merging.{Merging}
 use Rattle.of_paths.specs.declared.path.Path.{Path}
 use Rattle.of_paths.specs.declared.path.PathClass.{PathClass}

@@ -9,7 +9,7 @@ use Rattle.of_datapath.specs.DryRun.{steps_in}
 use Rattle.of_trace.specs.Text.{step_line}
 use Rattle.of_json.specs.Parts.{key, listed, number_member, quoted, text_member}
 use Rattle.of_json.specs.Strings.{array_member}
-use Rattle.of_leaving.specs.LeavingJson.{items_member}
+use Rattle.of_json.specs.LeavingJson.{items_member}
 use Rattle.of_paths.specs.declared.path.Path.{Path}
 use Rattle.of_paths.specs.declared.path.PathClass.{PathClass}
 use Rattle.of_paths.specs.declared.path.Paths.{Paths}

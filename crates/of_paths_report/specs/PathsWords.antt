@@ -9,8 +9,8 @@ use Rattle.of_datapath.specs.Datapath.{Forwarding}
 use Rattle.of_datapath.specs.DryRun.{steps_in}
 use Rattle.of_trace.specs.Text.{step_line}
 use Rattle.of_trace.specs.Words.{heading}
-use Rattle.of_leaving.specs.LeavingWords.{frame_line, side_words}
-use Rattle.of_leaving.specs.UndecidedWords.{undecided_count, undecided_sets}
+use Rattle.of_json.specs.LeavingWords.{frame_line, side_words}
+use Rattle.of_json.specs.UndecidedWords.{undecided_count, undecided_sets}
 use Rattle.of_paths.specs.declared.path.Path.{Path}
 use Rattle.of_paths.specs.declared.path.PathClass.{PathClass}
 use Rattle.of_paths.specs.declared.path.Paths.{Paths}

@@ -8,7 +8,7 @@ ghost use Rattle.of_paths_report.specs.PathsWords.{class_words, indented_line, s
 use crate::destination::{Destination, is_shown};
 use crate::hits::push_further;
 use of_classifier::Lookup;
-use of_leaving::{push_frame_line, push_side};
+use of_json::{push_frame_line, push_side};
 use of_machine::Step;
 use of_paths::PathClass;
 use of_switch::{Switch, SwitchError};

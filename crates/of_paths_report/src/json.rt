@@ -11,9 +11,9 @@ use crate::destination::{Destination, is_shown};
 use crate::json_hits::push_hits_member;
 use of_classifier::Lookup;
 use of_json::{
-    begin_array, push_array_member, push_bytes_member, push_key, push_number_member, push_quoted,
+    begin_array, push_array_member, push_bytes_member, push_items_member, push_key,
+    push_number_member, push_quoted,
 };
-use of_leaving::push_items_member;
 use of_machine::Step;
 use of_paths::{PathClass, Paths, UndecidedFrames, WhyUndecided};
 use of_switch::Switch;

@@ -5,7 +5,7 @@ ghost use Rattle.of_oxm.specs.declared.match_field.MatchField.{MatchField};
 ghost use Rattle.of_oxm.specs.Relations.{matches_map};
 ghost use Rattle.of_machine.specs.TheWorld.{TheWorld};
 ghost use Rattle.of_symbolic.specs.Parts.{received_fields};
-ghost use Rattle.of_symbolic_switch.specs.Received.{IsReceivedAt, items_at};
+ghost use Rattle.of_symbolic_run.specs.Received.{IsReceivedAt, items_at};
 ghost use Rattle.of_paths.specs.declared.path.Merging.{Merging};
 ghost use Rattle.of_paths.specs.declared.path.Paths.{Paths};
 ghost use Rattle.of_paths.specs.Paths.{ArePaths, InUndecidedFrames};

@@ -2,7 +2,7 @@ use crate::checks::same;
 use crate::keys::{key_of, says};
 use of_headers::{FrameFault, Headers, check_length, read, read_inside, same_fields};
 use of_layers::{Field, Place};
-use of_test_rows::{bytes_of, sides};
+use of_test_peers::rows::{bytes_of, sides};
 use std::alloc::Global;
 use std::process::Abort;
 use std::test::Fail;

@@ -6,7 +6,7 @@ use of_oxm::{
     Code, FieldMask, Match, MatchField, ReadError, covers, mask_of, matches, overlaps, read_match,
     write_match,
 };
-use of_test_rows::{bytes_of, number_of, sides};
+use of_test_peers::rows::{bytes_of, number_of, sides};
 use std::alloc::Global;
 use std::process::Abort;
 use std::test::Fail;

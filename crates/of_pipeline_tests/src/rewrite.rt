@@ -3,7 +3,7 @@ use crate::keys::value_of;
 use crate::rewrite::steps::{Row, Step, frame_of, play_all};
 use of_layers::Field;
 use of_rewrite::{Frame, Ttl};
-use of_test_rows::{bytes_of, number_of, sides};
+use of_test_peers::rows::{bytes_of, number_of, sides};
 use std::alloc::Global;
 use std::process::Abort;
 use std::test::Fail;

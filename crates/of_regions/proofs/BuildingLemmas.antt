@@ -9,14 +9,14 @@ use Rattle.of_layers.specs.Fields.{number_of, ones_of}
 use Rattle.of_layers.proofs.Table.{same_number}
 use Rattle.of_headers.specs.FieldMap.{value}
 use Rattle.of_oxm.specs.Masks.{mask_at}
-use Rattle.of_shapes.specs.declared.shape.Rule.{Rule}
-use Rattle.of_shapes.specs.declared.shape.Rule.TheVariants.{Free, Absent, Under}
+use Rattle.of_frames.specs.declared.shape.Rule.{Rule}
+use Rattle.of_frames.specs.declared.shape.Rule.TheVariants.{Free, Absent, Under}
 use Rattle.of_regions.specs.declared.building.Fields.{Fields}
 use Rattle.of_regions.specs.declared.joining.Bits.{Bits}
 use Rattle.of_oxm.specs.declared.match_field.MatchField.{MatchField}
 use Rattle.of_oxm.specs.Masks.{looked_at, value_of}
-use Rattle.of_shapes.specs.declared.shape.Shape.{Shape}
-use Rattle.of_shapes.specs.declared.shape.Tagging.{Tagging}
+use Rattle.of_frames.specs.declared.shape.Shape.{Shape}
+use Rattle.of_frames.specs.declared.shape.Tagging.{Tagging}
 use Rattle.of_regions.specs.Known.{is_known_by, rule_in}
 use Rattle.of_regions.specs.Joining.{Joined}
 use Rattle.of_regions.proofs.PlaceLemmas.{place, same_place}

@@ -4,8 +4,8 @@ use Rattle.std.specs.Prelude.{bit_and, bit_or, ◌&&◌}
 use Rattle.std.proofs.lemmas.Bool.{eq-eqb, eqb-true}
 use Rattle.of_headers.specs.FieldMap.{seen}
 use Rattle.of_oxm.proofs.Related.{and_true}
-use Rattle.of_shapes.specs.declared.shape.Rule.TheVariants.{Under}
-use Rattle.of_shapes.specs.Rules.{Obeys}
+use Rattle.of_frames.specs.declared.shape.Rule.TheVariants.{Under}
+use Rattle.of_frames.specs.Rules.{Obeys}
 use Rattle.of_regions.specs.declared.joining.Bits.{Bits}
 use Rattle.of_regions.specs.Joining.{IsAsked, IsRule, Joined}
 use Rattle.of_regions.specs.Known.{are_known}

@@ -7,8 +7,8 @@ use Rattle.of_layers.specs.Fields.{number_of, ones_of}
 use Rattle.of_layers.proofs.Table.{same_number}
 use Rattle.of_headers.specs.FieldMap.{seen}
 use Rattle.of_frames.specs.Knowing.{IsAmong}
-use Rattle.of_shapes.specs.declared.shape.Rule.{Rule}
-use Rattle.of_shapes.specs.declared.shape.Rule.TheVariants.{Free, Absent, Under}
+use Rattle.of_frames.specs.declared.shape.Rule.{Rule}
+use Rattle.of_frames.specs.declared.shape.Rule.TheVariants.{Free, Absent, Under}
 use Rattle.of_regions.specs.Known.{is_known_by}
 use Rattle.of_regions.proofs.JoiningLemmas.{parts, whole}
 use Rattle.of_regions.proofs.DividingLemmas.{high_less, high_or_low, high_said, high_under, low_less, low_under, more_ruled, more_within, not_both}

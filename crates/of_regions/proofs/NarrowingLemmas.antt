@@ -14,13 +14,13 @@ use Rattle.of_oxm.specs.Masks.{mask_at}
 use Rattle.of_oxm.specs.NormalForm.{IsKept}
 use Rattle.of_oxm.specs.Relations.{agrees, bits_looked_at, matches_map}
 use Rattle.of_oxm.proofs.Joined.{covered}
-use Rattle.of_shapes.specs.declared.shape.Rule.{Rule}
-use Rattle.of_shapes.specs.declared.shape.Rule.TheVariants.{Free, Absent, Under}
+use Rattle.of_frames.specs.declared.shape.Rule.{Rule}
+use Rattle.of_frames.specs.declared.shape.Rule.TheVariants.{Free, Absent, Under}
 use Rattle.of_regions.specs.declared.region.Region.{Region}
-use Rattle.of_shapes.specs.declared.shape.Shape.{Shape}
-use Rattle.of_shapes.specs.declared.shape.Tagging.{Tagging}
-use Rattle.of_shapes.specs.declared.shape.Tagging.TheVariants.{Untagged, Tagged}
-use Rattle.of_shapes.specs.Rules.{IsTagging, has_header}
+use Rattle.of_frames.specs.declared.shape.Shape.{Shape}
+use Rattle.of_frames.specs.declared.shape.Tagging.{Tagging}
+use Rattle.of_frames.specs.declared.shape.Tagging.TheVariants.{Untagged, Tagged}
+use Rattle.of_frames.specs.Rules.{IsTagging, has_header}
 use Rattle.of_regions.specs.Conditions.{IsCondition}
 use Rattle.of_regions.specs.Narrowing.{AreNarrowed, IsNarrowedBy, is_of_tag}
 use Rattle.of_regions.specs.Known.{is_known_by, rule_in}

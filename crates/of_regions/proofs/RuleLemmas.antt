@@ -16,13 +16,13 @@ use Rattle.of_oxm.specs.Masks.{first_at, looked_at, value_of}
 use Rattle.of_oxm.specs.NormalForm.{IsKept, IsKeptMask, IsMatch}
 use Rattle.of_oxm.specs.Relations.{bits_looked_at}
 use Rattle.of_oxm.proofs.Joined.{covered}
-use Rattle.of_shapes.specs.declared.shape.Shape.{Shape}
-use Rattle.of_shapes.specs.declared.shape.Shape.TheVariants as shapes
-use Rattle.of_shapes.specs.declared.shape.Tagging.{Tagging}
-use Rattle.of_shapes.specs.declared.shape.Tagging.TheVariants.{Untagged, Tagged}
-use Rattle.of_shapes.specs.declared.shape.Rule.{Rule}
-use Rattle.of_shapes.specs.declared.shape.Rule.TheVariants.{Free, Absent, Under}
-use Rattle.of_shapes.specs.Rules.{HasShape, Obeys, has_header, protocol_of, shape_type, valued}
+use Rattle.of_frames.specs.declared.shape.Shape.{Shape}
+use Rattle.of_frames.specs.declared.shape.Shape.TheVariants as shapes
+use Rattle.of_frames.specs.declared.shape.Tagging.{Tagging}
+use Rattle.of_frames.specs.declared.shape.Tagging.TheVariants.{Untagged, Tagged}
+use Rattle.of_frames.specs.declared.shape.Rule.{Rule}
+use Rattle.of_frames.specs.declared.shape.Rule.TheVariants.{Free, Absent, Under}
+use Rattle.of_frames.specs.Rules.{HasShape, Obeys, has_header, protocol_of, shape_type, valued}
 use Rattle.of_regions.specs.Joining.{IsAsked, IsRule}
 use Rattle.of_regions.specs.Known.{rule_in, tag_rule}
 use Rattle.of_regions.specs.Regions.{HasTagging}

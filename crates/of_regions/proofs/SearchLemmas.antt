@@ -10,10 +10,10 @@ use Rattle.of_layers.specs.Reading.{layers_of}
 use Rattle.of_headers.specs.FieldMap.{field_map}
 use Rattle.of_oxm.specs.declared.match_field.MatchField.{MatchField}
 use Rattle.of_oxm.specs.Relations.{matches_map}
-use Rattle.of_shapes.specs.declared.shape.Shape.{Shape}
-use Rattle.of_shapes.specs.declared.shape.Tagging.{Tagging}
-use Rattle.of_shapes.specs.Rules.{HasShape, IsTagging, shape_of, tagging_of}
-use Rattle.of_shapes.proofs.Shapes.{shaped, tags_seen}
+use Rattle.of_frames.specs.declared.shape.Shape.{Shape}
+use Rattle.of_frames.specs.declared.shape.Tagging.{Tagging}
+use Rattle.of_frames.specs.Rules.{HasShape, IsTagging, shape_of, tagging_of}
+use Rattle.of_frames.proofs.Shapes.{shaped, tags_seen}
 use Rattle.of_regions.specs.declared.looking.Rest.{Rest}
 use Rattle.of_regions.specs.declared.region.Region.{Region}
 use Rattle.of_regions.specs.declared.rival.Rival.{Rival}

@@ -7,10 +7,10 @@ use Rattle.std.proofs.lemmas.List.Elements.{Contains-append_cases, Contains-appe
 use Rattle.of_layers.specs.declared.field.Field.{Field}
 use Rattle.of_oxm.specs.declared.match_field.MatchField.{MatchField}
 use Rattle.of_oxm.specs.Relations.{matches_map}
-use Rattle.of_shapes.specs.declared.shape.Shape.{Shape}
-use Rattle.of_shapes.specs.declared.shape.Tagging.{Tagging}
-use Rattle.of_shapes.specs.declared.shape.Tagging.TheVariants.{Untagged, Tagged}
-use Rattle.of_shapes.specs.Rules.{HasShape, IsTagging}
+use Rattle.of_frames.specs.declared.shape.Shape.{Shape}
+use Rattle.of_frames.specs.declared.shape.Tagging.{Tagging}
+use Rattle.of_frames.specs.declared.shape.Tagging.TheVariants.{Untagged, Tagged}
+use Rattle.of_frames.specs.Rules.{HasShape, IsTagging}
 use Rattle.of_regions.specs.declared.region.Region.{Region}
 use Rattle.of_regions.specs.Regions.{InRegion, InOneRegion}
 use Rattle.of_regions.specs.Searching.{InSome}

@@ -7,12 +7,12 @@ use Rattle.of_layers.specs.declared.field.Prerequisite.TheVariants as needs
 use Rattle.of_layers.specs.Fields.{number_of, ones_of, prerequisite_of, row_of}
 use Rattle.of_headers.specs.FieldMap.{seen}
 use Rattle.of_frames.specs.Knowing.{IsAmong}
-use Rattle.of_shapes.specs.declared.shape.Shape.{Shape}
-use Rattle.of_shapes.specs.declared.shape.Tagging.{Tagging}
-use Rattle.of_shapes.specs.declared.shape.Tagging.TheVariants.{Untagged, Tagged}
-use Rattle.of_shapes.specs.declared.shape.Rule.{Rule}
-use Rattle.of_shapes.specs.declared.shape.Rule.TheVariants.{Free, Absent, Under}
-use Rattle.of_shapes.specs.Rules.{IsTagging, has_header}
+use Rattle.of_frames.specs.declared.shape.Shape.{Shape}
+use Rattle.of_frames.specs.declared.shape.Tagging.{Tagging}
+use Rattle.of_frames.specs.declared.shape.Tagging.TheVariants.{Untagged, Tagged}
+use Rattle.of_frames.specs.declared.shape.Rule.{Rule}
+use Rattle.of_frames.specs.declared.shape.Rule.TheVariants.{Free, Absent, Under}
+use Rattle.of_frames.specs.Rules.{IsTagging, has_header}
 use Rattle.std.specs.Prelude.{◌⊎◌}
 use Rattle.std.proofs.lemmas.Nat.{and_assoc}
 use Rattle.of_regions.specs.declared.region.Region.{Region}

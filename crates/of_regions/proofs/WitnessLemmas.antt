@@ -13,13 +13,13 @@ use Rattle.of_layers.specs.Layers.{Layers}
 use Rattle.of_layers.specs.Reading.{layers_of}
 use Rattle.of_headers.specs.FieldMap.{field_map, seen, value}
 use Rattle.of_oxm.specs.Masks.{mask_at}
-use Rattle.of_shapes.specs.declared.shape.Shape.{Shape}
-use Rattle.of_shapes.specs.declared.shape.Shape.TheVariants as shapes
-use Rattle.of_shapes.specs.declared.shape.Tagging.{Tagging}
-use Rattle.of_shapes.specs.declared.shape.Tagging.TheVariants.{Untagged, Tagged}
-use Rattle.of_shapes.specs.declared.shape.Rule.{Rule}
-use Rattle.of_shapes.specs.declared.shape.Rule.TheVariants.{Free, Absent, Under}
-use Rattle.of_shapes.specs.Rules.{HasShape, IsTagging, Obeys, of_shape, of_tagging}
+use Rattle.of_frames.specs.declared.shape.Shape.{Shape}
+use Rattle.of_frames.specs.declared.shape.Shape.TheVariants as shapes
+use Rattle.of_frames.specs.declared.shape.Tagging.{Tagging}
+use Rattle.of_frames.specs.declared.shape.Tagging.TheVariants.{Untagged, Tagged}
+use Rattle.of_frames.specs.declared.shape.Rule.{Rule}
+use Rattle.of_frames.specs.declared.shape.Rule.TheVariants.{Free, Absent, Under}
+use Rattle.of_frames.specs.Rules.{HasShape, IsTagging, Obeys, of_shape, of_tagging}
 use Rattle.of_frames.specs.Given.{or_zero}
 use Rattle.of_frames.specs.Knowing.{IsAmong, IsKnown}
 use Rattle.of_frames.specs.Packets.{frame_given, frame_size}

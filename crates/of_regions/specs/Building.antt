@@ -5,8 +5,8 @@ use Rattle.of_layers.specs.Fields.{ones_of}
 use Rattle.of_headers.specs.FieldMap.{value}
 use Rattle.of_oxm.specs.Masks.{mask_at, looked_at, value_of}
 use Rattle.of_oxm.specs.declared.match_field.MatchField.{MatchField}
-use Rattle.of_shapes.specs.declared.shape.Shape.{Shape}
-use Rattle.of_shapes.specs.declared.shape.Tagging.{Tagging}
+use Rattle.of_frames.specs.declared.shape.Shape.{Shape}
+use Rattle.of_frames.specs.declared.shape.Tagging.{Tagging}
 use Rattle.of_regions.specs.declared.building.Fields.{Fields}
 use Rattle.of_regions.specs.declared.joining.Bits.{Bits}
 use Rattle.of_regions.specs.Joining.{Joined}

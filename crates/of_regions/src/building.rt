@@ -6,10 +6,10 @@ ghost use Rattle.of_layers.specs.Fields.{all_fields, number_of, ones_of};
 ghost use Rattle.of_headers.specs.FieldMap.{value};
 ghost use Rattle.of_oxm.specs.Masks.{looked_at, mask_at, value_of};
 ghost use Rattle.of_oxm.specs.Relations.{matches_map};
-ghost use Rattle.of_shapes.specs.Rules.{HasShape};
+ghost use Rattle.of_frames.specs.Rules.{HasShape};
 ghost use Rattle.of_headers.specs.FieldMap.{seen};
-ghost use Rattle.of_shapes.specs.Rules.{Obeys};
-ghost use Rattle.of_shapes.specs.declared.shape.Rule.TheVariants.{Free};
+ghost use Rattle.of_frames.specs.Rules.{Obeys};
+ghost use Rattle.of_frames.specs.declared.shape.Rule.TheVariants.{Free};
 ghost use Rattle.of_regions.specs.Building.{AreOthers, IsBegunField, IsUnknown, bits_at};
 ghost use Rattle.of_regions.specs.Joining.{IsAsked, IsRule, Joined};
 ghost use Rattle.of_regions.specs.Known.{rule_in as rule_is};
@@ -17,9 +17,9 @@ ghost use Rattle.of_regions.specs.Regions.{HasTagging, InRegion, InOneRegion};
 
 use crate::joining::{Bits, joined};
 use crate::region::Region;
+use of_frames::{Rule, Shape, Tagging};
 use of_headers::{Field, FieldKey};
 use of_oxm::{FieldMask, Match, key_of, mask_of, matched_is_seen};
-use of_shapes::{Rule, Shape, Tagging};
 
 /// What is known of each field so far.
 #[derive(Clone, Copy)]

@@ -4,9 +4,9 @@ ghost use Rattle.of_layers.specs.declared.field.Field.{Field as TheField};
 ghost use Rattle.of_layers.specs.Fields.{number_of, ones_of};
 ghost use Rattle.of_layers.specs.declared.field.Field.TheVariants.{VlanVid};
 ghost use Rattle.of_headers.specs.FieldMap.{seen, value};
-ghost use Rattle.of_shapes.specs.declared.shape.Tagging.TheVariants.{Tagged, Untagged};
+ghost use Rattle.of_frames.specs.declared.shape.Tagging.TheVariants.{Tagged, Untagged};
 ghost use Rattle.of_oxm.specs.Masks.{mask_at};
-ghost use Rattle.of_shapes.specs.Rules.{IsTagging};
+ghost use Rattle.of_frames.specs.Rules.{IsTagging};
 ghost use Rattle.of_regions.specs.Conditions.{IsCondition};
 ghost use Rattle.of_regions.specs.Dividing.{AreWithout, IsBitOf};
 ghost use Rattle.of_regions.specs.Known.{is_known_by, rule_in};
@@ -15,9 +15,9 @@ ghost use Rattle.of_regions.specs.Regions.{AreParts, InRegion, IsEither};
 
 use crate::meeting::is_apart;
 use crate::region::Region;
+use of_frames::Tagging;
 use of_headers::{Field, FieldKey};
 use of_oxm::{FieldMask, MatchField, bits_of};
-use of_shapes::Tagging;
 
 // These bits without those of a mask.
 pub fn without(bits: u128, mask: u128) -> u128

@@ -2,11 +2,11 @@
 ghost use Rattle.std.specs.Prelude.{◌≡◌, ◌≤◌, ℕ, Option, None, IfNone, IfSome, bit_and};
 ghost use Rattle.of_layers.specs.Fields.{ones_of};
 ghost use Rattle.of_headers.specs.FieldMap.{seen};
-ghost use Rattle.of_shapes.specs.Rules.{Obeys};
-ghost use Rattle.of_shapes.specs.declared.shape.Rule.TheVariants.{Free};
+ghost use Rattle.of_frames.specs.Rules.{Obeys};
+ghost use Rattle.of_frames.specs.declared.shape.Rule.TheVariants.{Free};
 ghost use Rattle.of_regions.specs.Joining.{IsAsked, IsRule, Joined};
 
-use of_shapes::Rule;
+use of_frames::Rule;
 
 /// What is known of a field: its mask and its bits under the mask, if it is there.
 #[derive(Clone, Copy)]

@@ -4,9 +4,9 @@ ghost use Rattle.of_headers.specs.FieldMap.{value};
 ghost use Rattle.of_oxm.specs.Masks.{mask_at};
 ghost use Rattle.of_regions.specs.Known.{AllKnown};
 
+use of_frames::{Shape, Tagging};
 use of_headers::FieldKey;
 use of_oxm::FieldMask;
-use of_shapes::{Shape, Tagging};
 
 /// Packets of one shape. Of each field that has a mask it is known whether they have it, and its bits under the mask.
 ///

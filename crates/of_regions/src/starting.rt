@@ -3,14 +3,14 @@ ghost use Rattle.std.specs.Prelude.{◌≡◌, ◌≤◌, ◌+◌, ◌++◌, ◌
 ghost use Rattle.std.specs.List.{Contains};
 ghost use Rattle.of_layers.specs.declared.field.Field.TheVariants.{VlanPcp, VlanVid};
 ghost use Rattle.of_oxm.specs.Masks.{looked_at, mask_at};
-ghost use Rattle.of_shapes.specs.declared.shape.Shape.{Shape as TheShape};
+ghost use Rattle.of_frames.specs.declared.shape.Shape.{Shape as TheShape};
 ghost use Rattle.of_regions.specs.Searching.{IsStart};
 ghost use Rattle.of_regions.specs.Starting.{IsBegun, region_list};
 
 use crate::region::Region;
+use of_frames::{Shape, Tagging};
 use of_headers::Field;
 use of_oxm::{FieldMask, Match, mask_of};
-use of_shapes::{Shape, Tagging};
 use std::alloc::{AllocError, Global};
 
 /// Each shape once. A search begins with the last one.

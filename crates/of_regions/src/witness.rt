@@ -6,9 +6,8 @@ ghost use Rattle.of_regions.specs.Witness.{HasNoIngress, IsFrameIn, IsIngressPor
 
 use crate::dividing::{lowest, without};
 use crate::region::Region;
-use of_frames::frame_of;
+use of_frames::{Tagging, frame_of};
 use of_headers::Field;
-use of_shapes::Tagging;
 use of_wire::limits::{OFPP_CONTROLLER, OFPP_MAX};
 use std::alloc::{AllocError, Global};
 

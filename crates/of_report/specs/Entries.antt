@@ -2,7 +2,7 @@
 use Rattle.std.specs.Prelude.{ℕ, List, [], ◌++◌, slice_get, codes, decimal, Option, Some, None}
 use Rattle.std.specs.List.{flat_map}
 use Rattle.of_text.specs.Flows.{Flow}
-use Rattle.of_remarks.specs.Tables.{flows_at}
+use Rattle.of_check.specs.Tables.{flows_at}
 use Rattle.of_values.specs.Entries.{entry_words}
 use Rattle.of_values.specs.Origins.{EntryOrigin, further_counter}
 

@@ -7,8 +7,8 @@ use Rattle.of_replay.specs.declared.event_file.Ended.{Ended}
 use Rattle.of_replay.specs.declared.event_file.Ended.TheVariants.{Done}
 use Rattle.of_check.specs.declared.finding.Finding.{Finding}
 use Rattle.of_check.specs.Findings.{Checks}
-use Rattle.of_remarks.specs.declared.remark.Remark.{Remark}
-use Rattle.of_remarks.specs.Remarks.{remarks_on}
+use Rattle.of_check.specs.declared.remark.Remark.{Remark}
+use Rattle.of_check.specs.Remarks.{remarks_on}
 use Rattle.of_values.specs.Origins.{EntryOrigin}
 use Rattle.of_report.specs.declared.reporting.Form.{Form}
 use Rattle.of_report.specs.declared.reporting.Form.TheVariants.{Findings, All, AllInWords, Json}

@@ -5,8 +5,7 @@ ghost use Rattle.of_check.specs.Verdicts.{is_never as is_never_in};
 ghost use Rattle.of_report.specs.Report.{count, is_finding as is_finding_among, is_found as is_found_in, is_open as is_open_in, is_win as is_win_in};
 
 use crate::remarks::is_finding;
-use of_check::{Finding, Verdict, is_never};
-use of_remarks::Remark;
+use of_check::{Finding, Remark, Verdict, is_never};
 
 fn is_win(verdict: &Verdict) -> bool
     ensures { result ≡ is_win_in verdict.now }

@@ -1,7 +1,7 @@
 //! How flow entries are named.
 ghost use Rattle.std.specs.Prelude.{◌≡◌, ◌++◌, Some, option_map, slice_get, OnOk};
 ghost use Rattle.of_text.specs.Views.{view, view_flows};
-ghost use Rattle.of_remarks.specs.Tables.{flows_at};
+ghost use Rattle.of_check.specs.Tables.{flows_at};
 ghost use Rattle.of_report.specs.Entries.{counter_words_of, detail_words, entry, line_words, origin_at as an_origin_at, place_words};
 ghost use Rattle.of_values.specs.Origins.{view_origin, view_origins};
 

@@ -8,12 +8,11 @@ use crate::counting::{count_open, count_shadowed, count_wins, is_found};
 use crate::json_entries::{push_entry_members, push_entry_object};
 use crate::json_remarks::push_remark_object;
 use crate::packets::packet_words;
-use of_check::{Finding, Verdict};
+use of_check::{Finding, Remark, Verdict};
 use of_json::{
     push_array_member, push_bytes_member, push_hex_member, push_key, push_number_member,
     push_quoted, push_text_member, push_truth_member,
 };
-use of_remarks::Remark;
 use of_text::Config;
 use of_values::{Origin, push_decimal};
 use std::alloc::{AllocError, Global};

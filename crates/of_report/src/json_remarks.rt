@@ -5,8 +5,8 @@ ghost use Rattle.of_report.specs.Json.{remark_member, remark_members, remark_obj
 ghost use Rattle.of_values.specs.Origins.{view_origins};
 
 use crate::json_entries::push_entry_members;
+use of_check::Remark;
 use of_json::{push_key, push_number_member, push_text_member};
-use of_remarks::Remark;
 use of_text::Config;
 use of_values::{Origin, push_decimal};
 use std::alloc::AllocError;

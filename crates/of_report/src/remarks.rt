@@ -6,7 +6,7 @@ ghost use Rattle.of_report.specs.Report.{report_group_words, is_finding as is_fi
 ghost use Rattle.of_values.specs.Origins.{view_origins};
 
 use crate::entries::push_entry;
-use of_remarks::Remark;
+use of_check::Remark;
 use of_text::Config;
 use of_values::{Origin, push_decimal, push_port};
 use std::alloc::AllocError;

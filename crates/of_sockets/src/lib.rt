@@ -1,8 +1,20 @@
-//! What `serve` and `live` run over: sockets, the machine's clock, standard input and the file of a log.
+//! What `serve` and `live` run over: sockets, the machine's clock, standard input and the file of a log; and what they decide without a socket: what
+//! a failed call means, how long to pause, which rows are refused.
 #![tactic(auto)]
 
+mod calls;
+mod event_rows;
 pub mod live;
+mod pauses;
+mod refusals;
 pub mod serving;
 mod standard_input;
 
+pub use calls::{
+    Attempt, Ending, attempt_of, ended_unopened, ending_of, is_nobody, read_some, reading_of,
+    write_some,
+};
+pub use event_rows::read_rows;
+pub use pauses::{FIRST_PAUSE, LONGEST_PAUSE, Pauses};
+pub use refusals::{Refusals, RefusedRow, later_of, refusal_of, row_numbers};
 pub use standard_input::StandardInput;

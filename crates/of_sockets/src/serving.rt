@@ -1,7 +1,7 @@
 //! Controllers over TCP, and the machine's clock.
 ghost use Rattle.std.specs.Prelude.{◌≡◌, ◌≢◌, ◌≤◌, None as NotTold, IfOk};
 
-use of_calls::{Ending, Pauses, Refusals, RefusedRow, ending_of, is_nobody, read_some, write_some};
+use crate::{Ending, Pauses, Refusals, RefusedRow, ending_of, is_nobody, read_some, write_some};
 use of_command_line::Meeting;
 use of_replay::{Reading, Writing};
 use of_serve::{Accepted, Clock, Peers};

@@ -1,7 +1,7 @@
 -- Frames that are held, and the messages that name them.
 use Rattle.std.proofs.Common.{◌≡◌, ℕ, ◌<◌, ◌==◌, Bool, true, false, cond, List, [], ◌∷◌, Option, Some, None, refl, sym, ap, ◌∙◌, arith}
 use Rattle.std.proofs.lemmas.Bool.Decides.{nat_tests}
-use Rattle.of_buffers.specs.Buffers.{Held, HeldFrames}
+use Rattle.of_datapath.specs.Buffers.{Held, HeldFrames}
 use Rattle.of_groups.specs.declared.group.Group.{Group}
 use Rattle.of_ports.specs.declared.port.Port.{Port}
 use Rattle.std.specs.List.{list_any}

@@ -14,7 +14,7 @@ use Rattle.std.specs.declared.alloc.AllocError.{AllocError}
 use Rattle.of_table.specs.declared.selection.Cause.{Cause}
 use Rattle.of_datapath.specs.declared.effect.Effect.{Effect}
 use Rattle.of_datapath.specs.Commands.{names_absent_group}
-use Rattle.of_buffers.specs.Buffers.{HeldFrames}
+use Rattle.of_datapath.specs.Buffers.{HeldFrames}
 use Rattle.of_datapath.specs.Numbers.{Contents, contents, without_numbers}
 use Rattle.of_datapath.specs.Datapath.{Forwarded, Forwarding, forwards}
 use Rattle.of_datapath.specs.Standing.{GroupsExist}

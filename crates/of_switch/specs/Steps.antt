@@ -25,7 +25,7 @@ use Rattle.of_groups.specs.declared.bucket.Bucket.{Bucket}
 use Rattle.of_groups.specs.declared.group.Group.{Group as AGroup}
 use Rattle.of_groups.specs.declared.group.GroupKind.{GroupKind}
 use Rattle.of_groups.specs.Groups.{groups_left, modified_group, new_group, with_group}
-use Rattle.of_buffers.specs.Buffers.{Held, forgotten}
+use Rattle.of_datapath.specs.Buffers.{Held, forgotten}
 use Rattle.of_machine.specs.Rows.{acts, entering}
 use Rattle.of_datapath.specs.Commands.{flow_mod_refusals, commanded, command_notices, notice_effects, packet_out_refusals, packet_out_frame, frame_named, without_packet}
 use Rattle.of_switch.specs.GroupMods.{group_mod_fault, refused_for}

@@ -1,7 +1,7 @@
 //! Laws of the abstract switch.
 ghost use Rattle.std.specs.Prelude.{◌≡◌, ◌≢◌, ◌<◌, ◌+◌, ◌++◌, ◌∷◌, [], ℕ, List, Some, None, true, false, length, map, take, flat_map, slice_get};
 ghost use Rattle.of_wire.specs.declared.limits.TheConstants.{OFP_NO_BUFFER};
-ghost use Rattle.of_buffers.specs.Buffers.{HeldFrames, held, is_id, last_id, most_held};
+ghost use Rattle.of_datapath.specs.Buffers.{HeldFrames, held, is_id, last_id, most_held};
 ghost use Rattle.of_machine.specs.declared.data.Item.{Item};
 ghost use Rattle.of_machine.specs.declared.data.Item.TheVariants.{PacketIn};
 ghost use Rattle.of_machine.specs.declared.data.ToController.{ToController};

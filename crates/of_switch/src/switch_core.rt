@@ -9,7 +9,7 @@ ghost use Rattle.of_actions.specs.FlowCheck.{all_go_with};
 ghost use Rattle.of_actions.specs.InstructionLists.{are_for};
 ghost use Rattle.of_messages.specs.Promised.{IsSoundFlowMod, IsSoundGroupMod, IsSoundMessage, IsSoundPacket};
 ghost use Rattle.std.specs.Prelude.{IfErr, Some};
-ghost use Rattle.of_buffers.specs.Buffers.{held};
+ghost use Rattle.of_datapath.specs.Buffers.{held};
 ghost use Rattle.of_messages.specs.Messages.{is_delete as is_delete_command};
 ghost use Rattle.of_switch.specs.Handling.{IsUnlessHeld};
 ghost use Rattle.of_datapath.specs.Commands.{add_refusals, packet_out_frame as packet_frame, names_absent_group as naming_absent_group, packet_out_refusals, flow_mod_refusals, has_flag as with_flag, notice_effects, selector_of};

@@ -1,7 +1,7 @@
 //! Events as rows of a text, and what a switch gives for them.
 use of_classifier::Lookup;
 use of_switch::{Effect, Event, PortChange, Report, Switch};
-use of_test_rows::{bytes_of, number_of, sides};
+use of_test_peers::rows::{bytes_of, number_of, sides};
 use of_wire::Bytes;
 use std::alloc::{AllocError, Global};
 use std::test::Fail;

@@ -15,8 +15,8 @@ use Rattle.of_headers.specs.FieldMap.{field_map}
 use Rattle.of_oxm.specs.declared.match_field.MatchField.{MatchField}
 use Rattle.of_oxm.specs.Relations.{matches_map}
 use Rattle.of_rewrite.specs.Frames.{IsFrame}
-use Rattle.of_shapes.specs.Rules.{shape_of, tagging_of}
-use Rattle.of_shapes.proofs.Shapes.{shaped, tags_seen}
+use Rattle.of_frames.specs.Rules.{shape_of, tagging_of}
+use Rattle.of_frames.proofs.Shapes.{shaped, tags_seen}
 use Rattle.of_regions.specs.declared.meeting.Meeting.TheVariants.{Apart, Whole}
 use Rattle.of_regions.specs.declared.region.Region.{Region}
 use Rattle.of_regions.specs.Conditions.{AreConditions}

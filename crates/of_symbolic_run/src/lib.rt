@@ -1,4 +1,5 @@
-//! A run of the switch for all frames of a part at once: its states, and the steps that are the same for each frame (OpenFlow 1.3.5, 5.1).
+//! A run of the switch for all frames of a part at once: its states, the steps that are the same for each frame, and which frames a switch receives
+//! (OpenFlow 1.3.5, 5.1).
 #![tactic(auto)]
 
 mod advance;
@@ -9,13 +10,17 @@ mod entering;
 mod finding;
 mod frame_set;
 mod frames;
+mod grouped;
 mod grouping;
 mod joint;
 mod known_ttl;
 mod laws;
+mod ports;
 mod received;
+mod reception;
 mod rewrites;
 mod served;
+mod side;
 mod state;
 mod stepping;
 mod ttl_frames;
@@ -29,8 +34,11 @@ pub use frame_set::FrameSet;
 pub use grouping::run_group;
 pub use joint::{JointCase, look_up_both};
 pub use laws::ended_states_give_runs;
+pub use ports::{absent_ports, ingress_condition, receiving_port};
 pub use received::received_state;
+pub use reception::received_frames;
 pub use rewrites::Rewrites;
 pub use served::{ServedAction, ServedInstruction};
+pub use side::{Side, step_side};
 pub use state::{Emission, SymbolicPacket, SymbolicState, SymbolicTask, Work};
 pub use written::Written;

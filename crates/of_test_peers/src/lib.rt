@@ -1,5 +1,6 @@
-//! Peers, a clock and a network in memory, which follow a script and record what passes: for tests.
+//! For tests: rows of a text; peers, a clock and a network in memory, which follow a script and record what passes.
 #![tactic(auto)]
 
 pub mod network;
 pub mod peers;
+pub mod rows;

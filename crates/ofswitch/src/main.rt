@@ -25,18 +25,17 @@ use crate::tracing::{TraceVerdict, traced};
 use hinting::{Seen, Watched, say_hint, say_refusal, say_unread};
 use importing::{NotImported, imported, imported_as_json};
 use live::live_rows;
-use of_asking::Answering;
-use of_calls::{ended_unopened, read_rows};
 use of_command_line::{
     Check, Diff, FileRun, Live, NoRequest, PathsAsked, ReplayOutput, Request, Run, Serve, Trace,
     read_request,
 };
 use of_diff_report::DiffVerdict;
-use of_explain::{Explaining, ExplainingJson};
+use of_explain::{Answering, Explaining, ExplainingJson};
 use of_import::Mode;
 use of_paths_report::PathsVerdict;
 use of_replay::streams::{ReaderSource, WriterSink};
 use of_replay::{Ended, Plain, RowPrinter, Sink, Source, asm, dis, print_file, status};
+use of_sockets::{ended_unopened, read_rows};
 use of_switch::Event;
 use of_text::TextFault;
 use say::{Unsaid, said};

@@ -2,11 +2,11 @@
 use crate::files::bytes_of;
 use crate::lookups::Lookups;
 use crate::seed::draw_seed;
-use of_calls::Refusals;
 use of_command_line::Serve;
 use of_replay::Ended;
 use of_replay::streams::WriterSink;
 use of_serve::serve_on;
+use of_sockets::Refusals;
 use of_sockets::serving::{MachineClock, Sockets};
 use of_switch::{Event, Switch};
 use std::alloc::AllocError;

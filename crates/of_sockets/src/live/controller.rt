@@ -2,9 +2,9 @@
 ghost use Rattle.std.specs.Prelude.{◌≡◌, ◌<◌, ◌≤◌, length, IfSome};
 ghost use Rattle.of_network.specs.Inputs.{IsInput};
 
+use crate::{Ending, Pauses, is_nobody, write_some};
 use mio::net::{TcpListener, TcpStream};
 use mio::{Interest, Registry, Token};
-use of_calls::{Ending, Pauses, is_nobody, write_some};
 use of_command_line::Meeting;
 use of_network::{Input, Written};
 use std::io::{self, ErrorKind, Read};

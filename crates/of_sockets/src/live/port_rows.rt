@@ -1,5 +1,5 @@
 //! Rows of ports that the switch refuses.
-use of_calls::{later_of, refusal_of, row_numbers};
+use crate::{later_of, refusal_of, row_numbers};
 use of_classifier::Scan;
 use of_switch::{Event, PortChange, Switch};
 use std::alloc::AllocError;

@@ -3,7 +3,7 @@ use Rattle.std.specs.Borrow.{Bor}
 use Rattle.of_machine.specs.declared.data.Item.{Item}
 use Rattle.of_alike.specs.Alike.{leaving}
 use Rattle.of_alike.proofs.AlikeLemmas.{tells_alike}
-use Rattle.of_symbolic_switch.proofs.Pairing.{first_longer, pairing_parts, pairing_told}
+use Rattle.of_symbolic_run.proofs.Pairing.{first_longer, pairing_parts, pairing_told}
 use Rattle.of_alike.proofs.alike.is_alike_at.Goals as goal
 
 pub returns-in_default-next_to : goal.returns-in_default-next_to

@@ -1,6 +1,6 @@
 use Rattle.std.proofs.Common.{length}
 use Rattle.of_alike.specs.Alike.{leaving}
-use Rattle.of_symbolic_switch.proofs.Pairing.{SameIfLeft}
+use Rattle.of_symbolic_run.proofs.Pairing.{SameIfLeft}
 use Rattle.of_alike.proofs.alike.is_alike_at.Given as goal
 
 abbrev pub invariant-loop-item : goal.invariant-loop-item

@@ -4,7 +4,7 @@ use Rattle.std.specs.Option.{MatchOption}
 use Rattle.std.specs.Slice.Iter.{iter_rest}
 use Rattle.std.proofs.lemmas.List.{drop_all}
 use Rattle.of_symbolic_run.specs.declared.state.Work.{Work}
-use Rattle.of_symbolic_switch.proofs.Pairing.{at_index, no_elements, pairing_decided, pairing_goes_on}
+use Rattle.of_symbolic_run.proofs.Pairing.{at_index, no_elements, pairing_decided, pairing_goes_on}
 use Rattle.of_alike.proofs.continuing.are_equal_works.Goals as goal
 
 pub loop-work-preserved : goal.loop-work-preserved

@@ -1,6 +1,6 @@
 use Rattle.std.proofs.Common.{drop}
 use Rattle.std.specs.Slice.Iter.{iter_rest}
-use Rattle.of_symbolic_switch.proofs.Pairing.{SameIfLeft}
+use Rattle.of_symbolic_run.proofs.Pairing.{SameIfLeft}
 use Rattle.of_alike.proofs.continuing.are_equal_works.Given as goal
 
 abbrev pub invariant-loop-work : goal.invariant-loop-work

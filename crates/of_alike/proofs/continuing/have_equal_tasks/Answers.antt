@@ -4,7 +4,7 @@ use Rattle.std.specs.Option.{MatchOption}
 use Rattle.std.specs.Slice.Iter.{iter_rest}
 use Rattle.std.proofs.lemmas.List.{drop_all}
 use Rattle.of_symbolic_run.specs.declared.state.SymbolicTask.{SymbolicTask}
-use Rattle.of_symbolic_switch.proofs.Pairing.{at_index, no_elements, pairing_decided, pairing_goes_on}
+use Rattle.of_symbolic_run.proofs.Pairing.{at_index, no_elements, pairing_decided, pairing_goes_on}
 use Rattle.of_alike.proofs.CopyLemmas.{copies_of_keys, key_of_copy, task_key}
 use Rattle.of_alike.proofs.continuing.have_equal_tasks.Goals as goal
 

@@ -5,7 +5,7 @@ use Rattle.std.specs.Slice.Iter.{iter_rest}
 use Rattle.std.proofs.lemmas.List.{drop_all}
 use Rattle.of_groups.specs.declared.group.Group.{Group}
 use Rattle.of_alike.specs.SameGroups.{group_key}
-use Rattle.of_symbolic_switch.proofs.Pairing.{at_index, no_elements, pairing_decided, pairing_goes_on, pairing_parts}
+use Rattle.of_symbolic_run.proofs.Pairing.{at_index, no_elements, pairing_decided, pairing_goes_on, pairing_parts}
 use Rattle.of_alike.proofs.groups.have_same_groups.Goals as goal
 
 pub returns-in_default : goal.returns-in_default

@@ -1,7 +1,7 @@
 use Rattle.std.proofs.Common.{drop, map}
 use Rattle.std.specs.Slice.Iter.{iter_rest}
 use Rattle.of_alike.specs.SameGroups.{group_key}
-use Rattle.of_symbolic_switch.proofs.Pairing.{SameIfLeft}
+use Rattle.of_symbolic_run.proofs.Pairing.{SameIfLeft}
 use Rattle.of_alike.proofs.groups.have_same_groups.Given as goal
 
 abbrev pub invariant-loop-group : goal.invariant-loop-group

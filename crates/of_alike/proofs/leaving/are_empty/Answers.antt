@@ -1,6 +1,6 @@
 use Rattle.std.proofs.Common.{sym, ◌∙◌}
 use Rattle.std.proofs.lemmas.Bool.{eqb-true}
-use Rattle.of_symbolic_switch.proofs.Pairing.{no_elements}
+use Rattle.of_symbolic_run.proofs.Pairing.{no_elements}
 use Rattle.of_alike.proofs.leaving.are_empty.Goals as goal
 
 pub returns-then-is_empty : goal.returns-then-is_empty

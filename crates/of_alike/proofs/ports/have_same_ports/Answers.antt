@@ -5,7 +5,7 @@ use Rattle.std.specs.Slice.Iter.{iter_rest}
 use Rattle.std.proofs.lemmas.List.{drop_all, drop_more}
 use Rattle.of_ports.specs.declared.port.Port.{Port}
 use Rattle.of_alike.specs.SamePorts.{port_key}
-use Rattle.of_symbolic_switch.proofs.Pairing.{no_elements, pairing_decided, pairing_goes_on, pairing_parts}
+use Rattle.of_symbolic_run.proofs.Pairing.{no_elements, pairing_decided, pairing_goes_on, pairing_parts}
 use Rattle.of_alike.proofs.ports.have_same_ports.Goals as goal
 
 pub returns-in_default : goal.returns-in_default

@@ -1,7 +1,7 @@
 use Rattle.std.proofs.Common.{drop, map}
 use Rattle.std.specs.Slice.Iter.{iter_rest}
 use Rattle.of_alike.specs.SamePorts.{port_key}
-use Rattle.of_symbolic_switch.proofs.Pairing.{SameIfLeft}
+use Rattle.of_symbolic_run.proofs.Pairing.{SameIfLeft}
 use Rattle.of_alike.proofs.ports.have_same_ports.Given as goal
 
 abbrev pub invariant-loop-port : goal.invariant-loop-port

@@ -1,6 +1,6 @@
 use Rattle.std.proofs.Common.{drop}
 use Rattle.std.specs.Slice.Iter.{iter_rest}
-use Rattle.of_symbolic_switch.proofs.Pairing.{SameIfLeft}
+use Rattle.of_symbolic_run.proofs.Pairing.{SameIfLeft}
 use Rattle.of_alike.proofs.tables.are_same_instructions.Given as goal
 
 abbrev pub invariant-loop-x : goal.invariant-loop-x

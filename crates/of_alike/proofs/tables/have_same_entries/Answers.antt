@@ -4,7 +4,7 @@ use Rattle.std.specs.Option.{MatchOption}
 use Rattle.of_table.specs.declared.entry.Entry.{Entry}
 use Rattle.of_table.specs.Entries.{entry_of, flows_of}
 use Rattle.of_alike.specs.SameTables.{EntrySays, says_of}
-use Rattle.of_symbolic_switch.proofs.Pairing.{pairing_decided, pairing_goes_on, pairing_parts}
+use Rattle.of_symbolic_run.proofs.Pairing.{pairing_decided, pairing_goes_on, pairing_parts}
 use Rattle.of_alike.proofs.tables.have_same_entries.Goals as goal
 
 said : List Entry → List EntrySays

@@ -1,5 +1,5 @@
 use Rattle.std.proofs.Common.{◌≤◌, flat_map}
-use Rattle.of_buffers.specs.Buffers.{last_id}
+use Rattle.of_datapath.specs.Buffers.{last_id}
 use Rattle.of_machine.specs.Growth.{AllShort}
 use Rattle.of_datapath.specs.Told.{each_told, frames_for, given_items}
 use Rattle.of_datapath.proofs.Telling.{Telling}

@@ -4,7 +4,7 @@ use Rattle.of_table.specs.declared.entry.Entry.{Entry}
 use Rattle.of_table.specs.Entries.{entry_of, flows_of}
 use Rattle.of_diff.specs.Changing.{AreMarkedAskedIn}
 use Rattle.of_diff.proofs.ChangingLemmas.{asked_more, no_entries_asked, none_asked, one_asked}
-use Rattle.of_symbolic_switch.proofs.Pairing.{no_elements}
+use Rattle.of_symbolic_run.proofs.Pairing.{no_elements}
 use Rattle.of_diff.proofs.changing.push_all_asked.Goals as goal
 
 pub loop-entry-init : goal.loop-entry-init

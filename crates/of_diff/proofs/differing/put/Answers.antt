@@ -1,5 +1,5 @@
 use Rattle.std.proofs.Common.{refl}
-use Rattle.of_symbolic_switch.proofs.GroupedLemmas.{if_ok}
+use Rattle.of_symbolic_run.proofs.GroupedLemmas.{if_ok}
 use Rattle.of_diff.proofs.FindingLemmas.{always_ok, last_is_undecided, on_appended, put_alike, put_found, put_pairs, put_undecided, step_alike, step_differs, step_taken, step_undecided}
 use Rattle.of_diff.proofs.differing.put.Goals as goal
 

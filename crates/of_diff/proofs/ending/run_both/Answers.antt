@@ -1,7 +1,7 @@
 use Rattle.std.proofs.Common.{inl, inr}
 use Rattle.of_datapath.specs.Datapath.{world_of}
 use Rattle.of_datapath.specs.Numbers.{forwarding_of}
-use Rattle.of_symbolic_switch.proofs.ReceivedLemmas.{is_received, silent_port, unreceived_frame}
+use Rattle.of_symbolic_run.proofs.ReceivedLemmas.{is_received, silent_port, unreceived_frame}
 use Rattle.of_diff.proofs.ending.run_both.Goals as goal
 
 pub returns-then-not-receiving_port : goal.returns-then-not-receiving_port

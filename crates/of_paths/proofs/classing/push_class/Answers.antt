@@ -1,8 +1,8 @@
 use Rattle.std.proofs.Common.{◌∙◌, List, [], ◌∷◌, ◌++◌, refl, ap}
 use Rattle.of_datapath.specs.Datapath.{world_of}
 use Rattle.of_datapath.specs.Numbers.{forwarding_of}
-use Rattle.of_symbolic_switch.proofs.GroupedLemmas.{if_ok}
-use Rattle.of_symbolic_switch.proofs.ReceivedLemmas.{is_received, silent_port, unreceived_frame}
+use Rattle.of_symbolic_run.proofs.GroupedLemmas.{if_ok}
+use Rattle.of_symbolic_run.proofs.ReceivedLemmas.{is_received, silent_port, unreceived_frame}
 use Rattle.of_paths.specs.declared.path.Path.{Path}
 use Rattle.of_paths.proofs.FoundLemmas.{puts_class, puts_unfound}
 use Rattle.of_paths.proofs.classing.push_class.Goals as goal

@@ -1,4 +1,4 @@
-use Rattle.of_symbolic_switch.proofs.GroupedLemmas.{if_ok}
+use Rattle.of_symbolic_run.proofs.GroupedLemmas.{if_ok}
 use Rattle.of_paths.specs.declared.path.Merging.TheVariants.{Each}
 use Rattle.of_paths.proofs.classing.put_path.Goals as goal
 

@@ -1,7 +1,7 @@
 use Rattle.std.proofs.Common.{refl, subst, sym}
 use Rattle.of_datapath.specs.Datapath.{world_of}
 use Rattle.of_datapath.specs.Numbers.{forwarding_of}
-use Rattle.of_symbolic_switch.proofs.GroupedLemmas.{if_ok}
+use Rattle.of_symbolic_run.proofs.GroupedLemmas.{if_ok}
 use Rattle.of_paths.specs.Reasons.{IsReason}
 use Rattle.of_paths.proofs.SoFarLemmas.{always_ok, last_is_undecided, on_appended, put_cases, put_ended, put_undecided, reversed_cases, reversed_later}
 use Rattle.of_paths.proofs.TakenLemmas.{step_ended, step_taken, step_unknown}

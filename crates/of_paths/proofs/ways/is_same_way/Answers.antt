@@ -4,7 +4,7 @@ use Rattle.std.specs.Option.{MatchOption}
 use Rattle.std.specs.Slice.Iter.{iter_rest}
 use Rattle.std.proofs.lemmas.List.{drop_all, drop_more}
 use Rattle.of_machine.specs.declared.data.Step.{Step}
-use Rattle.of_symbolic_switch.proofs.Pairing.{no_elements, pairing_decided, pairing_goes_on, pairing_parts}
+use Rattle.of_symbolic_run.proofs.Pairing.{no_elements, pairing_decided, pairing_goes_on, pairing_parts}
 use Rattle.of_paths.specs.Ways.{line_but_entry, way_of}
 use Rattle.of_paths.proofs.ways.is_same_way.Goals as goal
 

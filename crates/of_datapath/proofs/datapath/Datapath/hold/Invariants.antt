@@ -1,5 +1,5 @@
 use Rattle.std.proofs.Common.{◌≡◌}
-use Rattle.of_buffers.specs.Buffers.{hold_all}
+use Rattle.of_datapath.specs.Buffers.{hold_all}
 use Rattle.of_datapath.specs.Applying.{without_used}
 use Rattle.of_datapath.proofs.datapath.Datapath.hold.Given as goal
 

@@ -2,9 +2,9 @@ use Rattle.std.proofs.Common.{Option, ℕ, inl, inr}
 use Rattle.std.specs.Prelude.{◌⊎◌}
 use Rattle.of_layers.specs.declared.field.Field.{Field}
 use Rattle.of_layers.specs.declared.field.Field.TheVariants.{VlanVid}
-use Rattle.of_shapes.specs.declared.shape.Tagging.{Tagging}
-use Rattle.of_shapes.specs.declared.shape.Tagging.TheVariants.{Untagged, Tagged}
-use Rattle.of_shapes.specs.Rules.{IsTagging}
+use Rattle.of_frames.specs.declared.shape.Tagging.{Tagging}
+use Rattle.of_frames.specs.declared.shape.Tagging.TheVariants.{Untagged, Tagged}
+use Rattle.of_frames.specs.Rules.{IsTagging}
 use Rattle.of_regions.specs.Regions.{InRegion, IsSomeTagging}
 use Rattle.of_regions.proofs.TaggingLemmas.{not_both_tags, parts_either}
 use Rattle.of_regions.proofs.region.Region.by_tag.Goals as goal

@@ -2,7 +2,7 @@ use Rattle.std.proofs.Common.{◌≡◌, ℕ, List, length, ap, sym, ◌∙◌}
 use Rattle.std.specs.Prelude.{unwrap_or}
 use Rattle.of_headers.specs.FieldMap.{value}
 use Rattle.of_rewrite.specs.Frames.{IsFrame}
-use Rattle.of_shapes.specs.declared.shape.Tagging.TheVariants.{Untagged}
+use Rattle.of_frames.specs.declared.shape.Tagging.TheVariants.{Untagged}
 use Rattle.of_frames.specs.Given.{or_zero}
 use Rattle.of_frames.specs.Packets.{frame_given, frame_size}
 use Rattle.of_regions.specs.Witness.{IsFrameIn}

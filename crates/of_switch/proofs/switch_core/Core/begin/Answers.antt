@@ -1,6 +1,6 @@
 use Rattle.std.proofs.Common.{◌∙◌, sym, refl}
 use Rattle.std.proofs.lemmas.Result.{IfOk-weaker}
-use Rattle.of_buffers.specs.Buffers.{used}
+use Rattle.of_datapath.specs.Buffers.{used}
 use Rattle.of_datapath.specs.Numbers.{forwarding_of}
 use Rattle.of_switch.proofs.HeldHandling.{begun_is}
 use Rattle.of_datapath.proofs.StandingLemmas.{held_stands, through_stands}

@@ -1,5 +1,0 @@
-use Rattle.of_config.proofs.BuiltAgain.{built_again}
-use Rattle.of_config.proofs.laws.messages_by_number_build_it.Goals as goal
-
-pub returns : goal.returns
-returns c = built_again

@@ -1,4 +1,0 @@
-pub mod Sending
-pub mod Outcomes
-pub mod Built
-pub mod BuiltViews

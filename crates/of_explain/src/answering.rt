@@ -1,0 +1,138 @@
+//! Answers to questions.
+ghost use Rattle.std.specs.Prelude.{◌≡◌, ◌++◌, IfErr, OnOk};
+ghost use Rattle.std.specs.Option.{option_copied};
+ghost use Rattle.of_switch.specs.declared.switch_error.SwitchError.TheVariants.{NoMemory};
+ghost use Rattle.of_replay.specs.FileRuns.{switch_text};
+ghost use Rattle.of_explain.specs.Questions.{Next, answer, answered_question, question_words, with_answers, with_frame};
+
+use crate::push_frame_notes;
+use crate::question::{Manner, Question, read_question};
+use of_classifier::Lookup;
+use of_replay::{Row, RowPrinter};
+use of_switch::{Switch, SwitchError};
+use of_text::{disassemble, is};
+use of_trace::{Output, trace_text};
+use std::alloc::{AllocError, Global};
+
+// The words of a comment that is a question.
+fn words_in(line: &[u8]) -> Option<&[u8]>
+    ensures { option_copied result ≡ question_words line.now }
+{
+    if line.len() < 3 {
+        return None;
+    }
+    let (beginning, words) = line.split_at(3);
+    if is(beginning, b"#? ") {
+        Some(words)
+    } else {
+        None
+    }
+}
+
+// Appends the groups and flow tables of a switch as flow text.
+fn push_flows<L: Lookup>(
+    alloc: Global,
+    out: &mut Vec<u8>,
+    switch: &Switch<L>,
+) -> Result<(), AllocError>
+    ensures { OnOk result (out.new.items ≡ out.old.items ++ switch_text switch.now) }
+{
+    let config = switch.config()?;
+    let text = disassemble(alloc, &config)?;
+    out.extend_from_slice(&text)
+}
+
+// Appends what a frame would do that is received next.
+fn push_next<L: Lookup>(
+    alloc: Global,
+    out: &mut Vec<u8>,
+    switch: &Switch<L>,
+    manner: Manner,
+    port: u32,
+    frame: &[u8],
+) -> Result<(), SwitchError>
+    ensures text { OnOk result (out.new.items ≡ out.old.items ++ answer switch.now (Next manner port frame.now)) }
+    ensures err { IfErr result (λ e. e ≡ NoMemory) }
+{
+    match manner {
+        Manner::Words => push_frame_notes(alloc, out, switch, port, frame),
+        Manner::Steps(form) => {
+            let text = trace_text(alloc, switch, port, frame, Output::Lines(form))?;
+            out.extend_from_slice(&text)?;
+            Ok(())
+        }
+    }
+}
+
+// Appends the answer to a question, without the line that ends it.
+fn push_answer<L: Lookup>(
+    alloc: Global,
+    out: &mut Vec<u8>,
+    switch: &Switch<L>,
+    question: Question,
+    frame: &[u8],
+) -> Result<(), SwitchError>
+    ensures text { OnOk result (out.new.items ≡ out.old.items ++ answer switch.now (with_frame frame.now question)) }
+    ensures err { IfErr result (λ e. e ≡ NoMemory) }
+{
+    match question {
+        Question::Flows => Ok(push_flows(alloc, out, switch)?),
+        Question::Next { manner, port } => push_next(alloc, out, switch, manner, port, frame),
+        Question::Mark => Ok(()),
+        Question::Unknown => Ok(out.extend_from_slice(b"unknown question\n")?),
+    }
+}
+
+// Appends the answer to the question of a comment.
+#[tactic(auto, unfolding(crate::specs::Questions::answered_question))]
+fn push_answered<L: Lookup>(
+    alloc: Global,
+    out: &mut Vec<u8>,
+    switch: &Switch<L>,
+    words: &[u8],
+) -> Result<(), SwitchError>
+    ensures text { OnOk result (out.new.items ≡ out.old.items ++ answered_question switch.now words.now) }
+    ensures err { IfErr result (λ e. e ≡ NoMemory) }
+{
+    let mut frame = Vec::new(alloc);
+    let question = read_question(words, &mut frame)?;
+    push_answer(alloc, out, switch, question, &frame)?;
+    Ok(out.extend_from_slice(b"?\n")?)
+}
+
+/// Prints for each row what another printer does, and answers questions: comments that begin with `#? `. The last line of an answer is `?`.
+///
+/// `flows` asks for the groups and flow tables as flow text; `frame PORT HEX` for what a frame would do that is received next, in words;
+/// `trace PORT HEX`, `explain PORT HEX` and `why PORT HEX` for its steps; `mark` for nothing. Nothing changes.
+#[derive(Drop)]
+pub struct Answering<T> {
+    pub rows: T,
+}
+
+impl<L: Lookup, T: RowPrinter<L> + Drop> RowPrinter<L> for Answering<T> {
+    ghost tale = { with_answers T.RowPrinter.tale };
+
+    fn tell(
+        &self,
+        alloc: Global,
+        switch: &mut Switch<L>,
+        number: u64,
+        line: &[u8],
+        row: Row,
+        bytes: &[u8],
+        out: &mut Vec<u8>,
+    ) -> Result<(), SwitchError> {
+        match row {
+            Row::Passed => match words_in(line) {
+                Some(words) => push_answered(alloc, out, switch, words),
+                None => self.rows.tell(alloc, switch, number, line, row, bytes, out),
+            },
+            Row::Connect
+            | Row::Lost
+            | Row::Chunk
+            | Row::Frame { .. }
+            | Row::Moment { .. }
+            | Row::Ports(_) => self.rows.tell(alloc, switch, number, line, row, bytes, out),
+        }
+    }
+}

@@ -1,3 +1,0 @@
-pub mod LeavingWords
-pub mod LeavingJson
-pub mod UndecidedWords

@@ -1,7 +1,0 @@
-use Rattle.std.proofs.Common.{◌≡◌, false, take}
-use Rattle.std.specs.List.{list_any}
-use Rattle.of_remarks.specs.Actions.{some_writes_sending}
-use Rattle.of_remarks.proofs.actions.is_written_before.Given as goal
-
-abbrev pub invariant-loop-earlier : goal.invariant-loop-earlier
-invariant-loop-earlier l = list_any some_writes_sending (take l.earlier l.config.tables) ≡ false

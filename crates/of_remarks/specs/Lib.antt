@@ -1,4 +1,0 @@
-pub mod Tables
-pub mod Actions
-pub mod Groups
-pub mod Remarks

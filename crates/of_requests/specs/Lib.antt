@@ -1,3 +1,0 @@
-pub mod Canonical
-pub mod Sound
-pub mod Written

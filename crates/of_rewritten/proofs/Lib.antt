@@ -1,3 +1,0 @@
-pub mod Tagging
-pub mod Setting
-pub mod Pushing

@@ -1,0 +1,11 @@
+use Rattle.std.proofs.Common.{sym}
+use Rattle.of_datapath.specs.Datapath.{world_of}
+use Rattle.of_datapath.specs.Numbers.{forwarding_of}
+use Rattle.of_symbolic_run.proofs.GroupedLemmas.{group_is, if_ok}
+use Rattle.of_symbolic_run.proofs.grouped.step_group.Goals as goal
+
+pub returns-in_ok-lists-in-Some-clause-at : goal.returns-in_ok-lists-in-Some-clause-at
+returns-in_ok-lists-in-Some-clause-at g c =
+    let w = world_of (forwarding_of c.args.datapath.now) in
+    let is = group_is w c.args.group c.in-Some.chosen c.as_slice.result.now c.as_slice-in-Some.result.now (sym c.in-Some.ensures) c.as_slice.ensures.places (rw c.as_slice-in-Some.ensures.value c.in_ok-lists-in-Some.ensures.lists) in
+    if_ok c.run_group-in-Some.result _ _ (λ f frame port at. f w frame port is at) c.run_group-in-Some.ensures.at

@@ -1,6 +1,0 @@
-pub mod AbsenceLemmas
-pub mod ReceivedLemmas
-pub mod GroupedLemmas
-pub mod SideLemmas
-pub mod Pairing
-pub mod ConditionLemmas

@@ -1,7 +1,0 @@
-use Rattle.std.proofs.Common.{ap}
-use Rattle.of_symbolic_switch.specs.PortNumbers.{came_in_by}
-use Rattle.of_symbolic_switch.proofs.ConditionLemmas.{came_is_condition}
-use Rattle.of_symbolic_switch.proofs.ports.ingress_condition.Goals as goal
-
-pub returns-clause-conditions : goal.returns-clause-conditions
-returns-clause-conditions c = came_is_condition c.args.port c.ranges.port.fits _ (ap came_in_by c.from.ensures)

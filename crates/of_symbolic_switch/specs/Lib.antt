@@ -1,4 +1,0 @@
-pub mod Received
-pub mod PortNumbers
-pub mod Sides
-pub mod Unfound
