@@ -22,7 +22,7 @@ use of_actions::Action;
 use of_classifier::Lookup;
 use of_groups::{Chosen, Group};
 use of_headers::{FieldKey, check_length};
-use of_machine::{Items, NoLog, Packet, PacketFrame, StepLog, World, run};
+use of_machine::{Items, Packet, PacketFrame, StepLog, World, run};
 use of_ports::Port;
 use of_table::{Entries, Entry, Flow};
 use of_wire::limits::TABLES;
@@ -180,20 +180,26 @@ impl<L: Lookup> Datapath<L> {
         self.ports.as_slice()
     }
 
-    /// What the run of a frame that is received at a port would emit, whatever the controller asked for (OpenFlow 1.3.5, 5.1). Nothing changes.
-    pub fn received_items(
+    /// What the run of a frame that is received at a port would emit, whatever the controller asked for, and its steps, which are put into the log
+    /// (OpenFlow 1.3.5, 5.1). Nothing changes.
+    pub fn received_items<S: StepLog>(
         &self,
         alloc: Global,
         number: u32,
         bytes: &[u8],
+        log: &mut S,
     ) -> Result<Items, AllocError>
         requires long { 14 ≤ length bytes.now }
         requires most { length bytes.now ≤ 9216 }
-        ensures { IfOk result (λ items. items.items ≡ (run_of (world_of (forwarding_of self.now)) (entering bytes.now number) (LookUp 0 ∷ [])).items) }
+        ensures items { IfOk result (λ items. items.items ≡ (run_of (world_of (forwarding_of self.now)) (entering bytes.now number) (LookUp 0 ∷ [])).items) }
+        ensures steps { OnOk result (S.KEEPS ≡ true → S.list log.new ≡ S.list log.old ++ received_steps number bytes.now (forwarding_of self.now)) }
+        ensures bound { S.KEEPS ≡ true → length (S.list log.new) ≤ length (S.list log.old) + frame_step_bound }
+        ensures err { OnErr result (S.KEEPS ≡ true → GainsPrefix (received_steps number bytes.now (forwarding_of self.now)) (S.list log.old) (S.list log.new)) }
     {
         let mut world = Looking { datapath: self };
+        world.known();
         let packet = Packet::new(PacketFrame::new(bytes), number);
-        let outcome = run(alloc, &mut world, packet, &mut NoLog)?;
+        let outcome = run(alloc, &mut world, packet, log)?;
         Ok(outcome.items)
     }
 
@@ -237,17 +243,8 @@ impl<L: Lookup> Datapath<L> {
         ensures bound { S.KEEPS ≡ true → length (S.list log.new) ≤ length (S.list log.old) + frame_step_bound }
         ensures err { OnErr result (S.KEEPS ≡ true → GainsPrefix (received_steps number bytes.now (forwarding_of self.now)) (S.list log.old) (S.list log.new)) }
     {
-        let mut world = Looking { datapath: self };
-        world.known();
-        let packet = Packet::new(PacketFrame::new(bytes), number);
-        let outcome = run(alloc, &mut world, packet, log)?;
-        let told = told_from(
-            alloc,
-            heard,
-            &self.ports,
-            self.held.next_id(),
-            outcome.items,
-        )?;
+        let items = self.received_items(alloc, number, bytes, log)?;
+        let told = told_from(alloc, heard, &self.ports, self.held.next_id(), items)?;
         Ok(told.effects)
     }
 }

@@ -16,7 +16,7 @@ use crate::pair::{Next, Pair};
 use of_alike::{Compared, Where, first_difference};
 use of_classifier::Lookup;
 use of_datapath::Datapath;
-use of_machine::Items;
+use of_machine::{Items, NoLog};
 use of_symbolic_run::{FrameFound, FrameSet, ingress_condition, receiving_port};
 use std::alloc::{AllocError, Global};
 
@@ -112,8 +112,8 @@ fn run_both<L: Lookup>(
     if !receiving_port(second.port_list(), in_port) {
         return Ok(Tried::Undecided(Why::Search));
     }
-    let left = first.received_items(alloc, in_port, &frame)?;
-    let right = second.received_items(alloc, in_port, &frame)?;
+    let left = first.received_items(alloc, in_port, &frame, &mut NoLog)?;
+    let right = second.received_items(alloc, in_port, &frame, &mut NoLog)?;
     match first_difference(alloc, compared, &left, &right)? {
         None => Ok(Tried::Undecided(Why::OtherActions)),
         Some(at) => Ok(Tried::Shown(FrameShown {

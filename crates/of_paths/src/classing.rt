@@ -12,6 +12,7 @@ use crate::path::{Merging, Path, PathClass, Paths, UndecidedFrames, WhyUndecided
 use crate::ways::place_of_way;
 use of_classifier::Lookup;
 use of_datapath::Datapath;
+use of_machine::NoLog;
 use of_symbolic_run::{FrameFound, FrameSet, receiving_port};
 use std::alloc::{AllocError, Global};
 
@@ -44,7 +45,7 @@ fn push_class<L: Lookup>(
     if !receiving_port(datapath.port_list(), in_port) {
         return push_unfound(path.frames, found);
     }
-    let items = datapath.received_items(alloc, in_port, &frame)?;
+    let items = datapath.received_items(alloc, in_port, &frame, &mut NoLog)?;
     let mut paths = Vec::new(alloc);
     paths.push(path)?;
     found.classes.push(PathClass {

@@ -4,7 +4,7 @@ use Rattle.of_machine.specs.Rows.{entering}
 use Rattle.of_datapath.specs.Numbers.{forwarding_of}
 use Rattle.of_datapath.specs.Datapath.{world_of}
 use Rattle.of_datapath.proofs.Prefixes.{front_is_prefix}
-use Rattle.of_datapath.proofs.datapath.Datapath.dry_run_received.Goals as goal
+use Rattle.of_datapath.proofs.datapath.Datapath.received_items.Goals as goal
 
 pub returns-in_err-outcome-clause-err : goal.returns-in_err-outcome-clause-err
 returns-in_err-outcome-clause-err g c =
