@@ -14,7 +14,7 @@ use Rattle.of_rewrite.specs.TimeToLive.{ttl_of}
 use Rattle.of_actions.specs.declared.action.Action.{Action}
 use Rattle.of_actions.specs.declared.action.Action.TheVariants.{Output, Group, SetField}
 use Rattle.of_ports.specs.declared.port.Port.{Port}
-use Rattle.of_ports.specs.Ports.{port_at}
+use Rattle.of_ports.specs.Ports.{is_live, may_receive, port_at}
 use Rattle.of_table.specs.declared.flow.Flow.{Flow}
 use Rattle.of_machine.specs.declared.data.Step.{Step}
 use Rattle.of_machine.specs.declared.data.Step.TheVariants.{Miss, Entry, Apply, Clear, Write, Metadata, Goto, Set, Act, TtlExpired, End}
@@ -98,12 +98,18 @@ unfoldable pub packet_words : List ℕ → List Sight → List ℕ
 packet_words frame [] = numbered_words (codes ",") (length frame) ++ codes " bytes: a frame has 14 to 9216 bytes, so it is dropped"
 packet_words frame (s ∷ others) = sight_words s
 
-unfoldable pub absent_port : Option Port → List ℕ
-absent_port None = codes ": there is no such port, so the frame is dropped"
-absent_port (Some q) = []
+-- why a frame is not received at a port that there is: its link or the port is down, or it does not receive (4.4, 7.2.1)
+abbrev pub port_refuses : Port → List ℕ
+port_refuses q =
+    if may_receive q then []
+    else (if is_live q then codes ": the port receives nothing, so the frame is dropped" else codes ": the port is down, so the frame is dropped")
+
+unfoldable pub unreceived : Option Port → List ℕ
+unreceived None = codes ": there is no such port, so the frame is dropped"
+unreceived (Some q) = port_refuses q
 
 unfoldable pub heading : Forwarding → ℕ → List ℕ → List ℕ
-heading f port frame = codes "in_port " ++ numbers.port_in_words port ++ packet_words frame (entering_sights port frame) ++ absent_port (port_at f.ports port)
+heading f port frame = codes "in_port " ++ numbers.port_in_words port ++ packet_words frame (entering_sights port frame) ++ unreceived (port_at f.ports port)
 
 -- ---- THE STEPS
 

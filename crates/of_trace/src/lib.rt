@@ -23,5 +23,5 @@ pub use noting::explain;
 pub use printing::{print, print_words, push_step};
 pub use sight::Sight;
 pub use tracing_file::{TRACED_PORTS, trace_file};
-pub use words::push_heading;
+pub use words::{push_heading, push_words_line};
 pub use writing::{trace_text, write_trace};

@@ -6,7 +6,7 @@ ghost use Rattle.of_headers.specs.FieldMap.{value};
 ghost use Rattle.of_machine.specs.declared.data.Step.TheVariants.{Act};
 ghost use Rattle.of_text.specs.Lines.{ended};
 ghost use Rattle.of_tracing.specs.Encoded.{are_encoded, is_encoded};
-ghost use Rattle.of_trace.specs.Words.{absent_port, action_line, arp_words, effect_words, ethernet_words, flow_there, found_words, header_words, heading, ip_words, leaving_line, leaving_text, length_words, metadata_words, numbered_words, packet_words, pair, plain_line, sight_words, single, transport_words, ttl_part, words_line, words_text};
+ghost use Rattle.of_trace.specs.Words.{action_line, arp_words, effect_words, ethernet_words, flow_there, found_words, header_words, heading, ip_words, leaving_line, leaving_text, length_words, metadata_words, numbered_words, packet_words, pair, plain_line, sight_words, single, transport_words, ttl_part, unreceived, words_line, words_text};
 
 use crate::packets::arrived;
 use crate::sight::Sight;
@@ -170,14 +170,18 @@ fn push_packet(out: &mut Vec<u8>, frame: &[u8], packet: &Option<Sight>) -> Resul
     }
 }
 
-// Appends that there is no port, if there is none.
-#[tactic(auto, unfolding(crate::specs::Words::absent_port))]
-fn push_absent(out: &mut Vec<u8>, port: Option<&Port>) -> Result<(), AllocError>
-    ensures { OnOk result (out.new.items ≡ out.old.items ++ absent_port (option_copied port.entry)) }
+// Appends why a frame is not received at a port, if it is not.
+#[tactic(auto, unfolding(crate::specs::Words::unreceived))]
+fn push_unreceived(out: &mut Vec<u8>, port: Option<&Port>) -> Result<(), AllocError>
+    ensures { OnOk result (out.new.items ≡ out.old.items ++ unreceived (option_copied port.entry)) }
 {
     match port {
-        Some(_) => Ok(()),
         None => out.extend_from_slice(b": there is no such port, so the frame is dropped"),
+        Some(port) if port.may_receive() => Ok(()),
+        Some(port) if port.is_live() => {
+            out.extend_from_slice(b": the port receives nothing, so the frame is dropped")
+        }
+        Some(_) => out.extend_from_slice(b": the port is down, so the frame is dropped"),
     }
 }
 
@@ -196,7 +200,7 @@ pub fn push_heading<L: Lookup>(
     out.extend_from_slice(b"in_port ")?;
     push_port(out, u128::from(port))?;
     push_packet(out, frame, &packet)?;
-    push_absent(out, find_port(switch.datapath().ports.as_slice(), port))?;
+    push_unreceived(out, find_port(switch.datapath().ports.as_slice(), port))?;
     out.push(b'\n')?;
     Ok(())
 }
