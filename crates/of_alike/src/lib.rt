@@ -17,4 +17,5 @@ pub use emissions::is_same_emission;
 pub use groups::have_same_groups;
 pub use leaving::{leave_alike, other_ingress};
 pub use ports::have_same_ports;
+pub use sending::rewrites;
 pub use tables::{Changed, changed_entries, have_same_entries};

@@ -61,8 +61,8 @@ fn next_there(emissions: &[Emission], ingress: u32, at: Where) -> Option<(&Emiss
     None
 }
 
-// What is done to the frame before it is emitted.
-fn rewrites(emission: &Emission) -> &[Action]
+/// What is done to the frame before it is emitted (OpenFlow 1.3.5, 5.12).
+pub fn rewrites(emission: &Emission) -> &[Action]
     ensures { result.now ≡ rewrites_of emission.now }
 {
     match emission {

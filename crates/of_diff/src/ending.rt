@@ -4,6 +4,7 @@ ghost use Rattle.of_rewrite.specs.Frames.{IsFrame};
 ghost use Rattle.of_datapath.specs.Datapath.{world_of};
 ghost use Rattle.of_datapath.specs.Numbers.{forwarding_of};
 ghost use Rattle.of_machine.specs.TheWorld.{TheWorld};
+ghost use Rattle.of_regions.specs.Conditions.{AreConditions};
 ghost use Rattle.of_symbolic_run.specs.FrameSets.{InFrames};
 ghost use Rattle.of_alike.specs.declared.alike.Compared.{Compared as WhatIsCompared};
 ghost use Rattle.of_diff.specs.declared.pair.Pair.{Pair as ThePair};
@@ -13,11 +14,14 @@ ghost use Rattle.of_diff.specs.SoFar.{NextIs};
 
 use crate::difference::{Difference, EmittedByBoth, Undecided, Why};
 use crate::pair::{Next, Pair};
-use of_alike::{Compared, Where, first_difference};
+use crate::revealing::revealing;
+use of_actions::Action;
+use of_alike::{Compared, Where, first_difference, rewrites};
 use of_classifier::Lookup;
 use of_datapath::Datapath;
 use of_machine::{Items, NoLog};
-use of_symbolic_run::{FrameFound, FrameSet, ingress_condition, receiving_port};
+use of_oxm::MatchField;
+use of_symbolic_run::{Emission, FrameFound, FrameSet, ingress_condition, receiving_port};
 use std::alloc::{AllocError, Global};
 
 /// A frame for which something else leaves, and where.
@@ -146,48 +150,145 @@ fn try_frame<L: Lookup>(
     }
 }
 
-// A frame of the set that came in by this port.
-fn try_frame_from<L: Lookup>(
+// A frame of the set that a condition matches.
+fn try_frame_with<L: Lookup>(
     alloc: Global,
     first: &Datapath<L>,
     second: &Datapath<L>,
     compared: Compared,
     frames: &FrameSet,
-    ingress: u32,
+    condition: MatchField,
     steps: usize,
 ) -> Result<Tried, AllocError>
-    requires { SomeIsAlike compared (world_of (forwarding_of first.now)) (world_of (forwarding_of second.now)) frames.now }
+    requires alike { SomeIsAlike compared (world_of (forwarding_of first.now)) (world_of (forwarding_of second.now)) frames.now }
+    requires condition { AreConditions (condition ∷ []) }
     ensures { IfOk result (TriedIs compared (world_of (forwarding_of first.now)) (world_of (forwarding_of second.now)) steps frames.now) }
 {
-    let from = frames.matching(alloc, &[ingress_condition(ingress)])?;
-    match try_frame(alloc, first, second, compared, &from, steps)? {
+    let some = frames.matching(alloc, &[condition])?;
+    match try_frame(alloc, first, second, compared, &some, steps)? {
         Tried::Shown(shown) => Ok(Tried::Shown(shown)),
         Tried::Empty | Tried::Undecided(_) => Ok(Tried::Undecided(Why::OtherActions)),
     }
 }
 
-// Any frame of the set, and if nothing else leaves for it, one that came in by this port.
-fn try_frames<L: Lookup>(
+// A frame of the set that this action changes.
+fn try_action<L: Lookup>(
     alloc: Global,
     first: &Datapath<L>,
     second: &Datapath<L>,
     compared: Compared,
     frames: &FrameSet,
+    action: &Action,
+    steps: usize,
+) -> Result<Tried, AllocError>
+    requires { SomeIsAlike compared (world_of (forwarding_of first.now)) (world_of (forwarding_of second.now)) frames.now }
+    ensures { IfOk result (TriedIs compared (world_of (forwarding_of first.now)) (world_of (forwarding_of second.now)) steps frames.now) }
+{
+    for is_second in [false, true] {
+        if let Some(condition) = revealing(action, is_second) {
+            let tried = try_frame_with(alloc, first, second, compared, frames, condition, steps)?;
+            if let Tried::Shown(shown) = tried {
+                return Ok(Tried::Shown(shown));
+            }
+        }
+    }
+    Ok(Tried::Undecided(Why::OtherActions))
+}
+
+// A frame of the set that one of these actions changes.
+fn try_actions<L: Lookup>(
+    alloc: Global,
+    first: &Datapath<L>,
+    second: &Datapath<L>,
+    compared: Compared,
+    frames: &FrameSet,
+    actions: &[Action],
+    steps: usize,
+) -> Result<Tried, AllocError>
+    requires { SomeIsAlike compared (world_of (forwarding_of first.now)) (world_of (forwarding_of second.now)) frames.now }
+    ensures { IfOk result (TriedIs compared (world_of (forwarding_of first.now)) (world_of (forwarding_of second.now)) steps frames.now) }
+{
+    for action in actions {
+        let tried = try_action(alloc, first, second, compared, frames, action, steps)?;
+        if let Tried::Shown(shown) = tried {
+            return Ok(Tried::Shown(shown));
+        }
+    }
+    Ok(Tried::Undecided(Why::OtherActions))
+}
+
+// A frame of the set that the actions change which a run took before it emitted something.
+fn try_emitted<L: Lookup>(
+    alloc: Global,
+    first: &Datapath<L>,
+    second: &Datapath<L>,
+    compared: Compared,
+    frames: &FrameSet,
+    emitted: &[Emission],
+    steps: usize,
+) -> Result<Tried, AllocError>
+    requires { SomeIsAlike compared (world_of (forwarding_of first.now)) (world_of (forwarding_of second.now)) frames.now }
+    ensures { IfOk result (TriedIs compared (world_of (forwarding_of first.now)) (world_of (forwarding_of second.now)) steps frames.now) }
+{
+    for emission in emitted {
+        let actions = rewrites(emission);
+        let tried = try_actions(alloc, first, second, compared, frames, actions, steps)?;
+        if let Tried::Shown(shown) = tried {
+            return Ok(Tried::Shown(shown));
+        }
+    }
+    Ok(Tried::Undecided(Why::OtherActions))
+}
+
+// A frame that came in by the ingress port, and then frames that the actions of the first run change.
+fn try_others<L: Lookup>(
+    alloc: Global,
+    first: &Datapath<L>,
+    second: &Datapath<L>,
+    compared: Compared,
+    pair: &Pair<'_>,
     ingress: u32,
     steps: usize,
 ) -> Result<Tried, AllocError>
-    ensures { IfOk result (TriedIs compared (world_of (forwarding_of first.now)) (world_of (forwarding_of second.now)) steps frames.now) }
+    requires { SomeIsAlike compared (world_of (forwarding_of first.now)) (world_of (forwarding_of second.now)) pair.now.frames }
+    ensures { IfOk result (TriedIs compared (world_of (forwarding_of first.now)) (world_of (forwarding_of second.now)) steps pair.now.frames) }
 {
-    match try_frame(alloc, first, second, compared, frames, steps)? {
+    let from = ingress_condition(ingress);
+    let tried = try_frame_with(alloc, first, second, compared, &pair.frames, from, steps)?;
+    if let Tried::Shown(shown) = tried {
+        return Ok(Tried::Shown(shown));
+    }
+    let sent = pair.first.emitted.as_slice();
+    let tried = try_emitted(alloc, first, second, compared, &pair.frames, sent, steps)?;
+    if let Tried::Shown(shown) = tried {
+        return Ok(Tried::Shown(shown));
+    }
+    let sent = pair.second.emitted.as_slice();
+    try_emitted(alloc, first, second, compared, &pair.frames, sent, steps)
+}
+
+// Any frame of the set, and if nothing else leaves for it, one that came in by this port, or one that the actions of the two runs change.
+fn try_frames<L: Lookup>(
+    alloc: Global,
+    first: &Datapath<L>,
+    second: &Datapath<L>,
+    compared: Compared,
+    pair: &Pair<'_>,
+    ingress: u32,
+    steps: usize,
+) -> Result<Tried, AllocError>
+    ensures { IfOk result (TriedIs compared (world_of (forwarding_of first.now)) (world_of (forwarding_of second.now)) steps pair.now.frames) }
+{
+    match try_frame(alloc, first, second, compared, &pair.frames, steps)? {
         Tried::Undecided(Why::OtherActions) => {
-            try_frame_from(alloc, first, second, compared, frames, ingress, steps)
+            try_others(alloc, first, second, compared, pair, ingress, steps)
         }
         tried => Ok(tried),
     }
 }
 
 /// A frame of the pair is searched, in so many steps at most, and runs on both switches. If nothing else leaves for it, so does one that came in by the
-/// ingress port, for which the runs sent something else.
+/// ingress port, for which the runs sent something else, and then frames that the actions of the runs change.
 pub fn try_pair<'a, L: Lookup>(
     alloc: Global,
     first: &Datapath<L>,
@@ -200,7 +301,7 @@ pub fn try_pair<'a, L: Lookup>(
     requires { AreSettled (world_of (forwarding_of first.now)) (world_of (forwarding_of second.now)) pair }
     ensures { IfOk result (NextIs compared (world_of (forwarding_of first.now)) (world_of (forwarding_of second.now)) steps pair.entry) }
 {
-    match try_frames(alloc, first, second, compared, &pair.frames, ingress, steps)? {
+    match try_frames(alloc, first, second, compared, &pair, ingress, steps)? {
         Tried::Shown(shown) => differs(alloc, pair, shown),
         Tried::Empty => Ok(Next::Alike),
         Tried::Undecided(why) => Ok(not_decided(pair.frames, why)),

@@ -10,6 +10,7 @@ mod ending;
 mod gathering;
 mod joining;
 mod pair;
+mod revealing;
 mod stepping;
 mod turns;
 

@@ -22,8 +22,8 @@ returns-in-None g c = λ steps.
     let v = world_of (forwarding_of c.args.second.now) in
     let receives = rw c.port_list.ensures at (c.receiving_port.ensures.0 c.if-not-receiving_port.false) in
     let receives' = rw c.port_list-2.ensures at (c.receiving_port-2.ensures.0 c.if-not-receiving_port-2.false) in
-    let first = rw c.deref.ensures.value at c.in_ok-left.ensures in
-    let second = rw c.deref-2.ensures.value at c.in_ok-right.ensures in
+    let first = rw c.deref.ensures.value at c.in_ok-left.ensures.items in
+    let second = rw c.deref-2.ensures.value at c.in_ok-right.ensures.items in
     record {
       frame = c.args.frame.items;
       port = c.args.in_port;
@@ -43,7 +43,7 @@ returns-in-Some g c = λ steps.
       within = c.requires.within;
       received_first = is_received w c.args.frame.items c.args.in_port c.requires.frame_is c.requires.short receives;
       received_second = is_received v c.args.frame.items c.args.in_port c.requires.frame_is c.requires.short receives';
-      first = rw c.deref.ensures.value at c.in_ok-left.ensures;
-      second = rw c.deref-2.ensures.value at c.in_ok-right.ensures;
+      first = rw c.deref.ensures.value at c.in_ok-left.ensures.items;
+      second = rw c.deref-2.ensures.value at c.in_ok-right.ensures.items;
       differs = rw (c.in-Some.is, c.deref-3.ensures, c.deref-4.ensures) at c.in_ok-first_difference.ensures.some;
     }

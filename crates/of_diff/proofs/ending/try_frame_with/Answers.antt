@@ -1,9 +1,9 @@
 use Rattle.of_datapath.specs.Datapath.{world_of}
 use Rattle.of_datapath.specs.Numbers.{forwarding_of}
 use Rattle.of_diff.proofs.GatheringLemmas.{shown_in_more}
-use Rattle.of_diff.proofs.ending.try_frame_from.Goals as goal
+use Rattle.of_diff.proofs.ending.try_frame_with.Goals as goal
 
 pub returns-in-Shown : goal.returns-in-Shown
 returns-in-Shown g c =
-    shown_in_more c.args.compared (world_of (forwarding_of c.args.first.now)) (world_of (forwarding_of c.args.second.now)) _ c.args.frames.now c.in_ok-from.from c.in-Shown.shown c.in_ok-from.ensures
+    shown_in_more c.args.compared (world_of (forwarding_of c.args.first.now)) (world_of (forwarding_of c.args.second.now)) _ c.args.frames.now c.in_ok-some.some c.in-Shown.shown c.in_ok-some.ensures
     (rw c.in-Shown.is at c.in_ok-shown.ensures)
