@@ -18,6 +18,7 @@ module _ (covered : (d m : List MatchField) (map : Field → Option ℕ) → cov
   pub cover_takes : (flows : List FlowEntry) (j k : ℕ) → Covers flows j k → NeverWins flows k (j ∷ [])
   cover_takes flows j k c = record {
     before = λ i h. subst (λ x. GoesBefore flows x k) (only_one i h) c.before;
+    shares = λ i h. inl (subst (λ x. Covers flows x k) (only_one i h) c);
     covered = λ p is m.
         let same : m.entry ≡ c.before.second = one_entry flows k m.entry c.before.second m.there c.before.second_there in
         (j, (0, omega arith, refl), record { entry = c.before.first; there = c.before.first_there; matches = covered c.before.first.flow.fields c.before.second.flow.fields (fields_of p) c.wider (subst (λ x. matches_map x.flow.fields (fields_of p) ≡ true) same m.matches) });

@@ -24,7 +24,7 @@ use Rattle.of_regions.specs.Witness.{IsIngressPort, fields_in}
 use Rattle.of_check.specs.declared.outline.Outline.{Outline}
 use Rattle.of_check.specs.Outlines.{outline_of, outlines_agree}
 use Rattle.of_check.proofs.OutlineLemmas.{none_overlap}
-use Rattle.of_check.specs.Verdicts.{AreRivals, GoesBefore, NeverWins, WinsWith, fields_of}
+use Rattle.of_check.specs.Verdicts.{AreRivals, GoesBefore, NeverWins, TakesRegion, WinsWith, fields_of}
 use Rattle.of_check.proofs.WinnerLemmas.{wins_alone}
 
 -- a higher priority than the second, or the same and an earlier place
@@ -169,6 +169,16 @@ module _ (flows : List FlowEntry) (k : ℕ) (own : FlowEntry) (own_there : slice
     pub taking_never : (start : List Region) → IsStart own.flow.fields start → (names : List ℕ) → AreTaking start rivals names → NeverWins flows k names
     taking_never start begins names t = record {
       before = λ j c. (let q = t.named j c in subst (λ (n : ℕ). GoesBefore flows n k) q.2 (are.each q.0 q.1).0);
+      shares = λ j c.
+          let q = t.named j c in
+          let r = are.each q.0 q.1 in
+          let second : r.0.second ≡ own = one_entry flows k r.0.second own r.0.second_there own_there in
+          inr (subst (λ (n : ℕ). TakesRegion flows n k) q.2 (record {
+            before = r.0;
+            region = q.3.region;
+            own = λ fields inside. (let m = q.3.within fields inside in rw second (begins.matched m.0 m.1 fields m.2));
+            taken = λ fields inside. (let m = q.3.whole fields inside in rw (sym r.1) m);
+          }));
       covered = λ p is m.
           let same : m.entry ≡ own = one_entry flows k m.entry own m.there own_there in
           let matches = ap (λ (y : FlowEntry). matches_map y.flow.fields (fields_of p)) (sym same) ∙ m.matches in

@@ -11,7 +11,8 @@ use Rattle.of_regions.specs.declared.region.Region.{Region}
 use Rattle.of_regions.specs.declared.rival.Rival.{Rival}
 use Rattle.of_regions.specs.Conditions.{AreConditions}
 use Rattle.of_regions.specs.Naming.{AreAscending}
-use Rattle.of_regions.specs.Searching.{IsStart, IsUndecided, IsUnreceived}
+use Rattle.of_regions.specs.Regions.{InRegion}
+use Rattle.of_regions.specs.Searching.{IsStart, IsUndecided, LeavesUnreceived}
 use Rattle.of_regions.specs.Witness.{IsIngressPort}
 use Rattle.of_table.specs.Table.{FlowEntry, winner_place}
 use Rattle.of_check.specs.declared.verdict.Verdict.{Verdict}
@@ -65,9 +66,23 @@ pub record WinsWith (flows : List FlowEntry) (k : ℕ) (p : Packet) : Type 0 whe
   pub ingress : IsIngressPort p.in_port
   pub wins : winner_place (fields_of p) flows ≡ Some k
 
--- each of these entries goes before this one, and each packet that this one matches is matched by one of them; they are named by age, each once
+-- the entry at j goes before the one at k, and its match covers that one's: each of its fields is there, with at least its mask and the same bits under it (6.4)
+pub record Covers (flows : List FlowEntry) (j k : ℕ) : Type 0 where
+  pub before : GoesBefore flows j k
+  pub wider : covers_match before.first.flow.fields before.second.flow.fields ≡ true
+
+-- the entry at j goes before the one at k, and both match all packets of a region (each region has a packet)
+pub record TakesRegion (flows : List FlowEntry) (j k : ℕ) : Type 0 where
+  pub before : GoesBefore flows j k
+  pub region : Region
+  pub own : (fields : Field → Option ℕ) → InRegion region fields → matches_map before.second.flow.fields fields ≡ true
+  pub taken : (fields : Field → Option ℕ) → InRegion region fields → matches_map before.first.flow.fields fields ≡ true
+
+-- each of these entries goes before this one, and covers it or matches all packets of a region that this one matches; and each packet that this one matches is
+-- matched by one of them; they are named by age, each once
 pub record NeverWins (flows : List FlowEntry) (k : ℕ) (by : List ℕ) : Type 0 where
   pub before : (j : ℕ) → Contains by j → GoesBefore flows j k
+  pub shares : (j : ℕ) → Contains by j → Covers flows j k ⊎ TakesRegion flows j k
   pub covered : (p : Packet) → IsPacket p → Matches flows k p → SomeMatches flows by p
   pub by_age : AreAscending by
 
@@ -79,11 +94,6 @@ are_level a b = false
 -- one of these entries has the priority of the one at k: which of two such entries wins is undefined (5.3)
 abbrev pub is_tie : List FlowEntry → ℕ → List ℕ → Bool
 is_tie flows k places = list_any (λ j. are_level (slice_get flows j) (slice_get flows k)) places
-
--- the entry at j goes before the one at k, and its match covers that one's: each of its fields is there, with at least its mask and the same bits under it (6.4)
-pub record Covers (flows : List FlowEntry) (j k : ℕ) : Type 0 where
-  pub before : GoesBefore flows j k
-  pub wider : covers_match before.first.flow.fields before.second.flow.fields ≡ true
 
 -- the match of the entry, if there is one, covers the other match
 abbrev pub is_covering : Option FlowEntry → List MatchField → Bool
@@ -106,7 +116,7 @@ pub record IsOpen (flows : List FlowEntry) (k steps : ℕ) : Type 0 where
   pub are : AreRivals flows k own rivals
   pub start : List Region
   pub begins : IsStart own.flow.fields start
-  pub undecided : ((r : Region) × IsUnreceived start rivals r) ⊎ IsUndecided start rivals steps
+  pub undecided : ((r : Region) × LeavesUnreceived start rivals r) ⊎ IsUndecided start rivals steps
 
 -- a verdict on the entry at k after so many steps at most; `Open` says that no one entry covers it, and that there is no such entry, or why it is not decided
 abbrev pub VerdictHolds : List FlowEntry → ℕ → ℕ → Verdict → Type 0

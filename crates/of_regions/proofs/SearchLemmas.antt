@@ -22,7 +22,9 @@ use Rattle.of_regions.specs.Regions.{AreParts, InRegion}
 use Rattle.of_regions.specs.Witness.{HasNoIngress}
 use Rattle.of_regions.specs.declared.searching.Found.{Found}
 use Rattle.of_regions.specs.declared.searching.Found.TheVariants.{Undecided}
-use Rattle.of_regions.specs.Searching.{AreApartBefore, AreSteps, AreTaking, IsFoundBySearch, InRests, InSome, IsRivalled, IsSplit, IsState, IsStep, IsTakenByRival, IsUnreceived, IsUnrivalled, regions_in}
+use Rattle.of_regions.specs.declared.witness.Packet.{Packet}
+use Rattle.of_regions.specs.Witness.{fields_in}
+use Rattle.of_regions.specs.Searching.{IsOfNoPort, NoneReceived, TakesSome, AreApartBefore, AreSteps, AreTaking, IsFoundBySearch, InRests, InSome, IsRivalled, IsSplit, IsState, IsStep, IsTakenByRival, IsUnreceived, IsUnrivalled, regions_in}
 use Rattle.of_regions.proofs.NamingLemmas.{is_named, still_ascending}
 
 none_of : {X : Type 0} (x : X) → Contains [] x → ⊥
@@ -55,6 +57,7 @@ module _ (start : List Region) (rivals : List Rival) where
     passed = λ x c i q lt at. (let from = fresh start x c in absurd (omega (arith, lt, from.2)));
     within = λ x c fields h. (let from = fresh start x c in (from.0, from.1.0, subst (λ (r : Region). InRegion r fields) from.1.1 h));
     covered = λ none shape t fields a b m. inl (rest_of start m.0 m.1 fields m.2);
+    received = λ shape t fields a b m. inl (inl (rest_of start m.0 m.1 fields m.2));
     named = λ j c. absurd (none_of j c);
     ascending = tt;
     kept = tt;
@@ -91,6 +94,20 @@ module _ (start : List Region) (rivals : List Rival) where
     ascending = s.ascending;
   }
 
+  -- nothing is left that a switch receives
+  pub none_received : (names : List ℕ) (rests : List Rest) (unreceived : Option Region) → rests ≡ [] → IsState start rivals rests names unreceived → NoneReceived start rivals
+  none_received names rests unreceived e s p received m free =
+      let is = received.frame_is in
+      let fields = fields_in p in
+      elim (s.received (shape_of (layers_of p.frame.items).body) (tagging_of (layers_of p.frame.items).tags) fields (shaped p.frame.items p.in_port p.metadata is.1 is.0) (tags_seen p.frame.items p.in_port p.metadata is.1 is.0) m)
+      as (λ w. ⊥) [
+        | inl known ↦ elim known as (λ w. ⊥) [
+          | inl left ↦ none_of left.0 (subst (λ xs. Contains xs left.0) e left.1)
+          | inr rivalled ↦ (let yes = rivalled.3 in let no = free rivalled.0 rivalled.1 in absurd cc)
+        ]
+        | inr odd ↦ odd received.ingress
+      ]
+
   module _ (rests : List Rest) (x : Rest) (names : List ℕ) (unreceived : Option Region) (s : IsState start rivals (rests ++ x ∷ []) names unreceived) where
     others_in : (y : Rest) → Contains rests y → Contains (rests ++ x ∷ []) y
     others_in y c = Contains-append_left rests (x ∷ []) y c
@@ -112,6 +129,20 @@ module _ (start : List Region) (rivals : List Rival) where
       | inr taken ↦ inr taken
     ]
 
+    -- the same, of what a switch may receive
+    receives : (P : (Field → Option ℕ) → Type 0) → ((fields : Field → Option ℕ) (s : Shape) (t : Tagging) → HasShape s fields → IsTagging t fields → InRegion x.region fields → P fields)
+        → (s : Shape) (t : Tagging) (fields : Field → Option ℕ) → HasShape s fields → IsTagging t fields → InSome start fields → ((InRests rests fields ⊎ P fields) ⊎ IsRivalled rivals names fields) ⊎ IsOfNoPort fields
+    receives P f shape t fields a b m = elim (s.received shape t fields a b m) as (λ w. ((InRests rests fields ⊎ P fields) ⊎ IsRivalled rivals names fields) ⊎ IsOfNoPort fields) [
+      | inl known ↦ inl (elim known as (λ w. (InRests rests fields ⊎ P fields) ⊎ IsRivalled rivals names fields) [
+        | inl left ↦ inl (elim (Contains-push_cases rests x left.0 left.1) as (λ w. InRests rests fields ⊎ P fields) [
+          | inl old ↦ inl (left.0, old, left.2)
+          | inr same ↦ inr (f fields shape t a b (subst (λ (y : Rest). InRegion y.region fields) (sym same) left.2))
+        ])
+        | inr taken ↦ inr taken
+      ])
+      | inr odd ↦ inr odd
+    ]
+
     -- a rival takes the last region
     pub taken_state : (i : ℕ) (t : IsTakenByRival rivals x.region i) → IsState start rivals rests (with_place t.rival.name names) unreceived
     taken_state i t =
@@ -127,9 +158,19 @@ module _ (start : List Region) (rivals : List Rival) where
             ]
             | inr other ↦ inr (other.0, other.1, n.kept other.0.name other.2, other.3)
           ];
-          named = λ j c. elim (n.only j c) as (λ w. (q : Rival) × Contains rivals q × (q.name ≡ j)) [
+          received = λ shape tag fields a b m. elim (receives (λ fields. matches_map t.rival.fields.now fields ≡ true) (λ fields s u h g i. t.whole fields i) shape tag fields a b m) as (λ w. (InRests rests fields ⊎ IsRivalled rivals (with_place t.rival.name names) fields) ⊎ IsOfNoPort fields) [
+            | inl known ↦ inl (elim known as (λ w. InRests rests fields ⊎ IsRivalled rivals (with_place t.rival.name names) fields) [
+              | inl left ↦ elim left as (λ w. InRests rests fields ⊎ IsRivalled rivals (with_place t.rival.name names) fields) [
+                | inl old ↦ inl old
+                | inr whole ↦ inr (t.rival, there, n.there, whole)
+              ]
+              | inr other ↦ inr (other.0, other.1, n.kept other.0.name other.2, other.3)
+            ])
+            | inr odd ↦ inr odd
+          ];
+          named = λ j c. elim (n.only j c) as (λ w. (q : Rival) × Contains rivals q × (q.name ≡ j) × TakesSome start q) [
             | inl old ↦ s.named j old
-            | inr same ↦ (t.rival, there, same)
+            | inr same ↦ (t.rival, there, same, record { region = x.region; within = last_within; whole = t.whole })
           ];
           ascending = still_ascending t.rival.name names s.ascending;
           kept = s.kept;
@@ -175,6 +216,19 @@ module _ (start : List Region) (rivals : List Rival) where
           ])
           | inr other ↦ inr other
         ];
+        received = λ shape tag fields g h m. elim (receives (λ fields. InRegion a.region fields ⊎ InRegion b.region fields) (λ fields s u g h i. p.all fields (u, h) i) shape tag fields g h m) as (λ w. (InRests (rests ++ a ∷ b ∷ []) fields ⊎ IsRivalled rivals names fields) ⊎ IsOfNoPort fields) [
+          | inl known ↦ inl (elim known as (λ w. InRests (rests ++ a ∷ b ∷ []) fields ⊎ IsRivalled rivals names fields) [
+            | inl left ↦ inl (elim left as (λ w. InRests (rests ++ a ∷ b ∷ []) fields) [
+              | inl old ↦ (old.0, Contains-append_left rests (a ∷ b ∷ []) old.0 old.1, old.2)
+              | inr part ↦ elim part as (λ w. InRests (rests ++ a ∷ b ∷ []) fields) [
+                | inl first ↦ (a, Contains-append_right rests (a ∷ b ∷ []) a (0, omega arith, refl), first)
+                | inr second ↦ (b, Contains-append_right rests (a ∷ b ∷ []) b (1, omega arith, refl), second)
+              ]
+            ])
+            | inr other ↦ inr other
+          ])
+          | inr odd ↦ inr odd
+        ];
         named = s.named;
         ascending = s.ascending;
         kept = s.kept;
@@ -193,6 +247,16 @@ module _ (start : List Region) (rivals : List Rival) where
         passed = λ y c. s.passed y (others_in y c);
         within = λ y c. s.within y (others_in y c);
         covered = λ n. absurd cc;
+        received = λ shape tag fields a b m. elim (receives (λ fields. IsOfNoPort fields) (λ fields s u g h i. none fields i) shape tag fields a b m) as (λ w. (InRests rests fields ⊎ IsRivalled rivals names fields) ⊎ IsOfNoPort fields) [
+          | inl known ↦ elim known as (λ w. (InRests rests fields ⊎ IsRivalled rivals names fields) ⊎ IsOfNoPort fields) [
+            | inl left ↦ elim left as (λ w. (InRests rests fields ⊎ IsRivalled rivals names fields) ⊎ IsOfNoPort fields) [
+              | inl old ↦ inl (inl old)
+              | inr odd ↦ inr odd
+            ]
+            | inr other ↦ inl (inr other)
+          ]
+          | inr odd ↦ inr odd
+        ];
         named = s.named;
         ascending = s.ascending;
         kept = unreceived_is;

@@ -2,6 +2,7 @@
 use Rattle.std.specs.Prelude.{◌≡◌, ◌<◌, ◌≤◌, ◌⊎◌, ◌++◌, ℕ, zero, suc, true, false, List, [], ◌∷◌, length, Option, Some, None, IfSome, map, slice_get}
 use Rattle.std.specs.List.{Contains}
 use Rattle.of_layers.specs.declared.field.Field.{Field}
+use Rattle.of_layers.specs.declared.field.Field.TheVariants.{InPort}
 use Rattle.of_layers.specs.Reading.{layers_of}
 use Rattle.of_headers.specs.FieldMap.{field_map}
 use Rattle.of_oxm.specs.declared.match_field.MatchField.{MatchField}
@@ -23,7 +24,7 @@ use Rattle.of_regions.specs.Conditions.{IsCondition}
 use Rattle.of_regions.specs.Meeting.{Meets}
 use Rattle.of_regions.specs.Naming.{AreAscending}
 use Rattle.of_regions.specs.Regions.{AreParts, InRegion}
-use Rattle.of_regions.specs.Witness.{HasNoIngress, IsReceived, fields_in}
+use Rattle.of_regions.specs.Witness.{HasNoIngress, IsIngressPort, IsReceived, fields_in}
 
 -- no rival matches it
 abbrev pub IsUnrivalled : List Rival → (Field → Option ℕ) → Type 0
@@ -44,9 +45,15 @@ pub record IsFreePacket (start : List Region) (rivals : List Rival) (p : Packet)
   pub within : InSome start (fields_in p)
   pub unrivalled : IsUnrivalled rivals (fields_in p)
 
--- each packet of the regions is matched by one of the rivals of these names
+-- the rival matches all packets of a region of them
+pub record TakesSome (start : List Region) (q : Rival) : Type 0 where
+  pub region : Region
+  pub within : (fields : Field → Option ℕ) → InRegion region fields → InSome start fields
+  pub whole : Meets region q.fields.now Whole
+
+-- each packet of the regions is matched by one of the rivals of these names, each of which matches all packets of a region of them
 pub record AreTaking (start : List Region) (rivals : List Rival) (names : List ℕ) : Type 0 where
-  pub named : (j : ℕ) → Contains names j → (q : Rival) × Contains rivals q × (q.name ≡ j)
+  pub named : (j : ℕ) → Contains names j → (q : Rival) × Contains rivals q × (q.name ≡ j) × TakesSome start q
   pub covered : (frame : List ℕ) (port metadata : ℕ) → IsFrame frame → InSome start (field_map (layers_of frame) port metadata) → IsRivalled rivals names (field_map (layers_of frame) port metadata)
   pub ascending : AreAscending names
 
@@ -55,6 +62,15 @@ pub record IsUnreceived (start : List Region) (rivals : List Rival) (r : Region)
   pub within : (fields : Field → Option ℕ) → InRegion r fields → InSome start fields
   pub unrivalled : (fields : Field → Option ℕ) → InRegion r fields → IsUnrivalled rivals fields
   pub ports : HasNoIngress r
+
+-- no packet that a switch may receive is left by the rivals
+abbrev pub NoneReceived : List Region → List Rival → Type 0
+NoneReceived start rivals = (p : Packet) → IsReceived p → InSome start (fields_in p) → IsUnrivalled rivals (fields_in p) → ⊥
+
+-- a region of packets that no switch receives is left, and no other packet is
+pub record LeavesUnreceived (start : List Region) (rivals : List Rival) (r : Region) : Type 0 where
+  pub is : IsUnreceived start rivals r
+  pub none : NoneReceived start rivals
 
 -- ---- steps
 
@@ -79,7 +95,7 @@ pub record IsUndecided (start : List Region) (rivals : List Rival) (steps : ℕ)
 abbrev pub IsFoundBySearch : List Region → List Rival → ℕ → Found → Type 0
 IsFoundBySearch start rivals steps (found.Free p) = IsFreePacket start rivals p
 IsFoundBySearch start rivals steps (found.Taken names) = AreTaking start rivals names.items
-IsFoundBySearch start rivals steps (found.Unreceived r) = IsUnreceived start rivals r
+IsFoundBySearch start rivals steps (found.Unreceived r) = LeavesUnreceived start rivals r
 IsFoundBySearch start rivals steps found.Undecided = IsUndecided start rivals steps
 
 -- ---- the regions of a match
@@ -126,11 +142,16 @@ InRests rests fields = (x : Rest) × Contains rests x × InRegion x.region field
 abbrev pub regions_in : List Rest → List Region
 regions_in rests = map (λ x. x.region) rests
 
+-- it came in by a port that no switch has
+abbrev pub IsOfNoPort : (Field → Option ℕ) → Type 0
+IsOfNoPort fields = IfSome (fields InPort) (λ port. ¬ (IsIngressPort port))
+
 -- the state of a search
 pub record IsState (start : List Region) (rivals : List Rival) (rests : List Rest) (names : List ℕ) (unreceived : Option Region) : Type 0 where
   pub passed : (x : Rest) → Contains rests x → AreApartBefore rivals x.region x.from
   pub within : (x : Rest) → Contains rests x → (fields : Field → Option ℕ) → InRegion x.region fields → InSome start fields
   pub covered : unreceived ≡ None → (s : Shape) (t : Tagging) (fields : Field → Option ℕ) → HasShape s fields → IsTagging t fields → InSome start fields → InRests rests fields ⊎ IsRivalled rivals names fields
-  pub named : (j : ℕ) → Contains names j → (q : Rival) × Contains rivals q × (q.name ≡ j)
+  pub received : (s : Shape) (t : Tagging) (fields : Field → Option ℕ) → HasShape s fields → IsTagging t fields → InSome start fields → (InRests rests fields ⊎ IsRivalled rivals names fields) ⊎ IsOfNoPort fields
+  pub named : (j : ℕ) → Contains names j → (q : Rival) × Contains rivals q × (q.name ≡ j) × TakesSome start q
   pub ascending : AreAscending names
   pub kept : IfSome unreceived (IsUnreceived start rivals)

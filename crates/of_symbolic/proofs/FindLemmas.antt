@@ -49,6 +49,9 @@ module _ (part : Part) (rivals : List Rival) (are : HaveConditions part.lacks.it
   unrivalled_none : (fields : Field → Option ℕ) → IsUnrivalled rivals fields → NoneOfMatches part.lacks.items fields
   unrivalled_none fields h m c = let q = list_rival part.lacks.items rivals are m c in ap (λ (x : List MatchField). matches_map x fields) q.2 ∙ h q.0 q.1
 
+  none_unrivalled : (fields : Field → Option ℕ) → NoneOfMatches part.lacks.items fields → IsUnrivalled rivals fields
+  none_unrivalled fields h q c = let m = rival_list part.lacks.items rivals are q c in ap (λ (x : List MatchField). matches_map x fields) m.2 ∙ h m.0 m.1
+
   pub finds : (steps : ℕ) (f : Found) → IsFoundBySearch part.regions.items rivals steps f → FindsInPart part steps f
   finds steps (found.Free p) h = (h.received, (h.within, unrivalled_none (fields_in p) h.unrivalled))
   finds steps (found.Taken names) h = λ frame port metadata is i.
@@ -57,5 +60,9 @@ module _ (part : Part) (rivals : List Rival) (are : HaveConditions part.lacks.it
       let no = i.1 m.0 m.1 in
       let yes : matches_map m.0.items (field_map (layers_of frame) port metadata) ≡ true = ap (λ (x : List MatchField). matches_map x (field_map (layers_of frame) port metadata)) (sym m.2) ∙ taken.3 in
       absurd (let g : true ≡ false = sym yes ∙ no in cc)
-  finds steps (found.Unreceived r) h = record { within = λ fields i. (h.within fields i, unrivalled_none fields (h.unrivalled fields i)); ports = h.ports }
+  finds steps (found.Unreceived r) h = record {
+    within = λ fields i. (h.is.within fields i, unrivalled_none fields (h.is.unrivalled fields i));
+    ports = h.is.ports;
+    none = λ p received i. h.none p received i.0 (none_unrivalled (fields_in p) i.1);
+  }
   finds steps found.Undecided h = (rivals, are, h)

@@ -12,6 +12,7 @@ use Rattle.of_regions.specs.declared.region.Region.{Region}
 use Rattle.of_regions.specs.declared.rival.Rival.{Rival}
 use Rattle.of_regions.specs.declared.searching.Found.{Found}
 use Rattle.of_regions.specs.declared.searching.Found.TheVariants as found
+use Rattle.of_regions.specs.declared.witness.Packet.{Packet}
 use Rattle.of_regions.specs.Conditions.{AreConditions}
 use Rattle.of_regions.specs.Regions.{InRegion, IsSomeTagging}
 use Rattle.of_regions.specs.Searching.{InSome, IsUndecided}
@@ -44,10 +45,11 @@ pub record IsWholePart (part : Part) : Type 0 where
 
 -- ---- what a search in it finds
 
--- a region of it of which no packet comes in by a port that a switch may have
+-- a region of it of which no packet comes in by a port that a switch may have, and it has no other packet
 pub record IsUnreceivedPart (part : Part) (r : Region) : Type 0 where
   pub within : (fields : Field → Option ℕ) → InRegion r fields → InPart part fields
   pub ports : HasNoIngress r
+  pub none : (p : Packet) → IsReceived p → InPart part (fields_in p) → ⊥
 
 -- it has no packet
 abbrev pub IsEmptyPart : Part → Type 0
