@@ -12,6 +12,7 @@ fn is_same_port(a: &Port, b: &Port) -> bool
         && a.may_send() == b.may_send()
         && a.may_receive() == b.may_receive()
         && a.is_live() == b.is_live()
+        && a.config.no_packet_in == b.config.no_packet_in
 }
 
 /// Whether the ports have the same numbers in the same order, and each does the same with packets (OpenFlow 1.3.5, 7.2.1).

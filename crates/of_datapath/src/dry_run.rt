@@ -8,6 +8,7 @@ ghost use Rattle.of_table.specs.Sound.{AreRowsOf};
 ghost use Rattle.of_datapath.specs.Numbers.{Contents, contents_of, forwarding_of};
 ghost use Rattle.of_datapath.specs.Datapath.{framed, winner_in, world_of};
 ghost use Rattle.of_datapath.specs.DryRun.{GainsPrefix, received_steps, steps_in};
+ghost use Rattle.of_machine.specs.Growth.{AllShort};
 ghost use Rattle.of_machine.specs.Sound.{IsSound};
 ghost use Rattle.of_machine.specs.Rows.{Lookup as LookUp, entering};
 ghost use Rattle.of_machine.specs.Weights.{frame_step_bound};
@@ -192,6 +193,7 @@ impl<L: Lookup> Datapath<L> {
         requires long { 14 ≤ length bytes.now }
         requires most { length bytes.now ≤ 9216 }
         ensures items { IfOk result (λ items. items.items ≡ (run_of (world_of (forwarding_of self.now)) (entering bytes.now number) (LookUp 0 ∷ [])).items) }
+        ensures short { IfOk result (λ items. AllShort 65485 items.items) }
         ensures steps { OnOk result (S.KEEPS ≡ true → S.list log.new ≡ S.list log.old ++ received_steps number bytes.now (forwarding_of self.now)) }
         ensures bound { S.KEEPS ≡ true → length (S.list log.new) ≤ length (S.list log.old) + frame_step_bound }
         ensures err { OnErr result (S.KEEPS ≡ true → GainsPrefix (received_steps number bytes.now (forwarding_of self.now)) (S.list log.old) (S.list log.new)) }

@@ -8,3 +8,4 @@ pub mod AgreementLemmas
 pub mod CutLemmas
 pub mod ChangingLemmas
 pub mod ReasonLemmas
+pub mod ToldLemmas

@@ -9,6 +9,7 @@ mod differing;
 mod ending;
 mod gathering;
 mod joining;
+mod laws;
 mod pair;
 mod revealing;
 mod stepping;
@@ -16,3 +17,4 @@ mod turns;
 
 pub use difference::{Difference, Differences, EmittedByBoth, Undecided, Why};
 pub use differing::differences;
+pub use laws::controllers_are_told_alike;

@@ -217,6 +217,13 @@ impl<L: Lookup> Switch<L> {
         self.core.datapath()
     }
 
+    /// How many bytes of its frame a PACKET_IN has that no OUTPUT made (OpenFlow 1.3.5, 7.3.2).
+    pub fn miss_send_len(&self) -> u16
+        ensures { result ≡ self.now.core.control.config.miss_send_len }
+    {
+        self.core.control().config.miss_send_len
+    }
+
     /// Receives a frame at a port.
     pub fn frame(&mut self, port: u32, frame: &[u8]) -> Result<Effects, SwitchError>
         ensures { Call None (λ effects new. frame_in port frame.now self.old ≡ gives effects.items new) self.old result self.new }
