@@ -1,5 +1,5 @@
 -- WHAT WORDS SAY OF A MATCH, one after the other: settings of fields (ovs-fields(7)).
-use Rattle.std.specs.Prelude.{ℕ, ◌==◌, bit_or, Bool, true, false, List, [], ◌∷◌, ◌++◌, length, filter_map, Option, Some, None, Result, Ok, Err, if◌then◌else◌}
+use Rattle.std.specs.Prelude.{ℕ, ◌==◌, bit_or, Bool, true, false, not, List, [], ◌∷◌, ◌++◌, length, filter, filter_map, Option, Some, None, Result, Ok, Err, if◌then◌else◌}
 use Rattle.std.specs.Option.{unwrap_or}
 use Rattle.of_layers.specs.declared.field.Field.{Field}
 use Rattle.of_layers.specs.Fields.{number_of}
@@ -31,11 +31,20 @@ tagged_setting (Some e) = setting_under fields.VlanVid (bit_or e.value 4096) (bi
 abbrev pub tag_with : Field → List MatchField → List MatchField
 tag_with f settings = if number_of f == number_of fields.VlanPcp then one (tagged_setting (last_of fields.VlanVid settings)) else []
 
+-- those of other fields
+abbrev pub without_field : Field → List MatchField → List MatchField
+without_field f settings = filter (λ e. not (number_of e.field == number_of f)) settings
+
+-- a mask of 0 says nothing of the field, whatever was said of it before
+abbrev pub with_setting : List MatchField → Field → Option MatchField → List MatchField
+with_setting settings f None = without_field f settings
+with_setting settings f (Some e) = settings ++ tag_with f settings ++ e ∷ []
+
 abbrev pub with_field_setting : List MatchField → FieldWord → List ℕ → Result (List MatchField) Why
 with_field_setting settings word value = do
   f ← value_or_why whys.Protocol (field_for word.target settings)
   e ← setting_in word.form f value
-  Ok (settings ++ tag_with f settings ++ one e)
+  Ok (with_setting settings f e)
 
 abbrev pub with_tci : List MatchField → List ℕ → Result (List MatchField) Why
 with_tci settings value = tci_settings value >>= λ es. Ok (settings ++ one es.0 ++ one es.1)

@@ -1,5 +1,5 @@
 -- NUMBERS IN WORDS: decimal, or hexadecimal after 0x.
-use Rattle.std.specs.Prelude.{ℕ, ◌+◌, ◌-◌, ◌*◌, ◌==◌, ◌&&◌, not, nat_le, List, [], ◌∷◌, length, codes, Option, Some, None, if◌then◌else◌}
+use Rattle.std.specs.Prelude.{ℕ, ◌+◌, ◌-◌, ◌*◌, ◌==◌, ◌&&◌, Bool, not, nat_le, nat_lt, List, [], ◌∷◌, length, slice_index, codes, Option, Some, None, if◌then◌else◌}
 use Rattle.std.specs.Str.{bytes_eq}
 use Rattle.of_lines.specs.Lines.{before, behind}
 use Rattle.of_lines.specs.Reading.{below, ◌>>=◌}
@@ -29,8 +29,15 @@ abbrev pub some_digits : ℕ → ℕ → List ℕ → Option ℕ
 some_digits base limit [] = None
 some_digits base limit (b ∷ bs) = digits_in base limit 0 (b ∷ bs) >>= below limit
 
+-- digits behind a zero: ovs-ofctl reads most of them as octal, and some as decimal, so they are refused
+abbrev pub is_octal : List ℕ → Bool
+is_octal word = slice_index word 0 == 48 && nat_lt 1 (length word)
+
+abbrev pub decimal_in : ℕ → List ℕ → Option ℕ
+decimal_in limit word = if is_octal word then None else some_digits 10 limit word
+
 abbrev pub number_in : ℕ → List ℕ → Option ℕ
 number_in limit word =
     if bytes_eq (before 120 word) (codes "0") && not (length (behind 120 word) == 0)
     then some_digits 16 limit (behind 120 word)
-    else some_digits 10 limit word
+    else decimal_in limit word

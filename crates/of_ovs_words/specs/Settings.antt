@@ -1,5 +1,5 @@
 -- WHAT WORDS SAY OF A MATCH (ovs-fields(7)): settings of fields, in the order of the words.
-use Rattle.std.specs.Prelude.{ℕ, ◌+◌, ◌/◌, ◌==◌, nat_le, nat_lt, min, not, codes, Bool, false, List, length, reverse, find, bit_and, Option, Some, None, Result, Ok, Err, if◌then◌else◌}
+use Rattle.std.specs.Prelude.{ℕ, ◌+◌, ◌/◌, ◌%◌, ◌==◌, nat_le, nat_lt, min, not, codes, Bool, false, List, length, reverse, find, bit_and, Option, Some, None, Result, Ok, Err, if◌then◌else◌}
 use Rattle.std.specs.Option.{option_map_or, option_map}
 use Rattle.of_layers.specs.declared.field.Field.{Field}
 use Rattle.of_layers.specs.declared.field.Field.TheVariants as fields
@@ -61,13 +61,18 @@ vlan_of (Some n) = if nat_lt n 4096 then Some (4096 + n) else if n == 65535 then
 abbrev pub vlan_in : List ℕ → Option ℕ
 vlan_in word = vlan_of (number_in 65536 word)
 
+-- the TOS of IPv4 without ECN, whose two bits are 0 (RFC 2474, 3)
+abbrev pub dscp_of : Option ℕ → Option ℕ
+dscp_of None = None
+dscp_of (Some n) = if n % 4 == 0 then Some (n / 4) else None
+
 unfoldable pub value_in : Form → Field → List ℕ → Result ℕ Why
 value_in Number f word = value_or_why whys.Value (number_for f word)
 value_in Port f word = port_in whys.PortName word
 value_in Mac f word = value_or_why whys.Value (mac_in word)
 value_in Ipv4 f word = value_or_why whys.Value (ipv4_in word)
 value_in Ipv6 f word = value_or_why whys.Value (ipv6_in word)
-value_in Tos f word = value_or_why whys.Value (option_map (λ n. n / 4) (number_in 256 word))
+value_in Tos f word = value_or_why whys.Value (dscp_of (number_in 256 word))
 value_in Vlan f word = value_or_why whys.Value (vlan_in word)
 value_in Tci f word = Err whys.Value
 

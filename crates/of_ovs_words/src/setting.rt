@@ -121,8 +121,8 @@ fn value_in(form: Form, field: Field, word: &[u8]) -> Result<u128, Why>
         Form::Mac => mac_in(word).ok_or(Why::Value),
         Form::Ipv4 => ipv4_in(word).ok_or(Why::Value),
         Form::Tos => match number_in(0x100, word) {
-            Some(byte) => Ok(byte / 4),
-            None => Err(Why::Value),
+            Some(byte) if byte % 4 == 0 => Ok(byte / 4),
+            _ => Err(Why::Value),
         },
         Form::Ipv6 => ipv6_in(word).ok_or(Why::Value),
         Form::Vlan => vlan_in(word).ok_or(Why::Value),

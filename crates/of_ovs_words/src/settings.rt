@@ -1,7 +1,8 @@
 //! The meaning of words for a match, one after the other.
-ghost use Rattle.std.specs.Prelude.{◌≡◌, ◌≤◌, ◌<◌, ◌++◌, ◌∷◌, [], IfOk, IfErr, OnOk, Ok, filter_map};
+ghost use Rattle.std.specs.Prelude.{◌≡◌, ◌==◌, ◌≤◌, ◌<◌, ◌++◌, ◌∷◌, [], not, IfOk, IfErr, OnOk, Ok, filter_map};
+ghost use Rattle.of_layers.specs.Fields.{number_of};
 ghost use Rattle.of_ovs_words.specs.Settings.{exact, last_of};
-ghost use Rattle.of_ovs_words.specs.Matches.{fields_of_settings as fields_in, tag_with, tagged_setting as tagged_by, with_match_field, with_protocol, with_field_setting, with_tci};
+ghost use Rattle.of_ovs_words.specs.Matches.{fields_of_settings as fields_in, tag_with, tagged_setting as tagged_by, with_match_field, with_protocol, with_field_setting, with_tci, without_field};
 ghost use Rattle.of_ovs_words.specs.Stops.{IfRefused, Stops};
 
 use crate::field_word::{FieldWord, Form};
@@ -71,15 +72,49 @@ fn tagged(vid: Option<MatchField>) -> Option<MatchField>
     }
 }
 
+// Whether a setting is of another field.
+fn is_of_other(e: &MatchField, field: Field) -> bool
+    ensures { result ≡ not (number_of e.now.field == number_of field) }
+{
+    e.field.number() != field.number()
+}
+
+// The settings of other fields.
+fn others(
+    alloc: Global,
+    settings: &[MatchField],
+    field: Field,
+) -> Result<Vec<MatchField>, AllocError>
+    ensures { IfOk result (λ others. others.items ≡ without_field field settings.now) }
+{
+    settings
+        .iter()
+        .copied()
+        .filter(|e| is_of_other(e, field))
+        .collect(alloc)
+}
+
+// Nothing is said of a field any more.
+fn forget(settings: &mut Vec<MatchField>, field: Field) -> Result<(), AllocError>
+    ensures ok { OnOk result (settings.new.items ≡ without_field field settings.old.items) }
+{
+    *settings = others(*settings.allocator(), settings, field)?;
+    Ok(())
+}
+
 fn set_one(settings: &mut Vec<MatchField>, word: FieldWord, value: &[u8]) -> Result<(), Stop>
     ensures added { IfOk result (λ _. with_field_setting settings.old.items word value.now ≡ Ok settings.new.items) }
     ensures stopped { IfErr result (Stops (with_field_setting settings.old.items word value.now)) }
     ensures same { IfErr result (IfRefused (settings.new.items ≡ settings.old.items)) }
 {
     let field = field_for(word.target, settings).ok_or(Why::Protocol)?;
-    let setting = setting_in(word.form, field, value)?;
-    push_tag(settings, field)?;
-    push_one(settings, setting)?;
+    match setting_in(word.form, field, value)? {
+        None => forget(settings, field)?,
+        Some(setting) => {
+            push_tag(settings, field)?;
+            settings.push(setting)?;
+        }
+    }
     Ok(())
 }
 

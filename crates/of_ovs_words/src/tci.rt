@@ -19,11 +19,15 @@ fn tci_mask(word: &[u8]) -> Result<u128, Why>
     }
 }
 
-// All of the priority or nothing; nothing where there is no tag.
+// All of the priority of a tag that is asked for, or nothing; nothing where there is no tag.
 fn pcp_setting(value: u128, mask: u128) -> Result<Option<MatchField>, Why>
     ensures { result ≡ pcp_of value mask }
 {
-    if value & mask & 0x1000 == 0 || mask & 0xe000 == 0 {
+    if mask & 0xe000 == 0 {
+        Ok(None)
+    } else if mask & 0x1000 == 0 {
+        Err(Why::Value)
+    } else if value & 0x1000 == 0 {
         Ok(None)
     } else if mask & 0xe000 == 0xe000 {
         Ok(Some(MatchField {
