@@ -1,5 +1,5 @@
 -- WHAT WORDS SAY OF A MATCH, one after the other: settings of fields (ovs-fields(7)).
-use Rattle.std.specs.Prelude.{ℕ, ◌==◌, bit_or, Bool, true, false, not, List, [], ◌∷◌, ◌++◌, length, filter, filter_map, Option, Some, None, Result, Ok, Err, if◌then◌else◌}
+use Rattle.std.specs.Prelude.{ℕ, ◌==◌, bit_or, ◌&&◌, Bool, true, false, not, is_some, List, [], ◌∷◌, ◌++◌, length, filter, filter_map, Option, Some, None, Result, Ok, Err, if◌then◌else◌}
 use Rattle.std.specs.Option.{unwrap_or}
 use Rattle.of_layers.specs.declared.field.Field.{Field}
 use Rattle.of_layers.specs.Fields.{number_of}
@@ -35,16 +35,20 @@ tag_with f settings = if number_of f == number_of fields.VlanPcp then one (tagge
 abbrev pub without_field : Field → List MatchField → List MatchField
 without_field f settings = filter (λ e. not (number_of e.field == number_of f)) settings
 
--- a mask of 0 says nothing of the field, whatever was said of it before
-abbrev pub with_setting : List MatchField → Field → Option MatchField → List MatchField
-with_setting settings f None = without_field f settings
-with_setting settings f (Some e) = settings ++ tag_with f settings ++ e ∷ []
+-- what was said of VLAN_PCP says that there is a tag, too, so it cannot be taken back alone
+abbrev pub takes_tag_back : Field → List MatchField → Bool
+takes_tag_back f settings = number_of f == number_of fields.VlanPcp && is_some (last_of fields.VlanPcp settings)
+
+-- a mask of 0 takes back what was said of the field before
+abbrev pub with_setting : List MatchField → Field → Option MatchField → Result (List MatchField) Why
+with_setting settings f None = if takes_tag_back f settings then Err whys.Value else Ok (without_field f settings)
+with_setting settings f (Some e) = Ok (settings ++ tag_with f settings ++ e ∷ [])
 
 abbrev pub with_field_setting : List MatchField → FieldWord → List ℕ → Result (List MatchField) Why
 with_field_setting settings word value = do
   f ← value_or_why whys.Protocol (field_for word.target settings)
   e ← setting_in word.form f value
-  Ok (with_setting settings f e)
+  with_setting settings f e
 
 abbrev pub with_tci : List MatchField → List ℕ → Result (List MatchField) Why
 with_tci settings value = tci_settings value >>= λ es. Ok (settings ++ one es.0 ++ one es.1)

@@ -2,7 +2,7 @@
 ghost use Rattle.std.specs.Prelude.{◌≡◌, ◌==◌, ◌≤◌, ◌<◌, ◌++◌, ◌∷◌, [], not, IfOk, IfErr, OnOk, Ok, filter_map};
 ghost use Rattle.of_layers.specs.Fields.{number_of};
 ghost use Rattle.of_ovs_words.specs.Settings.{exact, last_of};
-ghost use Rattle.of_ovs_words.specs.Matches.{fields_of_settings as fields_in, tag_with, tagged_setting as tagged_by, with_match_field, with_protocol, with_field_setting, with_tci, without_field};
+ghost use Rattle.of_ovs_words.specs.Matches.{fields_of_settings as fields_in, tag_with, tagged_setting as tagged_by, takes_tag_back as takes_back, with_match_field, with_protocol, with_field_setting, with_tci, without_field};
 ghost use Rattle.of_ovs_words.specs.Stops.{IfRefused, Stops};
 
 use crate::field_word::{FieldWord, Form};
@@ -72,6 +72,13 @@ fn tagged(vid: Option<MatchField>) -> Option<MatchField>
     }
 }
 
+// Whether a field is VLAN_PCP, and something was said of it.
+fn takes_tag_back(settings: &[MatchField], field: Field) -> bool
+    ensures { result ≡ takes_back field settings.now }
+{
+    field.number() == Field::VlanPcp.number() && last(settings, Field::VlanPcp).is_some()
+}
+
 // Whether a setting is of another field.
 fn is_of_other(e: &MatchField, field: Field) -> bool
     ensures { result ≡ not (number_of e.now.field == number_of field) }
@@ -109,6 +116,7 @@ fn set_one(settings: &mut Vec<MatchField>, word: FieldWord, value: &[u8]) -> Res
 {
     let field = field_for(word.target, settings).ok_or(Why::Protocol)?;
     match setting_in(word.form, field, value)? {
+        None if takes_tag_back(settings, field) => return Err(Stop::Refused(Why::Value)),
         None => forget(settings, field)?,
         Some(setting) => {
             push_tag(settings, field)?;
