@@ -58,6 +58,14 @@ fn ports_between(
     port_list(alloc, &own, &named)
 }
 
+// Whether the switch is one after a run, with ports of its own.
+fn is_run(contents: &Contents) -> bool {
+    match contents {
+        Contents::Tables { .. } => false,
+        Contents::Events(_) => true,
+    }
+}
+
 fn form_of(json: bool) -> DiffForm {
     if json {
         DiffForm::Json
@@ -85,13 +93,14 @@ fn found_between(
     let Ok(list) = ports_between(alloc, &asked.ports, &first, &second) else {
         return Err(Ended::NoMemory);
     };
+    let names_none = is_run(&first) && is_run(&second);
     let (Ok(first), Ok(second)) = (
         switch_of(rt, first, &list.ports),
         switch_of(rt, second, &list.ports),
     ) else {
         return Err(Ended::NoMemory);
     };
-    let missing = say_missing(rt, asked.json, &list.missing)?;
+    let missing = !names_none && say_missing(rt, asked.json, &list.missing)?;
     let (steps, form, compared) = (
         asked.steps as usize,
         form_of(asked.json),
