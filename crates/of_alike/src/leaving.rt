@@ -1,5 +1,5 @@
 //! Whether the same leaves two switches, for all frames of a set.
-ghost use Rattle.std.specs.Prelude.{◌≡◌, ℕ, List, [], IfNone, IsTrue, true};
+ghost use Rattle.std.specs.Prelude.{◌≡◌, ◌≢◌, ◌↔◌, ℕ, List, [], IfNone, IsSome, IsTrue, true};
 ghost use Rattle.std.specs.List.{All};
 ghost use Rattle.of_actions.specs.Rising.{is_ascending};
 ghost use Rattle.of_ports.specs.Ports.{number_of_port};
@@ -93,7 +93,8 @@ fn first_ingress(
 
 // What follows in two lists after all that they begin with in common.
 fn rests<'a>(a: &'a [Emission], b: &'a [Emission]) -> (&'a [Emission], &'a [Emission])
-    ensures { AlikeIfRest a.now b.now result.0.now result.1.now }
+    ensures alike { AlikeIfRest a.now b.now result.0.now result.1.now }
+    ensures equal { a.now ≡ b.now → (result.0.now ≡ []) × (result.1.now ≡ []) }
 {
     let (mut left, mut right) = (a, b);
     while let Some((behind, rest)) = behind_same(left, right) {
@@ -105,7 +106,7 @@ fn rests<'a>(a: &'a [Emission], b: &'a [Emission]) -> (&'a [Emission], &'a [Emis
 
 // Whether nothing is emitted.
 fn are_empty(a: &[Emission], b: &[Emission]) -> bool
-    ensures { result ≡ true → (a.now ≡ []) × (b.now ≡ []) }
+    ensures { IsTrue result ↔ (a.now ≡ []) × (b.now ≡ []) }
 {
     a.is_empty() && b.is_empty()
 }
@@ -122,7 +123,8 @@ pub fn other_ingress(
     b: &[Emission],
 ) -> Option<u32>
     requires { IsTrue (is_ascending number_of_port ports.now) }
-    ensures { IfNone result (LeaveAlike compared ports.now frames.now a.now b.now) }
+    ensures none { IfNone result (LeaveAlike compared ports.now frames.now a.now b.now) }
+    ensures some { IsSome result → a.now ≢ b.now }
 {
     let (left, right) = rests(a, b);
     if are_empty(left, right) {

@@ -1,5 +1,5 @@
 -- Why frames are undecided.
-use Rattle.std.proofs.Common.{ℕ, [], ◌≡◌, inl, inr}
+use Rattle.std.proofs.Common.{ℕ, [], ◌≡◌, ◌≢◌, inl, inr}
 use Rattle.of_machine.specs.TheWorld.{TheWorld}
 use Rattle.of_alike.specs.declared.alike.Compared.{Compared}
 use Rattle.of_diff.specs.declared.difference.Why.{Why}
@@ -8,11 +8,11 @@ use Rattle.of_diff.specs.declared.pair.Pair.{Pair}
 use Rattle.of_alike.specs.Agreeing.{AgreeFrom, GoOnAlike}
 use Rattle.of_diff.specs.Reasons.{AreSettled, IsReasonOfPair, IsTriedReason}
 
-pub settled_reason : (c : Compared) (w v : TheWorld) (steps : ℕ) (p : Pair) → AreSettled w v p → (why : Why) → IsTriedReason c w v steps p.frames why → (taken : ℕ) → IsReasonOfPair c w v steps taken p why
-settled_reason c w v steps p settled UnknownTag tried taken = absurd tried
-settled_reason c w v steps p settled Steps tried taken = absurd tried
-settled_reason c w v steps p settled Search tried taken = (settled, tried)
-settled_reason c w v steps p settled OtherActions tried taken = (settled, tried)
+pub settled_reason : (c : Compared) (w v : TheWorld) (steps : ℕ) (p : Pair) → AreSettled w v p → p.first.emitted.items ≢ p.second.emitted.items → (why : Why) → IsTriedReason c w v steps p.frames why → (taken : ℕ) → IsReasonOfPair c w v steps taken p why
+settled_reason c w v steps p settled differ UnknownTag tried taken = absurd tried
+settled_reason c w v steps p settled differ Steps tried taken = absurd tried
+settled_reason c w v steps p settled differ Search tried taken = (settled, tried)
+settled_reason c w v steps p settled differ OtherActions tried taken = (settled, tried, differ)
 
 pub both_done : (w v : TheWorld) (p : Pair) → p.first.tasks.items ≡ [] → p.second.tasks.items ≡ [] → AreSettled w v p
 both_done w v p first second = inl (first, second)

@@ -1,5 +1,5 @@
 -- WHY FRAMES ARE UNDECIDED: the runs of all frames on both switches take steps together, and a set of frames may be left (OpenFlow 1.3.5, 5.1).
-use Rattle.std.specs.Prelude.{◌≡◌, ◌<◌, ◌≤◌, ◌+◌, ◌⊎◌, ◌++◌, ℕ, zero, suc, List, [], ◌∷◌, length}
+use Rattle.std.specs.Prelude.{◌≡◌, ◌≢◌, ◌<◌, ◌≤◌, ◌+◌, ◌⊎◌, ◌++◌, ℕ, zero, suc, List, [], ◌∷◌, length}
 use Rattle.std.specs.List.{Contains}
 use Rattle.of_machine.specs.TheWorld.{TheWorld}
 use Rattle.of_symbolic_run.specs.declared.frame_set.FrameSet.{FrameSet}
@@ -39,12 +39,13 @@ IsTriedReason c w v steps s why.Steps = ⊥
 IsTriedReason c w v steps s why.Search = FindsNone w steps s ⊎ FindsNone v steps s
 IsTriedReason c w v steps s why.OtherActions = SomeIsAlike c w v s
 
--- it is not known what a lookup of one of the two finds; or all the steps were taken; or both runs are settled, and that is all that a search gave
+-- it is not known what a lookup of one of the two finds; or all the steps were taken; or both runs are settled, and that is all that a search gave; if some
+-- frame is treated alike, the runs did not emit the same
 abbrev pub IsReasonOfPair : Compared → TheWorld → TheWorld → ℕ → ℕ → Pair → Why → Type 0
 IsReasonOfPair c w v steps taken p why.UnknownTag = IsUnknownLookup w p.first ⊎ IsUnknownLookup v p.second
 IsReasonOfPair c w v steps taken p why.Steps = taken ≡ steps
 IsReasonOfPair c w v steps taken p why.Search = AreSettled w v p × IsTriedReason c w v steps p.frames why.Search
-IsReasonOfPair c w v steps taken p why.OtherActions = AreSettled w v p × IsTriedReason c w v steps p.frames why.OtherActions
+IsReasonOfPair c w v steps taken p why.OtherActions = AreSettled w v p × IsTriedReason c w v steps p.frames why.OtherActions × (p.first.emitted.items ≢ p.second.emitted.items)
 
 -- ---- steps of all runs together
 

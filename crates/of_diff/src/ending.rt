@@ -1,5 +1,5 @@
 //! What comes of a pair of states if both runs are done, or go on alike.
-ghost use Rattle.std.specs.Prelude.{◌≡◌, ◌≤◌, [], ◌∷◌, ℕ, IfOk, length};
+ghost use Rattle.std.specs.Prelude.{◌≡◌, ◌≢◌, ◌≤◌, [], ◌∷◌, ℕ, IfOk, length};
 ghost use Rattle.of_rewrite.specs.Frames.{IsFrame};
 ghost use Rattle.of_datapath.specs.Datapath.{world_of};
 ghost use Rattle.of_datapath.specs.Numbers.{forwarding_of};
@@ -298,7 +298,8 @@ pub fn try_pair<'a, L: Lookup>(
     ingress: u32,
     steps: usize,
 ) -> Result<Next<'a>, AllocError>
-    requires { AreSettled (world_of (forwarding_of first.now)) (world_of (forwarding_of second.now)) pair }
+    requires settled { AreSettled (world_of (forwarding_of first.now)) (world_of (forwarding_of second.now)) pair }
+    requires differ { pair.first.emitted.items ≢ pair.second.emitted.items }
     ensures { IfOk result (NextIs compared (world_of (forwarding_of first.now)) (world_of (forwarding_of second.now)) steps pair.entry) }
 {
     match try_frames(alloc, first, second, compared, &pair, ingress, steps)? {

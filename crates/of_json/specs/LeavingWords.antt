@@ -1,6 +1,6 @@
 -- WHAT LEAVES A SWITCH, IN WORDS: a line for each item; and the line of the frame that came in.
-use Rattle.std.specs.Prelude.{ℕ, ◌==◌, List, [], ◌∷◌, ◌++◌, codes, decimal, Option, Some, None, if◌then◌else◌}
-use Rattle.std.specs.List.{flat_map}
+use Rattle.std.specs.Prelude.{ℕ, ◌+◌, ◌==◌, Bool, false, List, [], ◌∷◌, ◌++◌, codes, decimal, Option, Some, None, if◌then◌else◌}
+use Rattle.std.specs.Str.{bytes_eq}
 use Rattle.hex.specs.Hex.{encode_lower}
 use Rattle.of_wire.specs.declared.reasons.PacketInReason.{PacketInReason}
 use Rattle.of_wire.specs.declared.reasons.PacketInReason.TheVariants.{NoMatch, Action, InvalidTtl}
@@ -37,17 +37,51 @@ packet_in_parts p = part_unless_zero (codes ", cookie ") p.cookie ++ part_unless
 unfoldable pub packet_in_words : ToController → List ℕ
 packet_in_words p = packet_in_reason p.reason p.table ++ packet_in_parts p
 
-unfoldable pub item_words : Item → List ℕ
-item_words (Sent port frame) = codes "out by port " ++ decimal port ++ codes ": " ++ encode_lower frame
-item_words (PacketIn p) = packet_in_words p ++ codes ": " ++ encode_lower p.frame
-
 -- a line, behind the name of the switch
-unfoldable pub leaving_item_line : List ℕ → Item → List ℕ
-leaving_item_line who item = who ++ item_words item ++ 10 ∷ []
+unfoldable pub packet_line : List ℕ → ToController → List ℕ
+packet_line who p = who ++ packet_in_words p ++ codes ": " ++ encode_lower p.frame ++ 10 ∷ []
+
+-- ports by which the same frame leaves are in one line: `out by ports 1 to 3, 5: HEX`
+
+abbrev pub range_words : ℕ → ℕ → List ℕ
+range_words low high = decimal low ++ (if high == low then [] else codes " to " ++ decimal high)
+
+-- after a range from one number to another
+abbrev pub ranges_words : ℕ → ℕ → List ℕ → List ℕ
+ranges_words low high [] = range_words low high
+ranges_words low high (p ∷ ports) = if p == high + 1 then ranges_words low p ports else range_words low high ++ codes ", " ++ ranges_words p p ports
+
+abbrev pub port_words : List ℕ → List ℕ
+port_words [] = codes "out by port "
+port_words (p ∷ ports) = codes "out by ports "
+
+-- the ports by which the next items send this frame
+abbrev pub ports_with : List ℕ → List Item → List ℕ
+ports_with frame [] = []
+ports_with frame (Sent port other ∷ items) = if bytes_eq other frame then port ∷ ports_with frame items else []
+ports_with frame (PacketIn p ∷ items) = []
+
+unfoldable pub sent_line : List ℕ → ℕ → List ℕ → List ℕ → List ℕ
+sent_line who port frame others = who ++ port_words others ++ ranges_words port port others ++ codes ": " ++ encode_lower frame ++ 10 ∷ []
+
+-- the item before sent this frame, so that its line names the port
+abbrev pub has_sent : Option Item → List ℕ → Bool
+has_sent None frame = false
+has_sent (Some (Sent port other)) frame = bytes_eq other frame
+has_sent (Some (PacketIn p)) frame = false
+
+abbrev pub item_line : List ℕ → Option Item → Item → List Item → List ℕ
+item_line who before (Sent port frame) items = if has_sent before frame then [] else sent_line who port frame (ports_with frame items)
+item_line who before (PacketIn p) items = packet_line who p
+
+-- the lines of items, after another one
+abbrev pub item_lines : List ℕ → Option Item → List Item → List ℕ
+item_lines who before [] = []
+item_lines who before (item ∷ items) = item_line who before item items ++ item_lines who (Some item) items
 
 abbrev pub side_words : List ℕ → List Item → List ℕ
 side_words who [] = who ++ codes "nothing leaves" ++ 10 ∷ []
-side_words who (item ∷ items) = flat_map (leaving_item_line who) (item ∷ items)
+side_words who (item ∷ items) = item_lines who None (item ∷ items)
 
 -- ---- the frame, its port and bytes as `trace` takes them
 

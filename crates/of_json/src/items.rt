@@ -1,10 +1,11 @@
 //! What leaves a switch, in words.
-ghost use Rattle.std.specs.Prelude.{◌≡◌, ◌++◌, OnOk, []};
-ghost use Rattle.std.specs.List.{flat_map};
-ghost use Rattle.of_json.specs.LeavingWords.{first_bytes, first_bytes_part, frame_line, leaving_item_line, item_words, packet_in_parts, packet_in_reason, packet_in_words, part_unless_zero, reason_said, side_words};
+ghost use Rattle.std.specs.Prelude.{◌≡◌, ◌+◌, ◌==◌, ◌++◌, IfOk, OnOk, None, []};
+ghost use Rattle.std.specs.Option.{option_copied};
+ghost use Rattle.of_json.specs.LeavingWords.{first_bytes, first_bytes_part, frame_line, has_sent, item_line, item_lines, packet_in_parts, packet_in_reason, packet_in_words, packet_line, part_unless_zero, port_words, ports_with, range_words, ranges_words, reason_said, sent_line, side_words};
 
 use of_build::push_hex;
 use of_machine::{Item, ToController};
+use of_text::is;
 use of_values::{push_decimal, push_hexadecimal};
 use of_wire::PacketInReason;
 use std::alloc::{AllocError, Global};
@@ -87,39 +88,131 @@ fn push_packet_in(out: &mut Vec<u8>, packet: &ToController) -> Result<(), AllocE
     push_parts(out, packet)
 }
 
-// Appends what leaves by a port or goes to the controller.
-#[tactic(auto, unfolding(crate::specs::LeavingWords::item_words))]
-fn push_item(alloc: Global, out: &mut Vec<u8>, item: &Item) -> Result<(), AllocError>
-    ensures { OnOk result (out.new.items ≡ out.old.items ++ item_words item.now) }
+// Appends the line of a packet to the controller, behind the name of the switch.
+#[tactic(auto, unfolding(crate::specs::LeavingWords::packet_line))]
+fn push_packet_line(
+    alloc: Global,
+    out: &mut Vec<u8>,
+    who: &[u8],
+    packet: &ToController,
+) -> Result<(), AllocError>
+    ensures { OnOk result (out.new.items ≡ out.old.items ++ packet_line who.now packet.now) }
 {
-    match item {
-        Item::Sent { port, frame } => {
-            out.extend_from_slice(b"out by port ")?;
-            push_decimal(out, u128::from(*port))?;
-            out.extend_from_slice(b": ")?;
-            push_hex(alloc, out, frame.as_slice())
+    out.extend_from_slice(who)?;
+    push_packet_in(out, packet)?;
+    out.extend_from_slice(b": ")?;
+    push_hex(alloc, out, packet.frame.as_slice())?;
+    out.push(b'\n')?;
+    Ok(())
+}
+
+// Appends numbers from one to another.
+fn push_range(out: &mut Vec<u8>, low: u32, high: u32) -> Result<(), AllocError>
+    ensures { OnOk result (out.new.items ≡ out.old.items ++ range_words low high) }
+{
+    push_decimal(out, u128::from(low))?;
+    if high == low {
+        return Ok(());
+    }
+    out.extend_from_slice(b" to ")?;
+    push_decimal(out, u128::from(high))
+}
+
+fn follows(port: u32, high: u32) -> bool
+    ensures { result ≡ (port == high + 1) }
+{
+    u64::from(port) == u64::from(high) + 1
+}
+
+// Appends numbers, those that follow each other as ranges.
+fn push_ranges(out: &mut Vec<u8>, first: u32, others: &[u32]) -> Result<(), AllocError>
+    ensures { OnOk result (out.new.items ≡ out.old.items ++ ranges_words first first others.now) }
+{
+    let (mut low, mut high) = (first, first);
+    for port in others {
+        if !follows(*port, high) {
+            push_range(out, low, high)?;
+            out.extend_from_slice(b", ")?;
+            low = *port;
         }
-        Item::PacketIn(packet) => {
-            push_packet_in(out, packet)?;
-            out.extend_from_slice(b": ")?;
-            push_hex(alloc, out, packet.frame.as_slice())
+        high = *port;
+    }
+    push_range(out, low, high)
+}
+
+// The ports by which the next items send this frame.
+fn same_frame_ports(alloc: Global, frame: &[u8], items: &[Item]) -> Result<Vec<u32>, AllocError>
+    ensures { IfOk result (λ ports. ports.items ≡ ports_with frame.now items.now) }
+{
+    let mut ports = Vec::new(alloc);
+    for item in items {
+        match item {
+            Item::Sent { port, frame: other } if is(other.as_slice(), frame) => ports.push(*port)?,
+            _ => return Ok(ports),
         }
+    }
+    Ok(ports)
+}
+
+fn name_of_ports(others: &[u32]) -> &'static [u8]
+    ensures { result.now ≡ port_words others.now }
+{
+    match others {
+        [] => b"out by port ",
+        _ => b"out by ports ",
     }
 }
 
-#[tactic(auto, unfolding(crate::specs::LeavingWords::leaving_item_line))]
+// Appends the line of a frame that leaves by a port, and then by others.
+#[tactic(auto, unfolding(crate::specs::LeavingWords::sent_line))]
+fn push_sent_line(
+    alloc: Global,
+    out: &mut Vec<u8>,
+    who: &[u8],
+    port: u32,
+    frame: &[u8],
+    others: &[u32],
+) -> Result<(), AllocError>
+    ensures { OnOk result (out.new.items ≡ out.old.items ++ sent_line who.now port frame.now others.now) }
+{
+    out.extend_from_slice(who)?;
+    out.extend_from_slice(name_of_ports(others))?;
+    push_ranges(out, port, others)?;
+    out.extend_from_slice(b": ")?;
+    push_hex(alloc, out, frame)?;
+    out.push(b'\n')?;
+    Ok(())
+}
+
+// Whether an item sent this frame.
+fn sent_before(before: Option<&Item>, frame: &[u8]) -> bool
+    ensures { result ≡ has_sent (option_copied before.entry) frame.now }
+{
+    match before {
+        Some(Item::Sent { frame: other, .. }) => is(other.as_slice(), frame),
+        _ => false,
+    }
+}
+
+// Appends the line of an item after another one, unless that one has its line.
 fn push_item_line(
     alloc: Global,
     out: &mut Vec<u8>,
     who: &[u8],
+    before: Option<&Item>,
     item: &Item,
+    behind: &[Item],
 ) -> Result<(), AllocError>
-    ensures { OnOk result (out.new.items ≡ out.old.items ++ leaving_item_line who.now item.now) }
+    ensures { OnOk result (out.new.items ≡ out.old.items ++ item_line who.now (option_copied before.entry) item.now behind.now) }
 {
-    out.extend_from_slice(who)?;
-    push_item(alloc, out, item)?;
-    out.push(b'\n')?;
-    Ok(())
+    match item {
+        Item::Sent { frame, .. } if sent_before(before, frame.as_slice()) => Ok(()),
+        Item::Sent { port, frame } => {
+            let others = same_frame_ports(alloc, frame.as_slice(), behind)?;
+            push_sent_line(alloc, out, who, *port, frame.as_slice(), &others)
+        }
+        Item::PacketIn(packet) => push_packet_line(alloc, out, who, packet),
+    }
 }
 
 fn push_item_lines(
@@ -128,10 +221,14 @@ fn push_item_lines(
     who: &[u8],
     items: &[Item],
 ) -> Result<(), AllocError>
-    ensures { OnOk result (out.new.items ≡ out.old.items ++ flat_map (leaving_item_line who.now) items.now) }
+    ensures { OnOk result (out.new.items ≡ out.old.items ++ item_lines who.now None items.now) }
 {
-    for item in items {
-        push_item_line(alloc, out, who, item)?;
+    let mut before = None;
+    let mut rest = items;
+    while let [item, behind @ ..] = rest {
+        push_item_line(alloc, out, who, before, item, behind)?;
+        before = Some(item);
+        rest = behind;
     }
     Ok(())
 }
@@ -146,7 +243,8 @@ fn push_nothing(out: &mut Vec<u8>, who: &[u8]) -> Result<(), AllocError>
     Ok(())
 }
 
-/// Appends what leaves a switch, a line for each item, behind the name of the switch.
+/// Appends what leaves a switch, behind the name of the switch: a line for each packet to the controller, and one for each frame with the ports by
+/// which it leaves one after the other.
 pub fn push_side(
     alloc: Global,
     out: &mut Vec<u8>,

@@ -31,4 +31,4 @@ returns g c =
     let w = world_of (forwarding_of c.args.first.now) in
     let v = world_of (forwarding_of c.args.second.now) in
     let tried : TriedIs c.args.compared w v c.args.steps c.args.pair.frames (Undecided c.in-Undecided.why) = rw c.in-Undecided.is at c.in_ok-shown.ensures in
-    c.not_decided.ensures c.args.compared w v c.args.steps c.args.pair refl (settled_reason c.args.compared w v c.args.steps c.args.pair c.requires c.in-Undecided.why tried)
+    c.not_decided.ensures c.args.compared w v c.args.steps c.args.pair refl (settled_reason c.args.compared w v c.args.steps c.args.pair c.requires.settled c.requires.differ c.in-Undecided.why tried)

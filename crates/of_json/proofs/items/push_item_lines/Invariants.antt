@@ -1,7 +1,10 @@
-use Rattle.std.proofs.Common.{◌≡◌, ◌++◌, drop}
-use Rattle.std.specs.List.{flat_map}
-use Rattle.of_json.specs.LeavingWords.{leaving_item_line}
+use Rattle.std.proofs.Common.{◌≡◌, ◌++◌, None, length}
+use Rattle.std.specs.Option.{option_copied}
+use Rattle.of_json.specs.LeavingWords.{item_lines}
 use Rattle.of_json.proofs.items.push_item_lines.Given as goal
 
-abbrev pub invariant-loop-item : goal.invariant-loop-item
-invariant-loop-item l = l.out.items ++ flat_map (leaving_item_line l.who) (drop l.item-index l.items) ≡ l.fn.out.items ++ flat_map (leaving_item_line l.who) l.items
+abbrev pub invariant-loop-rest : goal.invariant-loop-rest
+invariant-loop-rest l = l.out.items ++ item_lines l.who (option_copied l.before) l.rest ≡ l.fn.out.items ++ item_lines l.who None l.items
+
+abbrev pub decreases-loop-rest : goal.decreases-loop-rest
+decreases-loop-rest l = length l.rest
