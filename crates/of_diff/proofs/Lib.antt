@@ -9,3 +9,4 @@ pub mod CutLemmas
 pub mod ChangingLemmas
 pub mod ReasonLemmas
 pub mod ToldLemmas
+pub mod RevealingLemmas
