@@ -14,6 +14,7 @@ from .effects import Answer, Effect, Sent
 from .fields import fields_of, words
 from .laboratory import Action, Condition, Fault, Laboratory, Place, Played, Topology, all_reach, no_error, no_loop
 from .message_types import message_name
+from .questions import comparable
 from .shrinking import fewest
 from .switch import Switch
 
@@ -142,17 +143,28 @@ def explore(
 def _shrunk(experiment: Experiment, actions: list[Action], outcome: Outcome, where: str) -> Found:
     """The fewest actions of a schedule that end with a fault of the same kind. If it ends in another way when it runs again, it is said."""
     again = experiment.run(actions)
-    if (again.kind, again.lab.story) != (outcome.kind, outcome.lab.story):
+    if again.kind != outcome.kind or [*map(_without_xids, again.lab.story)] != [*map(_without_xids, outcome.lab.story)]:
         return Found(f"{where}; not deterministic: the same schedule did something else when it ran again, {again.fault or 'without a fault'}:", actions, outcome)
-    runs = 0
+    runs, last = 0, again
 
     def shows(some: list[Action]) -> bool:
-        nonlocal runs
+        nonlocal runs, last
         runs += 1
-        return experiment.run(some).kind == outcome.kind
+        found = experiment.run(some)
+        last = found if found.kind == outcome.kind else last
+        return found.kind == outcome.kind
 
     left = fewest(actions, shows, kind=lambda it: str(it[0]))
-    return Found(f"{where}: {len(actions)} actions, {len(left)} left after {runs} runs:", left, experiment.run(left))
+    # the last run that showed it was that of the actions that are left
+    return Found(f"{where}: {len(actions)} actions, {len(left)} left after {runs} runs:", left, last)
+
+
+def _without_xids(it: Action | Played) -> object:
+    """An action, or a row with its effects, without the xids: a controller may begin with any, as that of os-ken does."""
+    if not isinstance(it, Played):
+        return it
+    row = f"{it.row[:10]}{'0' * 8}{it.row[18:]}" if it.row.startswith("c ") else it.row
+    return it.switch, row, comparable([*it.effects])
 
 
 def _told(it: Action | Played) -> str:

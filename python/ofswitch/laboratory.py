@@ -17,7 +17,7 @@ Action = tuple[Union[str, int], ...]
 # A port of a switch.
 Place = tuple[str, int]
 
-# The most deliveries of one rest.
+# The most deliveries of one rest, for each switch.
 _MOST_DELIVERIES = 400
 
 # How many seconds pass with one action `time`.
@@ -60,6 +60,16 @@ class Topology:
     hosts: Mapping[str, Place]
     links: Sequence[tuple[str, int, str, int]] = ()
     moves: Sequence[Place] = ()
+
+    def __post_init__(self) -> None:
+        """ValueError for a port that does not exist, or that has two of these."""
+        ends = [end for one, port, other, its in self.links for end in ((one, port), (other, its))]
+        places = Counter([*ends, *self.hosts.values(), *self.moves])
+        for (switch, port), count in places.items():
+            if not 1 <= port <= self.switches.get(switch, 0):
+                raise ValueError(f"there is no port {port} of {switch}")
+            if count > 1:
+                raise ValueError(f"port {port} of {switch} has {count} ends of links, hosts or free places")
 
 
 Condition = Callable[["Laboratory"], object]
@@ -134,12 +144,13 @@ class Laboratory:
 
     def rest(self) -> None:
         """Delivers all messages and frames, until none is on its way."""
-        for _ in range(_MOST_DELIVERIES):
+        most = _MOST_DELIVERIES * len(self.switches)
+        for _ in range(most):
             action = next(self._deliveries(), None)
             if action is None:
                 return
             self.do(action)
-        raise Fault("not quiet", f"after {_MOST_DELIVERIES} deliveries messages or frames are still on their way")
+        raise Fault("not quiet", f"after {most} deliveries messages or frames are still on their way")
 
     def arrivals(self, source: str, to: str) -> int:
         """A host sends a frame to another, and all is delivered: how often that frame arrives."""

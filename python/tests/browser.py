@@ -27,7 +27,7 @@ class Page:
         self.faults = []
         target = self.call("Target.createTarget", url="about:blank")["targetId"]
         self._session = self.call("Target.attachToTarget", targetId=target, flatten=True)["sessionId"]
-        for it in ("Page", "Runtime", "Log"):
+        for it in ("Page", "Runtime", "Log", "Performance"):
             self.call(f"{it}.enable")
         self.size(1280, 900)
 
@@ -65,6 +65,10 @@ class Page:
         self._until(lambda it: it.get("method") == "Page.loadEventFired")
         self.value("new Promise((done) => { const see = () => document.body.ariaBusy === 'false' ? done() : setTimeout(see, 5); see(); })")
         return time.monotonic() - began
+
+    def processor_seconds(self):
+        """How long the page's tasks have run so far."""
+        return next(it["value"] for it in self.call("Performance.getMetrics")["metrics"] if it["name"] == "TaskDuration")
 
     def size(self, width, height):
         self.call("Emulation.setDeviceMetricsOverride", width=width, height=height, deviceScaleFactor=1, mobile=False)

@@ -185,6 +185,15 @@ def test_routers_that_point_at_each_other_are_a_hole(network):
     assert network.send(*places["h0"], FRAME) == []
 
 
+def test_ports_that_no_entry_names(network):
+    """The flat switch has all ports of hosts, whether an entry names them or not."""
+    network.add("s0", 9)
+    assert [it.places for it in network.paths("s0", 8).ended] == [(("s0", 8),)]
+    network["s0"].load(flow(["in_port 0x00000002"], "output 9 0"))
+    assert {*network.paths("s0", 2).hosts} == {("s0", 9)}
+    assert network.paths("s0", 8).hosts == {}
+
+
 def test_a_packet_that_comes_back_to_its_host(network):
     _, places = wired(network, [("s0", "s1")], {"h0": "s0", "h1": "s1"})
     network["s0"].load(flow(["in_port 0x00000001"], "output 2 0") + flow(["in_port 0x00000002"], "output 1 0"))

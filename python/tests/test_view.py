@@ -4,6 +4,7 @@ import base64
 import importlib.util
 import os
 import pathlib
+import random
 import re
 import shutil
 import subprocess
@@ -323,19 +324,21 @@ def test_text_of_the_log_does_no_harm(page, tmp_path):
 
 def test_a_long_log(page, tmp_path):
     """100,000 rows: times, frames with other bytes in each, and entries that come and go. The words are as the program prints them."""
-    rows, changes = [], []
+    rows, changes, chosen = [], [], random.Random(1)
     for at in range(100_000):
-        row = f"f 1 {at:024x}88b5{hash(at * 1.1) & 0xFFFFFFFFFFFF:092x}\nin by port 1, 60 bytes\ntable 0: entry {at % 7}\nsent out of port 2, 60 bytes"
+        row = f"f 1 {chosen.randbytes(60).hex()}\nin by port 1, 60 bytes\ntable 0: entry {at % 7}\nsent out of port 2, 60 bytes"
         rows.append(f"t {at * 1_000_000}" if at % 5 == 0 else row)
         if at % 5 == 1:
             changes.append([at, [[len(changes) % 300, len(changes) >= 300, [len(changes)]]]])
     entries = [["0", "10", f"in_port={it}", "apply: output port 2", ""] for it in range(len(changes))]
     path = tmp_path / "page.html"
     path.write_text(page_of({"name": "long", "lines": [*range(1, 100_001)], "rows": rows, "entries": entries, "changes": changes}))
+    before = page.processor_seconds()
     seconds = page.open(path, "#line-50000")
-    print(f"{path.stat().st_size} bytes, opened in {seconds:.2f} s")
-    # it takes some 0.7 s of processor time, but the machine may be busy
-    assert seconds < 20
+    work = page.processor_seconds() - before
+    print(f"{path.stat().st_size} bytes, opened in {seconds:.2f} s, {work:.2f} s of processor time of the page")
+    # about a second, but the machine may be busy, and slower than others
+    assert work < 5 and seconds < 60
     assert page.text("#status").endswith("100000 of 100000 rows are shown")
     # only what is visible is drawn, and the row of the link is
     assert page.value("document.querySelectorAll('.item').length") < 100
