@@ -11,16 +11,15 @@ from typing import Any
 
 from .applications import application_of
 from .effects import Answer, Effect, Sent
-from .fields import fields_of, words
+from .fields import brief
 from .laboratory import Action, Condition, Fault, Laboratory, Place, Played, Topology, all_reach, no_error, no_loop
 from .message_types import message_name
 from .questions import comparable
 from .shrinking import fewest
 from .switch import Switch
 
-# How many columns of a row a story shows, and which fields of a message.
+# How many columns of a row a story shows.
 _COLUMNS = 40
-_SHOWN = ("command", "priority", "match", "instructions", "in_port", "actions")
 
 TEST = '''"""{fault}"""
 
@@ -172,7 +171,7 @@ def _told(it: Action | Played) -> str:
     if not isinstance(it, Played):
         return " ".join(map(str, it))
     row = it.row if len(it.row) <= _COLUMNS else f"{it.row[:_COLUMNS]}.."
-    message = f"  {_message_in_words(bytes.fromhex(it.row[2:]))}" if it.row.startswith("c ") else ""
+    message = f"  {brief(bytes.fromhex(it.row[2:]))}" if it.row.startswith("c ") else ""
     sent = ", ".join(map(_effect_in_words, it.effects))
     return f"    {it.switch}  {row}{message}" + (f"  -> {sent}" if sent else "")
 
@@ -181,11 +180,6 @@ def _effect_in_words(effect: Effect) -> str:
     if isinstance(effect, Sent):
         return f"out by port {effect.port}"
     return message_name(effect.data) if isinstance(effect, Answer) and effect.error is None else repr(effect)
-
-
-def _message_in_words(message: bytes) -> str:
-    fields = fields_of(message)
-    return ", ".join([message_name(message), *(f"{it} {words(fields[it])}" for it in _SHOWN if fields.get(it))])
 
 
 def written_test(found: Found, arguments: Mapping[str, Any]) -> str:

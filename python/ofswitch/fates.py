@@ -2,15 +2,17 @@
 
 from __future__ import annotations
 
+from collections import deque
 from collections.abc import Iterator, Sequence
 from dataclasses import dataclass, field
 from typing import NamedTuple
 
 from . import rows
+from .fields import brief
 from .program import MARK_ROW, Run, StrPath, find
 from .rows import Octets
 from .switch import Switch
-from .units import Unit
+from .units import Unit, units_of
 
 # How long the program may take for the rows between two questions, in seconds.
 _TIMEOUT = 600.0
@@ -76,6 +78,22 @@ def changes(units: Sequence[Unit], port: int, frame: Octets, *, program: StrPath
                 before = after
     finally:
         run.close()
+
+
+def last_change(lines: Sequence[str], *, program: StrPath | None = None, dpid: int = 1) -> list[str]:
+    """What becomes of the last frame of an event file, since which line, and what did it, in words; nothing if there is no frame."""
+    count = next((count for count in range(len(lines), 0, -1) if lines[count - 1].startswith("f ")), 0)
+    if not count:
+        return []
+    _, port, digits = lines[count - 1].split(" ")
+    units = units_of(lines[: count - 1])
+    found = deque(changes(units, int(port), bytes.fromhex(digits.strip("-")), program=program, dpid=dpid), maxlen=1)
+    if not found:
+        return [f"the frame of line {count}: not received"]
+    [(place, before, after)] = found
+    row = units[place].row
+    did = brief(bytes.fromhex(row[2:])) if row.startswith("c ") else row
+    return [f"the frame of line {count}, since line {units[place].line}: {after} (before: {before})", f"    {did}"]
 
 
 def _fate_of(lines: list[str]) -> Fate:

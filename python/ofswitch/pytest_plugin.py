@@ -11,6 +11,7 @@ from typing import Any
 import pytest
 
 from . import exploring
+from .fates import last_change
 from .network import Network
 from .program import ProgramError
 from .questions import printed_by
@@ -158,10 +159,11 @@ def _small_account(switch: Switch, path: Path, small: Shrunk) -> str:
 def _account(switch: Switch, path: Path) -> str:
     command = shlex.join(["ofswitch", "replay", *switch.replay_options, "--explain", str(path)])
     try:
+        since = last_change(switch.log.split("\n"), program=switch.program, dpid=switch.dpid)
         lines = switch.explain().splitlines()
     except ProgramError as fault:
-        lines = [str(fault)]
-    return "\n".join([command, "", *_last(lines)])
+        since, lines = [], [str(fault)]
+    return "\n".join([command, "", *map(_short, since), *[""] * bool(since), *_last(lines)])
 
 
 def _last(lines: list[str]) -> list[str]:
