@@ -68,6 +68,8 @@ class _Stream:
         # the place and the sequence number of the next byte; no number before the first segment
         self.place = 0
         self.sequence: int | None = None
+        # the number of its first byte, if the capture has its SYN
+        self.first: int | None = None
         # a heap
         self.early: list[_Early] = []
         # the packets in which the other side acknowledges bytes, and up to which place
@@ -76,7 +78,7 @@ class _Stream:
 
     def begin(self, sequence: int) -> None:
         if self.place == 0:
-            self.sequence = sequence & _MASK
+            self.sequence = self.first = sequence & _MASK
 
     def place_of(self, sequence: int) -> int:
         """The place of a sequence number, which is assumed to be near the next byte."""
@@ -137,6 +139,11 @@ class Connection:
             self.ended = self.ended or packet.nanoseconds
             stream.is_ended = True
 
+    def is_begun_by(self, segment: Segment) -> bool:
+        """Whether this SYN may belong to it: it is the one with which it began, sent again, or no bytes were seen yet."""
+        first = self._streams[self.sides.index(segment.source)].first
+        return not self.pieces or first == (segment.sequence + 1) & _MASK
+
     def end_at_gap(self) -> str | None:
         """Drops everything after missing bytes, on both sides, and returns the place at which they are missing; None if none are."""
         gaps = [(*gap, side) for side, stream in enumerate(self._streams) if (gap := stream.gap()) is not None]
@@ -164,7 +171,7 @@ def connections(captured: Iterable[Packet], port: int | None = None) -> list[Con
             continue
         key = frozenset((segment.source, segment.target))
         is_first = segment.flags & (SYN | ACK) == SYN
-        if key not in found or (is_first and found[key].pieces):
+        if key not in found or (is_first and not found[key].is_begun_by(segment)):
             sides = (segment.source, segment.target)
             # without the SYN the side with the greater port is taken for the one that connected
             if not segment.flags & SYN and sides[0].port < sides[1].port or segment.flags & (SYN | ACK) == SYN | ACK:

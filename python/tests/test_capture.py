@@ -13,6 +13,7 @@ import sys
 import messages
 import pytest
 from ofswitch import pcap, tcp
+from ofswitch.run_pcap import write_pcap
 
 pytest_plugins = ["pytester"]
 
@@ -229,6 +230,27 @@ def test_packets_of_other_links(tmp_path, link, form):
     assert done.stderr == "" and done.stdout == ran("events", CAPTURES / "osken.pcap").stdout
 
 
+def test_sequence_numbers_that_wrap(tmp_path):
+    """Both sides begin a hundred bytes before 2 to the 32."""
+    head, found = records(CAPTURES / "osken.pcap")
+    # the number of the SYN of each port
+    begun = {struct.unpack_from("!H", it, 50)[0]: struct.unpack_from("!I", it, 54)[0] for it in found if flags(it) & 2}
+
+    def moved(record):
+        source, target, sequence, acknowledged = struct.unpack_from("!HHII", record, 50)
+        numbers = [(number - begun[port] - 100) & 0xFFFFFFFF for number, port in ((sequence, source), (acknowledged, target))]
+        return record[:54] + struct.pack("!II", *numbers) + record[62:]
+
+    assert ran("events", written(tmp_path, head, map(moved, found))).stdout == ran("events", CAPTURES / "osken.pcap").stdout
+
+
+def test_bytes_behind_a_packet_are_not_data(tmp_path):
+    """Ethernet pads a frame to 60 bytes: what is behind the IP packet is of no segment."""
+    head, found = records(CAPTURES / "osken.pcap")
+    done = ran("events", written(tmp_path, head, (changed(it, it[16:] + bytes(6)) for it in found)))
+    assert done.stderr == "" and done.stdout == ran("events", CAPTURES / "osken.pcap").stdout
+
+
 def test_files_of_the_other_byte_order_and_of_nanoseconds(tmp_path):
     head, found = records(CAPTURES / "osken.pcap")
     turned = struct.pack(">IHHiIII", 0xA1B23C4D, *struct.unpack("<HHiIII", head[4:]))
@@ -319,6 +341,81 @@ def test_a_connection_without_a_list_of_ports(tmp_path, six):
     assert ran("compare", path).stdout == "4 alike, 0 with differences\n"
 
 
+def rows_of(path, *words):
+    """The rows of a capture, without times."""
+    return [it for it in ran("events", path, *words).stdout.splitlines() if not it.startswith("t ")]
+
+
+@pytest.mark.parametrize("order", [(0, 1, 0, 3, 2), (0, 1, 2, 3, 0)])
+def test_a_syn_that_is_sent_again(tmp_path, order):
+    """Before there are bytes, of which the second part comes first; and after some."""
+    hello = HELLOS[1][1]
+    talk = [(1, hello[:8]), (1, hello[8:]), HELLOS[0], (0, messages.features_request(7)), (1, features_reply(7, 1))]
+    packets = [*segments(talk)]
+    made = [*(packets[it] for it in order), *packets[4:]]
+    wanted = ["connect", f"c {messages.HELLO.hex()}", f"c {messages.features_request(7).hex()}", "lost"]
+    assert rows_of(recorded(tmp_path, *packets)) == wanted
+    assert rows_of(recorded(tmp_path, *made)) == wanted
+
+
+def port_description(number, hw, state=0):
+    return struct.pack("!I4x6s2x16s8I", number, bytes.fromhex(hw), b"eth%d" % number, 0, state, *[0] * 6)
+
+
+def port_status(reason, number, hw, state=0):
+    return messages.header(12, 0, struct.pack("!B7x", reason) + port_description(number, hw, state))
+
+
+def ports_reply(xid, *ports, more=0):
+    return messages.header(19, xid, struct.pack("!HH4x", 13, more) + b"".join(ports))
+
+
+def ports_request(xid):
+    return messages.header(18, xid, struct.pack("!HH4x", 13, 0))
+
+
+def test_two_changes_of_a_port_before_its_description(tmp_path):
+    """Port 3 is removed, and comes again with another address: at the beginning it has the first one."""
+    old, new = "0200000000a3", "0200000000b3"
+    talk = [*HELLOS, (1, port_status(1, 3, old)), (1, port_status(0, 3, new)), (0, ports_request(5)), (1, ports_reply(5, port_description(3, new)))]
+    rows = rows_of(recorded(tmp_path, *segments(talk)))
+    assert [it for it in rows if it.startswith("port")] == [f"port add 3 {old} eth3 up", "port remove 3", f"port add 3 {new} eth3 up"]
+
+
+def test_a_description_in_several_parts(tmp_path):
+    # OFPMPF_REPLY_MORE is 1
+    parts = [(1, ports_reply(5, port_description(1, "0200000000a1"), more=1)), (1, ports_reply(5, port_description(2, "0200000000a2", state=1)))]
+    rows = rows_of(recorded(tmp_path, *segments([*HELLOS, (0, ports_request(5)), *parts])))
+    assert rows[:2] == ["port add 1 0200000000a1 eth1 up", "port add 2 0200000000a2 eth2 down"]
+
+
+def test_a_part_of_a_frame_is_no_frame(tmp_path):
+    """The switch sends 64 bytes of a frame of 1,000: what it received is not known."""
+    cut = packet_in(3, FRAME)
+    cut = cut[:12] + struct.pack("!H", 1000) + cut[14:]
+    done = ran("events", recorded(tmp_path, *segments([*HELLOS, (0, messages.echo(1)), (1, cut), (1, packet_in(4, FRAME))])))
+    assert [it for it in done.stdout.splitlines() if it.startswith("f ")] == [f"f 4 {FRAME.hex()}"]
+    assert "1 PACKET_INs do not have a whole frame of a port" in done.stderr
+
+
+@pytest.mark.parametrize("length", range(8))
+def test_a_message_that_says_it_is_shorter_than_its_header(tmp_path, length):
+    """The specified switch ends the connection; the bytes are fed to it as they are."""
+    bad = struct.pack("!BBHI", 4, 5, length, 7)
+    rows = rows_of(recorded(tmp_path, *segments([*HELLOS, (0, messages.features_request(6)), (1, features_reply(6, 1)), (0, bad)])))
+    assert rows[-2:] == [f"c {bad.hex()}", "lost"]
+
+
+def test_a_connection_beside_another_is_left_out(tmp_path):
+    one, other = ([*HELLOS, (0, messages.features_request(it)), (1, features_reply(it, 1))] for it in (1, 2))
+    first, second = ([*segments(talk, ports=(port, 6653))] for talk, port in ((one, 40_001), (other, 40_002)))
+    done = ran("events", recorded(tmp_path, *first[:-2], *second, *first[-2:]))
+    assert "10.0.0.1:40002 to 10.0.0.2:6653: another connection lasts while this one begins; left out" in done.stderr
+    assert done.stdout.count("connect") == 1
+    # one after the other they are two connections
+    assert ran("events", recorded(tmp_path, *first, *second)).stdout.count("connect") == 2
+
+
 def test_two_switches_at_one_controller(tmp_path):
     """The switches connect to the controller."""
     hellos = [(1 - side, data) for side, data in HELLOS]
@@ -388,6 +485,14 @@ def test_a_run_as_a_capture(switch, tmp_path):
     assert found == [*sent, (late, 1, FRAME), (late, 1, FRAME)]
     # an option of its interface
     assert b"\x02\0\x07\0s1-eth1\0" in path.read_bytes() and b"\x02\0\x06\0port 2" in path.read_bytes()
+
+
+def test_times_and_bytes_of_a_run_that_is_not_smooth(tmp_path):
+    """A time that is earlier than the one before, and a connection that is lost inside a message."""
+    rows = ["t 5", "connect", "c 04000008000000", "lost", "t 3", "connect", f"c {messages.HELLO.hex()}", "t 7", f"c {messages.echo(1).hex()}"]
+    write_pcap(tmp_path / "run.pcapng", [(it, []) for it in rows])
+    found = [(it.nanoseconds, it.data[16:]) for it in pcap.packets(tmp_path / "run.pcapng")]
+    assert found == [(5, messages.HELLO), (7, messages.echo(1))]
 
 
 def test_tshark_reads_what_is_written(tmp_path):
