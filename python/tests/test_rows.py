@@ -58,3 +58,11 @@ def test_rows_are_those_of_the_program():
         line = changed(luck.choice(LINES), luck)
         done = subprocess.run([PROGRAM, "replay", "-"], input=line.encode() + b"\n", capture_output=True, timeout=60)
         assert done.returncode == (0 if is_row(line) else 2), repr(line)
+
+
+def test_names_of_ports():
+    """Of the letters and digits of an interface's name, or of the port's number if there are none."""
+    named = {"s1-eth1": "s1eth1", "eth0.5": "eth05", "--": "p7", "é": "p7", "Gi0/1": "gi01"}
+    for name, wanted in named.items():
+        assert rows.port_name(name, 7) == wanted
+        rows.check(rows.port_add(7, None, name, True))
