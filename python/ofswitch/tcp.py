@@ -114,9 +114,13 @@ class Connection:
     def __init__(self, sides: tuple[End, End]) -> None:
         self.sides = sides
         self.pieces: list[Piece] = []
+        # when it ended, and the side that ended it first
         self.ended: int | None = None
+        self.ended_by: int | None = None
         # the packets of which the capture kept a part
         self.cut: list[int] = []
+        # whether bytes are missing, and what came after them was dropped
+        self.is_cut_off = False
         self._streams = (_Stream(), _Stream())
 
     @property
@@ -136,8 +140,13 @@ class Connection:
             taken = stream.add(packet.number, segment.sequence, segment.data)
             self.pieces += [Piece(packet.nanoseconds, packet.number, side, it) for it in taken]
         if segment.flags & (FIN | RST):
-            self.ended = self.ended or packet.nanoseconds
+            if self.ended_by is None:
+                self.ended, self.ended_by = packet.nanoseconds, side
             stream.is_ended = True
+
+    def has_begin_of(self, side: int) -> bool:
+        """Whether the capture has the SYN of a side, and so its first bytes are the first of all."""
+        return self._streams[side].first is not None
 
     def is_begun_by(self, segment: Segment) -> bool:
         """Whether this SYN may belong to it: it is the one with which it began, sent again, or no bytes were seen yet."""
@@ -153,7 +162,8 @@ class Connection:
         kept = [it for it in self.pieces if it.number < number]
         left = len(self.pieces) - len(kept) + sum(len(it.early) for it in self._streams)
         self.pieces = kept
-        self.ended = None
+        self.ended = self.ended_by = None
+        self.is_cut_off = True
         return f"{self.name}: {count} bytes of {self.sides[side]} are missing before packet {number}; {left} segments from there on are left out"
 
 

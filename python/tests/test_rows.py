@@ -66,3 +66,9 @@ def test_names_of_ports():
     for name, wanted in named.items():
         assert rows.port_name(name, 7) == wanted
         rows.check(rows.port_add(7, None, name, True))
+
+
+def test_a_datapath_id_in_the_first_line():
+    """As `capture events` writes it, and other comments."""
+    said = {"# a switch of datapath_id 0x2a: replay it with --dpid 0x2a": 42, "# replay with --dpid 7": 7, "# replay with --dpid": 1, "connect": 1, "": 1, "# --dpid x": 1}
+    assert [rows.said_dpid(it) for it in said] == list(said.values())

@@ -145,6 +145,14 @@ def test_statuses(tmp_path, rows, words, status):
     assert "Traceback" not in done.stderr
 
 
+def test_the_datapath_id_of_the_first_line(tmp_path):
+    """Only the FEATURES_REPLY of that switch has it."""
+    rows = ["# replay with --dpid 42", *START, f"c {messages.features_request(5).hex()}"]
+    done = command(tmp_path, rows, "--prints", "^a 0406.{12}000000000000002a")
+    assert rows_of(done.stdout) == rows[1:]
+    assert command(tmp_path, rows, "--prints", "^a 0406.{12}000000000000002a", "--dpid", "1").returncode == 4
+
+
 def test_a_file_that_is_missing():
     assert subprocess.run([*COMMAND, "missing.events", "--row", "1"], capture_output=True, timeout=60).returncode == 3
 

@@ -138,6 +138,15 @@ def test_statuses(tmp_path, words, status, said):
     assert done.returncode == status and said in done.stderr and "Traceback" not in done.stderr
 
 
+def test_the_datapath_id_of_the_first_line(tmp_path):
+    log = tmp_path / "log.events"
+    log.write_text(f"# replay with --dpid 42\nconnect\nc {messages.HELLO.hex()}\nc {messages.features_request(5).hex()}\n")
+    text = pathlib.Path(viewed(log, tmp_path / "page.html")).read_text()
+    packed = re.search(r'id="data">([^<]*)<', text)[1]
+    # in words, as `replay --explain` prints a FEATURES_REPLY
+    assert "datapath 0x000000000000002a" in zlib.decompress(base64.b64decode(packed)).decode()
+
+
 def test_a_bad_row_and_a_missing_file(tmp_path):
     for log, words, status, said in [("port add 1\n", [], 2, "line 1: bad row"), (None, ["missing.events"], 3, "missing.events")]:
         done = subprocess.run([*COMMAND, *(words or ["-"]), "-o", str(tmp_path / "it")], input=log, capture_output=True, text=True, timeout=60)
