@@ -81,7 +81,7 @@ def changes(units: Sequence[Unit], port: int, frame: Octets, *, program: StrPath
 
 
 def last_change(lines: Sequence[str], *, program: StrPath | None = None, dpid: int = 1) -> list[str]:
-    """What becomes of the last frame of an event file, since which line, and what did it, in words; nothing if there is no frame."""
+    """What becomes of the last frame of an event file, since which line, and what did it, in words; nothing without a frame."""
     count = next((count for count in range(len(lines), 0, -1) if lines[count - 1].startswith("f ")), 0)
     if not count:
         return []

@@ -142,7 +142,7 @@ def test_commands_on_captures(tmp_path):
     for name in ("python", "examples"):
         (tmp_path / name).symlink_to(TOP / name)
     blocks = re.findall(r"^    (python -m ofswitch [^\n]*|tshark [^\n]*)\n(?:\n```\n(.*?)^```$)?", CAPTURES.read_text(encoding="utf-8"), re.M | re.S)
-    assert len(blocks) == 6
+    assert len(blocks) == 8
     for command, block in blocks:
         if command.startswith("tshark") and shutil.which("tshark") is None:
             continue

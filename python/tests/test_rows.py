@@ -61,7 +61,7 @@ def test_rows_are_those_of_the_program():
 
 
 def test_names_of_ports():
-    """Of the letters and digits of an interface's name, or of the port's number if there are none."""
+    """The letters and digits of an interface's name, or the number of the port if there are none."""
     named = {"s1-eth1": "s1eth1", "eth0.5": "eth05", "--": "p7", "é": "p7", "Gi0/1": "gi01"}
     for name, wanted in named.items():
         assert rows.port_name(name, 7) == wanted
