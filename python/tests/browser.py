@@ -25,9 +25,11 @@ class Page:
         self._to, self._from = to_browser, from_browser
         self._left, self._number, self._session = b"", 0, None
         self.faults = []
+        # what the page asks for
+        self.asked = []
         target = self.call("Target.createTarget", url="about:blank")["targetId"]
         self._session = self.call("Target.attachToTarget", targetId=target, flatten=True)["sessionId"]
-        for it in ("Page", "Runtime", "Log", "Performance"):
+        for it in ("Page", "Runtime", "Log", "Network", "Performance"):
             self.call(f"{it}.enable")
         self.size(1280, 900)
 
@@ -46,6 +48,8 @@ class Page:
             assert "error" not in message, message
             if message.get("method") in ("Runtime.exceptionThrown", "Log.entryAdded"):
                 self.faults.append(message["params"])
+            if message.get("method") == "Network.requestWillBeSent":
+                self.asked.append(message["params"]["request"]["url"])
             if is_wanted(message):
                 return message
 

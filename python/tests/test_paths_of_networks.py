@@ -111,6 +111,9 @@ def test_random_frames(network, name):
         # each host reaches each other host, and nothing circulates
         assert {*found.hosts} == {*places.values()} - {place}
         assert found.loops == []
+        # the frame of each path arrives where the path says, if it is sent
+        for path in found.paths:
+            assert Counter(network.send(*place, path.frame)) == Counter(path.arrived)
         check_random_frames(network, place, found, 16, seed)
 
 

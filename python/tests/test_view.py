@@ -180,6 +180,8 @@ def page(tmp_path_factory):
     with browser.opened(tmp_path_factory.mktemp("browser")) as page:
         yield page
         assert page.faults == []
+        # nothing comes from a network
+        assert page.asked and all(it.startswith(("file:", "data:")) for it in page.asked)
 
 
 @pytest.fixture
