@@ -20,8 +20,8 @@ _TIMEOUT = 600.0
 # How many questions one write has at most.
 _QUESTIONS = 2_000
 
-# The kinds of units after which a frame may have another fate.
-_CHANGING = {"FLOW_MOD", "GROUP_MOD", "PORT_MOD", "port", "time"}
+# The kinds of units after which a frame may have another fate; `bytes` are a row with any number of messages.
+_CHANGING = {"FLOW_MOD", "GROUP_MOD", "PORT_MOD", "port", "time", "bytes"}
 
 _TO_CONTROLLER = f"output {0xFFFFFFFD} "
 _EXPIRED = "dec_nw_ttl expired"
