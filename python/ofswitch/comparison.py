@@ -55,8 +55,8 @@ class Difference(NamedTuple):
 
     @property
     def about(self) -> tuple[Any, ...]:
-        """What remains the same in a capture of another run: the messages, the port, or the end of a connection."""
-        return self.place.get("port"), *self.place.get("messages", ["its end"])
+        """What remains the same in a capture of another run: the messages, the port, or the end of a connection (neither)."""
+        return self.place.get("port"), tuple(self.place["messages"]) if "messages" in self.place else None
 
 
 @dataclass

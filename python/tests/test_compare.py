@@ -160,6 +160,30 @@ def test_all_known_differences_of_open_vswitch(tmp_path):
         assert last.endswith(f" alike, 0 with differences, {count} accepted\n") and last.count("\n") == 1
 
 
+def test_an_answer_to_nothing_is_accepted_as_such(tmp_path):
+    """An ECHO_REPLY of which there is no request: its messages are none, and it is not the end of a connection."""
+    path = recorded(tmp_path, *segments([*HELLOS, *FEATURES, (1, messages.echo_reply(77))]))
+    document = ran("compare", path, "--json", status=4).stdout
+    assert json.loads(document)["differences"] == [{"connection": 1, "xid": 77, "messages": [], "packet": 7, "lines": ["recorded: ECHO_REPLY xid 77", "specified: nothing"]}]
+    (tmp_path / "known.json").write_text(document)
+    assert ran("compare", path, "--accept", tmp_path / "known.json").stdout == "2 alike, 0 with differences, 1 accepted\n"
+
+
+def test_known_differences_of_a_port(tmp_path):
+    """Port 2 is given the capture of port 3: one frame left there, where the specified switch sends two by port 2."""
+    words = ["compare", CAPTURES / "osken.pcap", *(it for number in range(1, 5) for it in ("--in", f"{number}={CAPTURES}/osken-p{number}-rx.pcap"))]
+    swapped = [*words, "--out", f"2={CAPTURES}/osken-p3-tx.pcap"]
+    document = ran(*swapped, "--json", status=4).stdout
+    [port] = [it for it in json.loads(document)["differences"] if it.get("port") == 2]
+    assert port["lines"][0] == "recorded: 1 frames left, specified: 2" and "connection" not in port
+    known = tmp_path / "known.json"
+    known.write_text(document)
+    assert ran(*swapped, "--accept", known).stdout.endswith(" 0 with differences, 4 accepted\n")
+    # it is accepted for that port, and for no other one
+    other = [*words, "--out", f"3={CAPTURES}/osken-p2-tx.pcap"]
+    assert "port 3" in ran(*other, "--accept", known, status=4).stdout.splitlines()
+
+
 # ---- captures that are odd
 
 

@@ -1,7 +1,5 @@
 """The plugin of pytest: what a test gets, and what a failure shows."""
 
-import subprocess
-
 import pytest
 
 pytest_plugins = ["pytester"]
@@ -114,9 +112,24 @@ def test_a_failure_says_what_changed_the_fate_of_its_frame(in_process, port, sai
 
 
 def test_the_switches_end_with_the_test(in_process):
-    before = subprocess.run(["pgrep", "-cf", "replay -$"], capture_output=True, text=True).stdout
-    in_process("def test_that_passes(new_switch): [new_switch() for _ in range(5)]").assert_outcomes(passed=1)
-    assert subprocess.run(["pgrep", "-cf", "replay -$"], capture_output=True, text=True).stdout == before
+    result = in_process(
+        """
+        import os
+        import pytest
+
+        kept = []
+
+        def test_that_passes(new_switch):
+            kept.extend(new_switch() for _ in range(5))
+
+        def test_that_they_have_ended():
+            for it in kept:
+                # signal 0 asks whether the process is there
+                with pytest.raises(ProcessLookupError):
+                    os.kill(it.pid, 0)
+        """
+    )
+    result.assert_outcomes(passed=2)
 
 
 SHRUNK = """
