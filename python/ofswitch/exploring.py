@@ -124,6 +124,8 @@ def explore(
     `application` makes the controller: a class of os-ken, or anything that makes an `Application`. Raises Found if a schedule ends
     with a fault, after it was made as short as possible (docs/EXPLORE.md).
     """
+    # of pytest: a failure shows the line of the test
+    __tracebackhide__ = True
     experiment = Experiment(application, Topology(switches, hosts, links, moves), always, at_rest, new_switch)
     if schedule is not None:
         outcome = experiment.run(schedule)

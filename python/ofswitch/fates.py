@@ -5,14 +5,16 @@ from __future__ import annotations
 from collections import deque
 from collections.abc import Iterator, Sequence
 from dataclasses import dataclass, field
-from typing import NamedTuple
+from typing import TYPE_CHECKING, NamedTuple
 
 from . import rows
 from .fields import brief
-from .program import MARK_ROW, Run, StrPath, find
+from .program import MARK_ROW, MOST_READS, Run, StrPath, find
 from .rows import Octets
-from .switch import Switch
 from .units import Unit, units_of
+
+if TYPE_CHECKING:
+    from .switch import Switch
 
 # How long the program may take for the rows between two questions, in seconds.
 _TIMEOUT = 600.0
@@ -41,9 +43,12 @@ class Fate:
     way: tuple[str, ...] = field(compare=False)
 
     def __str__(self) -> str:
-        if not self.is_received:
-            return "not received"
-        return ", ".join(map(_in_words, self.items)) or "nothing leaves"
+        return ", ".join(it.partition(":")[0] if it.startswith("out ") else it for it in self.leaves)
+
+    @property
+    def leaves(self) -> list[str]:
+        """What leaves, in words, with the bytes of frames; or why nothing does."""
+        return [*map(_in_words, self.items)] or ["nothing leaves" if self.is_received else "not received"]
 
 
 class Change(NamedTuple):
@@ -56,23 +61,23 @@ class Change(NamedTuple):
 
 def fate(switch: Switch, port: int, frame: Octets, *, explain: bool = False) -> Fate:
     """The fate of a frame on a switch as it is now; with `explain` its way has the notes of `trace --explain`."""
-    return _fate_of(switch.steps(port, frame, explain=explain).splitlines())
+    return fate_of(switch.steps(port, frame, explain=explain).splitlines())
 
 
 def changes(units: Sequence[Unit], port: int, frame: Octets, *, program: StrPath | None = None, dpid: int = 1) -> Iterator[Change]:
     """All changes of the fate of a frame, in order: between them, and before the first, it stays the same."""
     # the first question ends the text of the effects
     question = f"{MARK_ROW.decode()}#? trace {rows.frame(port, frame).removeprefix('f ')}\n"
-    run = Run([find(program), "replay", "--dpid", str(dpid), "--ask", "--reads", str(Switch.MOST_READS), "-"], _TIMEOUT)
+    run = Run([find(program), "replay", "--dpid", str(dpid), "--ask", "--reads", str(MOST_READS), "-"], _TIMEOUT)
     asked = [place for place, it in enumerate(units) if it.kind in _CHANGING]
-    before, done = _fate_of([]), 0
+    before, done = fate_of([]), 0
     try:
         for some in (asked[at : at + _QUESTIONS] for at in range(0, len(asked), _QUESTIONS)):
             parts = zip([done, *(it + 1 for it in some)], some)
             text = "".join("".join(f"{it.row}\n" for it in units[start : end + 1]) + question for start, end in parts)
             done = some[-1] + 1
             for place, answer in zip(some, run.play_each(text.encode(), 2 * len(some))[1::2]):
-                after = _fate_of([it.decode() for it in answer])
+                after = fate_of([it.decode() for it in answer])
                 if after != before:
                     yield Change(place, before, after)
                 before = after
@@ -96,7 +101,7 @@ def last_change(lines: Sequence[str], *, program: StrPath | None = None, dpid: i
     return [f"the frame of line {count}, since line {units[place].line}: {after} (before: {before})", f"    {did}"]
 
 
-def _fate_of(lines: list[str]) -> Fate:
+def fate_of(lines: list[str]) -> Fate:
     """The fate that a trace in lines tells (docs/TRACE.md)."""
     items = [it for it in lines if it.startswith(("s ", _TO_CONTROLLER)) or it == _EXPIRED]
     # the values that a lookup sees are named by the matches of other entries, too; a message has a buffer id
@@ -106,5 +111,6 @@ def _fate_of(lines: list[str]) -> Fate:
 
 def _in_words(item: str) -> str:
     if item.startswith("s "):
-        return f"out by port {item.split(' ')[1]}"
+        _, port, frame = item.split(" ")
+        return f"out by port {port}: {frame}"
     return "to the controller: invalid TTL" if item == _EXPIRED else "to the controller"

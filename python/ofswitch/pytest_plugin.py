@@ -85,6 +85,8 @@ def explore(request: pytest.FixtureRequest, tmp_path: Path) -> Callable[..., int
     """`ofswitch.exploring.explore`, which leaves what it finds as a test, event files and a story (docs/EXPLORE.md)."""
 
     def run(**words: Any) -> int:
+        # a failure shows the line of the test
+        __tracebackhide__ = True
         options = {name: request.config.getoption(f"--ofswitch-{name}", default=None) for name in ("seconds", "seed")}
         try:
             return exploring.explore(**{**words, **{name: it for name, it in options.items() if it is not None}})
