@@ -104,20 +104,26 @@ class Laboratory:
         self._seconds = 0
         self._number = 0
         try:
+            # all of them begin before the first one has to answer
+            for name in topology.switches:
+                self._add(name, new_switch)
             for name, ports in topology.switches.items():
-                self._add(name, ports, new_switch)
+                self._add_ports(name, ports)
         except BaseException:
             # such as a program that is missing: a controller in a process of its own must not be left behind
             self.close()
             raise
 
-    def _add(self, name: str, ports: int, new_switch: Callable[..., Switch]) -> None:
+    def _add(self, name: str, new_switch: Callable[..., Switch]) -> None:
         dpid = self._dpids[name] = len(self.switches) + 1
         switch = self.switches[name] = new_switch(dpid=dpid)
         self._up[name], self._down[name] = deque(), deque()
         switch.watch(lambda row, effects: self._see(name, row, effects))
-        # an address that no other port of the network has
-        switch.play_all(rows.port_add(port, f"02{dpid:06x}{port:04x}", None, True) for port in range(1, ports + 1))
+
+    def _add_ports(self, name: str, ports: int) -> None:
+        # addresses that no other port of the network has
+        addresses = {port: f"02{self._dpids[name]:06x}{port:04x}" for port in range(1, ports + 1)}
+        self.switches[name].play_all(rows.port_add(port, it, None, True) for port, it in addresses.items())
 
     def start(self) -> None:
         """Connects all switches, and delivers everything."""
