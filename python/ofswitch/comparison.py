@@ -37,7 +37,6 @@ class Key:
     kind: int | None
 
 
-
 class Difference(NamedTuple):
     """A place at which the recorded switch differs, as docs/JSON.md describes it, and how, a line for each difference."""
 
