@@ -292,6 +292,8 @@ def test_search_and_kinds(failover):
 
 
 def test_links_to_rows(failover):
+    # at once after the page chose a row, whose address it has still to write
+    failover.press("k")
     failover.value("location.hash = '#line-9'")
     wait(failover)
     assert failover.text("#row-head") == "Line 9, 0.000 s: comments"
