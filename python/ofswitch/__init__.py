@@ -7,7 +7,7 @@
         switch.port_add(2)
         switch.connect()                  # [Answer(HELLO xid 0, ..)]
         switch.feed(message)              # the answers, and the frames that leave
-        switch.frame(1, frame)            # [Sent(port=2, frame=..)], or [Answer(PACKET_IN xid 0, ..)]
+        switch.frame(1, frame)            # [Sent(2, eth 02:.. > ..)], or [Answer(PACKET_IN xid 0, ..)]
 
 `Bridge` connects a real controller in its own process. `Network` has several switches with links between them. `check` finds flows
 that never win, `diff` the frames that two switches treat differently, and `paths` the steps that the frames take that a switch

@@ -15,6 +15,7 @@ from types import FrameType
 from typing import NoReturn, TextIO
 
 from . import capture, interfaces, picture, rows, shrink_file, view
+from .accepting import AcceptError
 from .bridge import Bridge
 from .connection import Address
 from .effects import Effect
@@ -75,8 +76,9 @@ everything that happens in an event file as a capture for Wireshark. Standard er
 """
 
 CAPTURE_STATUSES = """
-Exit status: 0 done, and nothing differs; 1 bad arguments; 2 a line of an event file is not a valid row; 3 a file cannot be opened or
-is not a capture, or the program is missing or ended; 4 the recorded switch differs from the specified one.
+Exit status: 0 done, and nothing differs; 1 bad arguments; 2 a line of an event file is not a valid row, or there is no connection to
+compare; 3 a file cannot be opened, or is not a capture or not what --json prints, or the program is missing or ended; 4 the recorded
+switch differs from the specified one.
 """
 
 
@@ -177,7 +179,7 @@ def add_view(commands: argparse._SubParsersAction[Parser]) -> None:
     view.add_argument("-o", dest="out", metavar="PAGE", required=True, help="the HTML file that is written")
     view.add_argument("--frame", metavar="FRAME", help="a frame whose fate is shown, in hexadecimal digits or in words (docs/TRACE.md)")
     view.add_argument("--port", metavar="N", type=port, help="the port at which the frame comes in, unless its words say it")
-    view.add_argument("--dpid", metavar="N", type=dpid, help="the datapath_id (by default 1)")
+    view.add_argument("--dpid", metavar="N", type=dpid, help="the datapath_id (by default the one that the first line of the file names, or 1)")
     view.add_argument("--program", metavar="PATH", help="the program ofswitch (by default OFSWITCH, or the one on the PATH)")
 
 
@@ -200,11 +202,13 @@ def add_capture(commands: argparse._SubParsersAction[Parser]) -> None:
         "--out", dest="outputs", metavar="N=FILE", type=port_file, action="append", default=[],
         help="a capture of the frames that left by port N, to be compared",
     )
+    compare.add_argument("--json", action="store_true", help="print the differences as one JSON document (docs/JSON.md)")
+    compare.add_argument("--accept", metavar="FILE", help="differences that are known and no longer count: what --json printed for an earlier capture")
     frames.add_argument("file", metavar="FILE", help="a pcap or pcapng file of Ethernet frames")
     frames.add_argument("--port", metavar="N", type=port, required=True, help="the port that receives them")
     pcap.add_argument("file", metavar="EVENTS", help="an event file")
     pcap.add_argument("out", metavar="OUT", help="the pcapng file that is written")
-    pcap.add_argument("--dpid", metavar="N", type=dpid, help="the datapath_id (by default 1)")
+    pcap.add_argument("--dpid", metavar="N", type=dpid, help="the datapath_id (by default the one that the first line of the file names, or 1)")
     for it in (compare, pcap):
         it.add_argument("--program", metavar="PATH", help="the program ofswitch (by default OFSWITCH, or the one on the PATH)")
 
@@ -220,7 +224,7 @@ def add_shrink(commands: argparse._SubParsersAction[Parser]) -> None:
     shrink.add_argument("--nth", metavar="K", type=count, help="change K of the frame, from 1, instead of the last one")
     shrink.add_argument("--fields", action="store_true", help="also leave out fields of FLOW_MODs, and cut frames at their headers")
     shrink.add_argument("--test", metavar="OUT", help="write a test for pytest with the rows, and what the last one does, to this file")
-    shrink.add_argument("--dpid", metavar="N", type=dpid, default=1, help="the datapath_id (by default 1)")
+    shrink.add_argument("--dpid", metavar="N", type=dpid, help="the datapath_id (by default the one that the first line of the file names, or 1)")
     shrink.add_argument("--program", metavar="PATH", help="the program ofswitch (by default OFSWITCH, or the one on the PATH)")
 
 
@@ -238,8 +242,8 @@ def pattern(word: str) -> re.Pattern[str]:
 
 
 def port(word: str) -> int:
-    if not (word.isascii() and word.isdigit() and int(word) < 1 << 32):
-        raise argparse.ArgumentTypeError("a port is a number of 32 bits")
+    if not (word.isascii() and word.isdigit() and 1 <= int(word) <= rows.MOST_PORT):
+        raise argparse.ArgumentTypeError(f"a port is a number from 1 to {rows.MOST_PORT}")
     return int(word)
 
 
@@ -389,8 +393,14 @@ def main() -> int:
             "mininet": run_mininet,
             "shrink": shrink_file.run,
         }
-        return commands[asked.command](asked)
-    except (ProgramError, CaptureError, InterfaceError, OSError) as fault:
+        status = commands[asked.command](asked)
+        sys.stdout.flush()
+        return status
+    except BrokenPipeError:
+        # nobody reads on, as with `| head`; nothing is written at the end, either
+        os.dup2(os.open(os.devnull, os.O_WRONLY), sys.stdout.fileno())
+        return FAULT
+    except (ProgramError, CaptureError, AcceptError, InterfaceError, OSError) as fault:
         if asked.command in ("draw", "view") and isinstance(fault, ProgramError) and fault.status is not None and fault.status > 0:
             # the program says what is wrong with the file
             print(fault.said, file=sys.stderr)

@@ -2,6 +2,7 @@
 
 from __future__ import annotations
 
+import contextlib
 import importlib.util
 import select
 import socket
@@ -20,6 +21,9 @@ from .units import messages_of
 Send = Callable[[bytes], None]
 
 _READ_SIZE = 65_536
+
+# How long a controller may take to end, in seconds.
+_END_WAIT = 5.0
 
 
 class Application(Protocol):
@@ -77,12 +81,7 @@ class RemoteApplication:
         self._process = subprocess.Popen(words, stdout=subprocess.DEVNULL, stderr=subprocess.DEVNULL) if words else None
 
     def connected(self, dpid: int, send: Send) -> None:
-        dialer, waker, end = Dialer(self.address), Waker(), time.monotonic() + self._timeout
-        while (stream := dialer.meet(waker)) is None:
-            if time.monotonic() > end:
-                raise TimeoutError(f"no controller listens at {self.address[0]}:{self.address[1]}")
-        waker.close()
-        self._streams[dpid], self._sends[dpid], self._rests[dpid] = stream, send, b""
+        self._streams[dpid], self._sends[dpid], self._rests[dpid] = self._dialed(), send, b""
         self._hear()
 
     def message(self, dpid: int, data: bytes) -> None:
@@ -98,7 +97,22 @@ class RemoteApplication:
             stream.close()
         if self._process is not None:
             self._process.terminate()
-            self._process.wait()
+            try:
+                self._process.wait(_END_WAIT)
+            except subprocess.TimeoutExpired:
+                self._process.kill()
+                self._process.wait()
+
+    def _dialed(self) -> socket.socket:
+        """A new connection with the controller, which may still be about to listen."""
+        dialer, end = Dialer(self.address), time.monotonic() + self._timeout
+        with contextlib.closing(Waker()) as waker:
+            while (stream := dialer.meet(waker)) is None:
+                if self._process is not None and self._process.poll() is not None:
+                    raise ConnectionError(f"the controller ended with status {self._process.returncode}")
+                if time.monotonic() > end:
+                    raise TimeoutError(f"no controller listens at {self.address[0]}:{self.address[1]}")
+        return stream
 
     def _hear(self) -> None:
         """Passes on what the controller sends, until it has sent nothing for a while."""

@@ -6,14 +6,14 @@ from collections import Counter
 from collections.abc import Iterator
 from dataclasses import dataclass, field
 from itertools import zip_longest
-from typing import Any
+from typing import Any, NamedTuple
 
 from . import rows
-from .effects import Answer, Effect, Sent
+from .effects import Answer, Closed, Effect, Sent
 from .fields import fields_of, short, summary, words
 from .message_types import MessageType, message_name
 from .recording import Moment
-from .sessions import Message
+from .sessions import Message, Session
 
 # Fields that may differ between two switches: when something happened, and the number under which a packet is held.
 _NOT_COMPARED = {"duration_sec", "duration_nsec", "buffer_id"}
@@ -36,9 +36,26 @@ class Key:
     xid: int | None
     kind: int | None
 
+
+class Difference(NamedTuple):
+    """A place at which the recorded switch differs, as docs/JSON.md describes it, and how, a line for each difference."""
+
+    place: dict[str, Any]
+    lines: list[str]
+
     def __str__(self) -> str:
-        what = f"xid {self.xid}" if self.xid is not None else MessageType(self.kind or 0).name
-        return f"connection {self.connection}, {what}"
+        place, more = self.place, len(self.lines) - _MOST_LINES
+        messages = " + ".join(place.get("messages", []))
+        packet = f" (packet {place['packet']})" if "packet" in place else ""
+        what = f"xid {place['xid']}{' ' * bool(messages)}{messages}" if "xid" in place else messages or "its end"
+        head = f"port {place['port']}" if "port" in place else f"connection {place['connection']}, {what}{packet}"
+        listed = self.lines[:_MOST_LINES] + [f".. and {more} more"] * (more > 0)
+        return "\n    ".join([head, *listed])
+
+    @property
+    def about(self) -> tuple[Any, ...]:
+        """What remains the same in a capture of another run: the messages, the port, or the end of a connection (neither)."""
+        return self.place.get("port"), tuple(self.place["messages"]) if "messages" in self.place else None
 
 
 @dataclass
@@ -51,9 +68,12 @@ class Exchange:
     # the first packet of the capture that has one of them
     number: int | None = None
 
-    def place(self) -> str:
-        names = " + ".join(message_name(it.data) for it in self.requests)
-        return (f" {names}" if names else "") + (f" (packet {self.number})" if self.number is not None else "")
+    def place(self, key: Key) -> dict[str, Any]:
+        place: dict[str, Any] = {"connection": key.connection}
+        if key.xid is not None:
+            place["xid"] = key.xid
+        place["messages"] = [MessageType(key.kind or 0).name] if key.xid is None else [message_name(it.data) for it in self.requests]
+        return place if self.number is None else {**place, "packet": self.number}
 
     def differences(self) -> list[str]:
         """The differences of the recorded switch, one per line. The order of answers does not matter."""
@@ -70,6 +90,10 @@ class Comparison:
     exchanges: dict[Key, Exchange] = field(default_factory=dict)
     # the frames that the specified switch sent, by port
     sent: dict[int, list[bytes]] = field(default_factory=dict)
+    # the connections that the specified switch ended, each with the number of messages of the controller up to there
+    closed: dict[int, int] = field(default_factory=dict)
+    # how many messages of the controller there are, by connection
+    heard: Counter[int] = field(default_factory=Counter)
 
     def exchange(self, connection: int, data: bytes, number: int | None) -> Exchange:
         kind = data[1]
@@ -93,6 +117,7 @@ def compare(moments: list[Moment], effects: Iterator[list[Effect]]) -> Compariso
                 whole.exchange(connection, it.message.data, number).recorded.append(it.message.data)
             continue
         connection += it.row == rows.connect()
+        whole.heard[connection] += it.message is not None
         if it.message is not None and it.message.data[1] not in (MessageType.HELLO, MessageType.ECHO_REPLY):
             # an ECHO_REQUEST of the controller is found by its xid, like all other requests
             key = Key(connection, int.from_bytes(it.message.data[4:8], "big"), None)
@@ -103,31 +128,33 @@ def compare(moments: list[Moment], effects: Iterator[list[Effect]]) -> Compariso
                 whole.exchange(connection, effect.data, number).specified.append(effect.data)
             elif isinstance(effect, Sent):
                 whole.sent.setdefault(effect.port, []).append(effect.frame)
+            elif isinstance(effect, Closed):
+                whole.closed[connection] = whole.heard[connection]
     return whole
 
 
-def report(whole: Comparison, outputs: dict[int, list[bytes]]) -> tuple[list[str], int, int]:
-    """The differences as lines; the number of exchanges and ports that are alike, and of those that differ."""
-    lines: list[str] = []
-    alike = other = 0
-    for key, exchange in whole.exchanges.items():
-        if not (exchange.requests or exchange.recorded or exchange.specified):
-            continue
-        found = exchange.differences()
-        alike, other = alike + (not found), other + bool(found)
-        if found:
-            lines += [f"{key}{exchange.place()}", *_indented(found)]
-    for port, frames in sorted(outputs.items()):
-        found = list(_frame_differences(frames, whole.sent.get(port, [])))
-        alike, other = alike + (not found), other + bool(found)
-        if found:
-            lines += [f"port {port}", *_indented(found)]
-    return lines, alike, other
+def report(whole: Comparison, sessions: list[Session], outputs: dict[int, list[bytes]]) -> tuple[list[Difference], int]:
+    """The differences, and the number of exchanges, ends of connections and ports that are alike."""
+    kept = {key: it for key, it in whole.exchanges.items() if it.requests or it.recorded or it.specified}
+    found = [Difference(it.place(key), it.differences()) for key, it in kept.items()]
+    found += [Difference({"connection": number}, lines) for number, it in enumerate(sessions, 1) if (lines := _ends(whole, number, it)) is not None]
+    found += [Difference({"port": port}, [*_frame_differences(frames, whole.sent.get(port, []))]) for port, frames in sorted(outputs.items())]
+    other = [it for it in found if it.lines]
+    return other, len(found) - len(other)
 
 
-def _indented(found: list[str]) -> list[str]:
-    more = [f"    .. and {len(found) - _MOST_LINES} more"] * (len(found) > _MOST_LINES)
-    return [f"    {it}" for it in found[:_MOST_LINES]] + more
+def _ends(whole: Comparison, number: int, session: Session) -> list[str] | None:
+    """The difference of two ends of a connection, if there is one. None if neither switch ended it, or it is not known whether one did."""
+    is_closed = number in whole.closed
+    if session.ended_by == "unknown" or not is_closed and session.ended_by != "switch":
+        return None
+    if session.ended_by == "controller" and whole.closed[number] == whole.heard[number]:
+        # after its last message, so the recorded switch may have wanted to
+        return None
+    if is_closed and session.ended_by == "switch":
+        return []
+    recorded = "stays open" if session.ended_by == "nobody" else f"the {session.ended_by} ends it"
+    return [f"recorded: {recorded}", f"specified: {'the switch ends it' if is_closed else 'stays open'}"]
 
 
 def _frame_differences(recorded: list[bytes], specified: list[bytes]) -> Iterator[str]:

@@ -21,6 +21,7 @@ def paths(
     each: bool = False,
     to: int | str | None = None,
     steps: int | None = None,
+    ports: str | None = None,
     program: StrPath | None = None,
     timeout: float = 600.0,
 ) -> dict[str, Any]:
@@ -29,9 +30,10 @@ def paths(
     The switch is a text, or the path of a file (a `pathlib.Path`): flow text, an event file, or what `ovs-ofctl` prints. With
     `port` only frames that come in by that port are divided, and with `match` those that match: `"ip,nw_dst=10.0.0.0/8"`. With
     `each` each set of frames is a path of its own, with a frame of it. With `to` only paths are returned that lead there: the
-    number of a port, `"controller"` or `"drop"`. `steps` is that of `--steps`. ValueError if an argument or the text has a fault.
+    number of a port, `"controller"` or `"drop"`. `ports` are those of a switch of flow text or `ovs-ofctl` (`"1-8,100"`; by default
+    1 to 4 and those that it names), and `steps` is that of `--steps`. ValueError if an argument or the text has a fault.
     """
-    given = {"--port": port, "--match": match, "--to": to, "--steps": steps}
+    given = {"--port": port, "--match": match, "--to": to, "--steps": steps, "--ports": ports}
     options = [word for name, value in given.items() if value is not None for word in (name, str(value))]
     if each:
         options.append("--each")

@@ -8,7 +8,9 @@ from typing import Any, Union
 
 from .errors import error_name
 from .fields import fields_of, summary
+from .frame_text import in_words
 from .message_types import MessageType
+
 
 @dataclass(frozen=True, repr=False)
 class Answer:
@@ -54,12 +56,15 @@ class Answer:
         return f"a {self.data.hex()}"
 
 
-@dataclass(frozen=True)
+@dataclass(frozen=True, repr=False)
 class Sent:
-    """A frame that leaves by a port."""
+    """A frame that leaves by a port. Its `repr` has the frame in words, and then its bytes."""
 
     port: int
     frame: bytes
+
+    def __repr__(self) -> str:
+        return f"Sent({self.port}, {in_words(self.frame)}: {self.frame.hex()})"
 
     def __str__(self) -> str:
         return f"s {self.port} {self.frame.hex()}"

@@ -11,15 +11,15 @@ from typing import Any
 
 from .applications import application_of
 from .effects import Answer, Effect, Sent
-from .fields import fields_of, words
+from .fields import brief
 from .laboratory import Action, Condition, Fault, Laboratory, Place, Played, Topology, all_reach, no_error, no_loop
 from .message_types import message_name
+from .questions import comparable
 from .shrinking import fewest
 from .switch import Switch
 
-# How many columns of a row a story shows, and which fields of a message.
+# How many columns of a row a story shows.
 _COLUMNS = 40
-_SHOWN = ("command", "priority", "match", "instructions", "in_port", "actions")
 
 TEST = '''"""{fault}"""
 
@@ -124,6 +124,8 @@ def explore(
     `application` makes the controller: a class of os-ken, or anything that makes an `Application`. Raises Found if a schedule ends
     with a fault, after it was made as short as possible (docs/EXPLORE.md).
     """
+    # of pytest: a failure shows the line of the test
+    __tracebackhide__ = True
     experiment = Experiment(application, Topology(switches, hosts, links, moves), always, at_rest, new_switch)
     if schedule is not None:
         outcome = experiment.run(schedule)
@@ -142,17 +144,28 @@ def explore(
 def _shrunk(experiment: Experiment, actions: list[Action], outcome: Outcome, where: str) -> Found:
     """The fewest actions of a schedule that end with a fault of the same kind. If it ends in another way when it runs again, it is said."""
     again = experiment.run(actions)
-    if (again.kind, again.lab.story) != (outcome.kind, outcome.lab.story):
+    if again.kind != outcome.kind or [*map(_without_xids, again.lab.story)] != [*map(_without_xids, outcome.lab.story)]:
         return Found(f"{where}; not deterministic: the same schedule did something else when it ran again, {again.fault or 'without a fault'}:", actions, outcome)
-    runs = 0
+    runs, last = 0, again
 
     def shows(some: list[Action]) -> bool:
-        nonlocal runs
+        nonlocal runs, last
         runs += 1
-        return experiment.run(some).kind == outcome.kind
+        found = experiment.run(some)
+        last = found if found.kind == outcome.kind else last
+        return found.kind == outcome.kind
 
     left = fewest(actions, shows, kind=lambda it: str(it[0]))
-    return Found(f"{where}: {len(actions)} actions, {len(left)} left after {runs} runs:", left, experiment.run(left))
+    # the last run that showed it was that of the actions that are left
+    return Found(f"{where}: {len(actions)} actions, {len(left)} left after {runs} runs:", left, last)
+
+
+def _without_xids(it: Action | Played) -> object:
+    """An action, or a row with its effects, without the xids: a controller may begin with any, as that of os-ken does."""
+    if not isinstance(it, Played):
+        return it
+    row = f"{it.row[:10]}{'0' * 8}{it.row[18:]}" if it.row.startswith("c ") else it.row
+    return it.switch, row, comparable([*it.effects])
 
 
 def _told(it: Action | Played) -> str:
@@ -160,7 +173,7 @@ def _told(it: Action | Played) -> str:
     if not isinstance(it, Played):
         return " ".join(map(str, it))
     row = it.row if len(it.row) <= _COLUMNS else f"{it.row[:_COLUMNS]}.."
-    message = f"  {_message_in_words(bytes.fromhex(it.row[2:]))}" if it.row.startswith("c ") else ""
+    message = f"  {brief(bytes.fromhex(it.row[2:]))}" if it.row.startswith("c ") else ""
     sent = ", ".join(map(_effect_in_words, it.effects))
     return f"    {it.switch}  {row}{message}" + (f"  -> {sent}" if sent else "")
 
@@ -169,11 +182,6 @@ def _effect_in_words(effect: Effect) -> str:
     if isinstance(effect, Sent):
         return f"out by port {effect.port}"
     return message_name(effect.data) if isinstance(effect, Answer) and effect.error is None else repr(effect)
-
-
-def _message_in_words(message: bytes) -> str:
-    fields = fields_of(message)
-    return ", ".join([message_name(message), *(f"{it} {words(fields[it])}" for it in _SHOWN if fields.get(it))])
 
 
 def written_test(found: Found, arguments: Mapping[str, Any]) -> str:

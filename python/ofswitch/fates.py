@@ -2,15 +2,19 @@
 
 from __future__ import annotations
 
+from collections import deque
 from collections.abc import Iterator, Sequence
 from dataclasses import dataclass, field
-from typing import NamedTuple
+from typing import TYPE_CHECKING, NamedTuple
 
 from . import rows
-from .program import MARK_ROW, Run, StrPath, find
+from .fields import brief
+from .program import MARK_ROW, MOST_READS, Run, StrPath, find
 from .rows import Octets
-from .switch import Switch
-from .units import Unit
+from .units import Unit, units_of
+
+if TYPE_CHECKING:
+    from .switch import Switch
 
 # How long the program may take for the rows between two questions, in seconds.
 _TIMEOUT = 600.0
@@ -18,8 +22,8 @@ _TIMEOUT = 600.0
 # How many questions one write has at most.
 _QUESTIONS = 2_000
 
-# The kinds of units after which a frame may have another fate.
-_CHANGING = {"FLOW_MOD", "GROUP_MOD", "PORT_MOD", "port", "time"}
+# The kinds of units after which a frame may have another fate; `bytes` are a row with any number of messages.
+_CHANGING = {"FLOW_MOD", "GROUP_MOD", "PORT_MOD", "port", "time", "bytes"}
 
 _TO_CONTROLLER = f"output {0xFFFFFFFD} "
 _EXPIRED = "dec_nw_ttl expired"
@@ -39,9 +43,12 @@ class Fate:
     way: tuple[str, ...] = field(compare=False)
 
     def __str__(self) -> str:
-        if not self.is_received:
-            return "not received"
-        return ", ".join(map(_in_words, self.items)) or "nothing leaves"
+        return ", ".join(it.partition(":")[0] if it.startswith("out ") else it for it in self.leaves)
+
+    @property
+    def leaves(self) -> list[str]:
+        """What leaves, in words, with the bytes of frames; or why nothing does."""
+        return [*map(_in_words, self.items)] or ["nothing leaves" if self.is_received else "not received"]
 
 
 class Change(NamedTuple):
@@ -54,23 +61,23 @@ class Change(NamedTuple):
 
 def fate(switch: Switch, port: int, frame: Octets, *, explain: bool = False) -> Fate:
     """The fate of a frame on a switch as it is now; with `explain` its way has the notes of `trace --explain`."""
-    return _fate_of(switch.steps(port, frame, explain=explain).splitlines())
+    return fate_of(switch.steps(port, frame, explain=explain).splitlines())
 
 
 def changes(units: Sequence[Unit], port: int, frame: Octets, *, program: StrPath | None = None, dpid: int = 1) -> Iterator[Change]:
     """All changes of the fate of a frame, in order: between them, and before the first, it stays the same."""
     # the first question ends the text of the effects
     question = f"{MARK_ROW.decode()}#? trace {rows.frame(port, frame).removeprefix('f ')}\n"
-    run = Run([find(program), "replay", "--dpid", str(dpid), "--ask", "--reads", str(Switch.MOST_READS), "-"], _TIMEOUT)
+    run = Run([find(program), "replay", "--dpid", str(dpid), "--ask", "--reads", str(MOST_READS), "-"], _TIMEOUT)
     asked = [place for place, it in enumerate(units) if it.kind in _CHANGING]
-    before, done = _fate_of([]), 0
+    before, done = fate_of([]), 0
     try:
         for some in (asked[at : at + _QUESTIONS] for at in range(0, len(asked), _QUESTIONS)):
             parts = zip([done, *(it + 1 for it in some)], some)
             text = "".join("".join(f"{it.row}\n" for it in units[start : end + 1]) + question for start, end in parts)
             done = some[-1] + 1
             for place, answer in zip(some, run.play_each(text.encode(), 2 * len(some))[1::2]):
-                after = _fate_of([it.decode() for it in answer])
+                after = fate_of([it.decode() for it in answer])
                 if after != before:
                     yield Change(place, before, after)
                 before = after
@@ -78,7 +85,23 @@ def changes(units: Sequence[Unit], port: int, frame: Octets, *, program: StrPath
         run.close()
 
 
-def _fate_of(lines: list[str]) -> Fate:
+def last_change(lines: Sequence[str], *, program: StrPath | None = None, dpid: int = 1) -> list[str]:
+    """What becomes of the last frame of an event file, since which line, and what did it, in words; nothing without a frame."""
+    count = next((count for count in range(len(lines), 0, -1) if lines[count - 1].startswith("f ")), 0)
+    if not count:
+        return []
+    _, port, digits = lines[count - 1].split(" ")
+    units = units_of(lines[: count - 1])
+    found = deque(changes(units, int(port), bytes.fromhex(digits.strip("-")), program=program, dpid=dpid), maxlen=1)
+    if not found:
+        return [f"the frame of line {count}: not received"]
+    [(place, before, after)] = found
+    row = units[place].row
+    did = brief(bytes.fromhex(row[2:])) if row.startswith("c ") else row
+    return [f"the frame of line {count}, since line {units[place].line}: {after} (before: {before})", f"    {did}"]
+
+
+def fate_of(lines: list[str]) -> Fate:
     """The fate that a trace in lines tells (docs/TRACE.md)."""
     items = [it for it in lines if it.startswith(("s ", _TO_CONTROLLER)) or it == _EXPIRED]
     # the values that a lookup sees are named by the matches of other entries, too; a message has a buffer id
@@ -88,5 +111,6 @@ def _fate_of(lines: list[str]) -> Fate:
 
 def _in_words(item: str) -> str:
     if item.startswith("s "):
-        return f"out by port {item.split(' ')[1]}"
+        _, port, frame = item.split(" ")
+        return f"out by port {port}: {frame}"
     return "to the controller: invalid TTL" if item == _EXPIRED else "to the controller"

@@ -46,6 +46,9 @@ _REASONS = {
 _FLOW_COMMANDS = ["ADD", "MODIFY", "MODIFY_STRICT", "DELETE", "DELETE_STRICT"]
 _GROUP_COMMANDS = ["ADD", "MODIFY", "DELETE"]
 
+# The fields that a short line about a message shows.
+_BRIEF = ("command", "priority", "match", "instructions", "in_port", "actions")
+
 # Structures: a name, and a number of bytes, or `h` for a hardware address, or `sN` for a text of N bytes. `pad` is left out.
 _PORT = "port_no 4 pad 4 hw_addr h pad 2 name s16 config 4 state 4 curr 4 advertised 4 supported 4 peer 4 curr_speed 4 max_speed 4"
 _PORT_STATS = (
@@ -153,6 +156,17 @@ def summary(message: bytes, most: int = 60) -> str:
     except ValueError as fault:
         told = [str(fault)]
     return ", ".join([f"{name} xid {int.from_bytes(message[4:8], 'big')}", *told])
+
+
+def brief(message: bytes) -> str:
+    """The name of a message, and the fields of it that say the most about a switch."""
+    if len(message) < 8:
+        return message.hex()
+    try:
+        fields = fields_of(message)
+    except ValueError as fault:
+        return f"{message_name(message)}, {fault}"
+    return ", ".join([message_name(message), *(f"{it} {words(fields[it])}" for it in _BRIEF if fields.get(it))])
 
 
 def words(value: object) -> str:

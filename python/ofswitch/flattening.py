@@ -98,7 +98,7 @@ def network_paths(switches: Mapping[str, Switch], links: Links, start: Place, ma
     if match is not None and "in_port" in match:
         raise ValueError("in_port: the port is an argument of its own")
     flat = _Flat(switches, links, start, hops)
-    found = paths(flat.text(), port=flat.hosts[start], match=match, steps=steps, program=switches[start[0]].program)
+    found = paths(flat.text(), port=flat.hosts[start], match=match, steps=steps, ports=flat.ports(), program=switches[start[0]].program)
     shown = [flat.path(it, follow(switches, links, _MOST_TRACED, start, bytes.fromhex(it["frame"]))) for it in found["paths"]]
     return NetworkPaths(tuple(shown), tuple(found["undecided"]))
 
@@ -117,6 +117,10 @@ class _Flat:
             raise NotFlat(start[0], f"port {start[1]}", f"the network has {len(self.hosts)} ports without a link, and a flat switch {_MOST_PORTS - 1}")
         self._names = list(switches)
         self._flows = {name: _flows(switch) for name, switch in switches.items()}
+
+    def ports(self) -> str:
+        """The ports of the flat switch, also those that no entry names."""
+        return f"1-{len(self.hosts)},{_UNDER_WAY}"
 
     def text(self) -> str:
         """The flow text of the flat switch."""

@@ -134,6 +134,7 @@ class Seen:
     master: str | None
     # those that are not of the link alone
     addresses: tuple[str, ...]
+    is_promiscuous: bool = False
 
 
 def seen(name: str) -> Seen:
@@ -161,6 +162,7 @@ def _as_seen(it: dict[str, Any]) -> Seen:
         is_up="UP" in flags and "LOWER_UP" in flags,
         master=it.get("master"),
         addresses=tuple(f"{one['local']}/{one['prefixlen']}" for one in addresses),
+        is_promiscuous="PROMISC" in flags,
     )
 
 
@@ -302,9 +304,11 @@ class Joined:
             except InterfaceError as fault:
                 raise InterfaceError(f"{name} may have filters of its own, which `tc qdisc delete dev {name} clsact` removes: {fault}") from None
             self._undo.callback(_batch, "tc", [f"qdisc delete dev {name} clsact"], is_checked=False)
-            self._undo.callback(_batch, "ip", [f"link set {name} promisc off"], is_checked=False)
         _batch("tc", (f"qdisc add dev {self.tunnel(it)} clsact" for it in self._taken))
-        _batch("ip", (f"link set {name} promisc on" for name in self._taken.values()))
+        # those that were promiscuous before stay so
+        quiet = [name for number, name in self._taken.items() if not self.seen[number].is_promiscuous]
+        self._undo.callback(_batch, "ip", [f"link set {name} promisc off" for name in quiet], is_checked=False)
+        _batch("ip", (f"link set {name} promisc on" for name in quiet))
         every = self._every_frame(next(iter(self._taken)))
         pairs = [(name, self.tunnel(number)) for number, name in self._taken.items()]
         _batch("tc", (_redirected(here, every, there) for one, other in pairs for here, there in ((one, other), (other, one))))

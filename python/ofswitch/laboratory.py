@@ -17,7 +17,7 @@ Action = tuple[Union[str, int], ...]
 # A port of a switch.
 Place = tuple[str, int]
 
-# The most deliveries of one rest.
+# The most deliveries of one rest, for each switch.
 _MOST_DELIVERIES = 400
 
 # How many seconds pass with one action `time`.
@@ -61,6 +61,16 @@ class Topology:
     links: Sequence[tuple[str, int, str, int]] = ()
     moves: Sequence[Place] = ()
 
+    def __post_init__(self) -> None:
+        """ValueError for a port that does not exist, or that has two of these."""
+        ends = [end for one, port, other, its in self.links for end in ((one, port), (other, its))]
+        places = Counter([*ends, *self.hosts.values(), *self.moves])
+        for (switch, port), count in places.items():
+            if not 1 <= port <= self.switches.get(switch, 0):
+                raise ValueError(f"there is no port {port} of {switch}")
+            if count > 1:
+                raise ValueError(f"port {port} of {switch} has {count} ends of links, hosts or free places")
+
 
 Condition = Callable[["Laboratory"], object]
 
@@ -94,20 +104,26 @@ class Laboratory:
         self._seconds = 0
         self._number = 0
         try:
+            # all of them begin before the first one has to answer
+            for name in topology.switches:
+                self._add(name, new_switch)
             for name, ports in topology.switches.items():
-                self._add(name, ports, new_switch)
+                self._add_ports(name, ports)
         except BaseException:
             # such as a program that is missing: a controller in a process of its own must not be left behind
             self.close()
             raise
 
-    def _add(self, name: str, ports: int, new_switch: Callable[..., Switch]) -> None:
+    def _add(self, name: str, new_switch: Callable[..., Switch]) -> None:
         dpid = self._dpids[name] = len(self.switches) + 1
         switch = self.switches[name] = new_switch(dpid=dpid)
         self._up[name], self._down[name] = deque(), deque()
         switch.watch(lambda row, effects: self._see(name, row, effects))
-        # an address that no other port of the network has
-        switch.play_all(rows.port_add(port, f"02{dpid:06x}{port:04x}", None, True) for port in range(1, ports + 1))
+
+    def _add_ports(self, name: str, ports: int) -> None:
+        # addresses that no other port of the network has
+        addresses = {port: f"02{self._dpids[name]:06x}{port:04x}" for port in range(1, ports + 1)}
+        self.switches[name].play_all(rows.port_add(port, it, None, True) for port, it in addresses.items())
 
     def start(self) -> None:
         """Connects all switches, and delivers everything."""
@@ -134,12 +150,13 @@ class Laboratory:
 
     def rest(self) -> None:
         """Delivers all messages and frames, until none is on its way."""
-        for _ in range(_MOST_DELIVERIES):
+        most = _MOST_DELIVERIES * len(self.switches)
+        for _ in range(most):
             action = next(self._deliveries(), None)
             if action is None:
                 return
             self.do(action)
-        raise Fault("not quiet", f"after {_MOST_DELIVERIES} deliveries messages or frames are still on their way")
+        raise Fault("not quiet", f"after {most} deliveries messages or frames are still on their way")
 
     def arrivals(self, source: str, to: str) -> int:
         """A host sends a frame to another, and all is delivered: how often that frame arrives."""

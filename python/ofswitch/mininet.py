@@ -11,6 +11,7 @@ import os
 import subprocess
 import sys
 import tempfile
+import threading
 from typing import IO, Any, NoReturn
 
 from mininet.log import error, warn
@@ -65,7 +66,7 @@ class OFSwitch(Switch):  # type: ignore[misc]
         if self.inNamespace:
             raise InterfaceError(f"{self.name}: ofswitch runs in Mininet's own namespace, not with inNamespace")
         ports: dict[int, Interface] = {number: Taken(str(it)) for number, it in self.intfs.items() if str(it) != "lo"}
-        words = ["--dpid", str(int(self.dpid, 16))]
+        words = [*self._datapath()]
         if controllers:
             if len(controllers) > 1:
                 warn(f"{self.name}: ofswitch has one controller, {controllers[0].name}\n")
@@ -81,12 +82,32 @@ class OFSwitch(Switch):  # type: ignore[misc]
             raise ProgramError(f"{self.name}: ofswitch ended: {self.printed()}")
         if not self._takes_rows:
             warn(f"{self.name}: this ofswitch takes no rows while it runs, so a link that goes down stays up for it\n")
+        threading.Thread(target=self._warn_at_end, args=[self.live], daemon=True).start()
 
     def stop(self, deleteIntfs: bool = True) -> None:
         if self.live is not None:
-            self.live.close()
-            self.live = None
+            # nobody is warned then
+            live, self.live = self.live, None
+            live.close()
         super().stop(deleteIntfs)
+
+    def ended(self) -> str | None:
+        """Why the program has ended by itself: its exit status, and what it printed last. None while it runs, and after `stop`."""
+        status = None if self.live is None else self.live.poll()
+        if status is None:
+            return None
+        said = self.printed().split("\n")
+        last = next(filter(None, reversed(said)), "it printed nothing")
+        return f"{self.name}: ofswitch ended with status {status}: {last}"
+
+    def _warn_at_end(self, live: LiveSwitch) -> None:
+        live.wait()
+        if self.live is live:
+            warn(f"{self.ended()}\n")
+
+    def _datapath(self) -> list[str]:
+        """The option of the datapath_id, whose digits are hexadecimal in Mininet."""
+        return ["--dpid", str(int(self.dpid, 16))]
 
     def printed(self) -> str:
         """What the program has printed: its connections, and faults."""
@@ -95,19 +116,26 @@ class OFSwitch(Switch):  # type: ignore[misc]
         return os.pread(self._printed.fileno(), 1 << 20, 0).decode(errors="replace")
 
     def connected(self) -> bool:
-        """Whether a controller is connected."""
+        """Whether the program runs, and a controller is connected."""
+        if self.ended() is not None:
+            return False
         lines = [it for it in self.printed().splitlines() if it.startswith(("connection with ", "connection ended"))]
         return bool(lines) and lines[-1].startswith("connection with ")
 
     def dpctl(self, *words: str) -> str:
-        """Answers from the log: `dump-flows`, the groups and flow tables now; `check`, flows that never win; `explain`, all events in words."""
+        """Answers from the log: `dump-flows`, the groups and flow tables now; `check`, flows that never win; `explain`, all events in words.
+
+        If the program has ended, the first line says so.
+        """
         command = _ANSWERS.get(words[0] if words else "")
         if command is None or len(words) > 1:
             return f"ofswitch answers {', '.join(_ANSWERS)}\n"
         if self.log is None:
             return "this switch has no log to answer from: give it log=FOLDER\n"
-        done = subprocess.run([self.program, *command, self.log], capture_output=True, text=True)
-        return done.stdout + done.stderr
+        options = self._datapath() if command[0] == "replay" else []
+        done = subprocess.run([self.program, *command, *options, self.log], capture_output=True, text=True)
+        ended = self.ended()
+        return ("" if ended is None else f"{ended}\n") + done.stdout + done.stderr
 
     def flows(self) -> str:
         """The groups and flow tables now, as flow text (docs/FLOWTEXT.md)."""

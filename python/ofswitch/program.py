@@ -20,6 +20,9 @@ StrPath = Union[str, "os.PathLike[str]"]
 MARK_ROW = b"#? mark\n"
 ANSWER_END = b"?"
 
+# The most reads of a run (docs/EVENTS.md).
+MOST_READS = 4_294_967_295
+
 # How many bytes a read asks for, here and in the program.
 _READ_SIZE = 65_536
 

@@ -11,6 +11,7 @@ from typing import Any
 import pytest
 
 from . import exploring
+from .fates import last_change
 from .network import Network
 from .program import ProgramError
 from .questions import printed_by
@@ -84,6 +85,8 @@ def explore(request: pytest.FixtureRequest, tmp_path: Path) -> Callable[..., int
     """`ofswitch.exploring.explore`, which leaves what it finds as a test, event files and a story (docs/EXPLORE.md)."""
 
     def run(**words: Any) -> int:
+        # a failure shows the line of the test
+        __tracebackhide__ = True
         options = {name: request.config.getoption(f"--ofswitch-{name}", default=None) for name in ("seconds", "seed")}
         try:
             return exploring.explore(**{**words, **{name: it for name, it in options.items() if it is not None}})
@@ -158,10 +161,11 @@ def _small_account(switch: Switch, path: Path, small: Shrunk) -> str:
 def _account(switch: Switch, path: Path) -> str:
     command = shlex.join(["ofswitch", "replay", *switch.replay_options, "--explain", str(path)])
     try:
+        since = last_change(switch.log.split("\n"), program=switch.program, dpid=switch.dpid)
         lines = switch.explain().splitlines()
     except ProgramError as fault:
-        lines = [str(fault)]
-    return "\n".join([command, "", *_last(lines)])
+        since, lines = [], [str(fault)]
+    return "\n".join([command, "", *map(_short, since), *[""] * bool(since), *_last(lines)])
 
 
 def _last(lines: list[str]) -> list[str]:

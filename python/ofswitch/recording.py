@@ -19,6 +19,9 @@ _ADD, _DELETE = 0, 1
 # ofp_port_state (OpenFlow 1.3.5, 7.2.1)
 _LINK_DOWN = 1
 
+# The most bytes of a frame of a row, with room for its word and its port.
+_MOST_FRAME_BYTES = (rows.MOST_BYTES - len("f 4294967295 ")) // 2
+
 # A port, and a capture of its frames.
 PortFile = tuple[int, StrPath]
 
@@ -170,7 +173,8 @@ def _frame_of(data: bytes) -> tuple[int, bytes] | None:
         frame = data[24 + (size + 7) // 8 * 8 + 2 :]
         while oxms:
             name, value = oxm_field(oxms)
-            if name == "in_port" and 1 <= value <= rows.MOST_PORT and len(frame) == total:
+            # a field with a mask is a string
+            if name == "in_port" and isinstance(value, int) and 1 <= value <= rows.MOST_PORT and len(frame) == total:
                 return value, frame
     except (ValueError, struct.error):
         pass
@@ -185,16 +189,18 @@ def _frame_rows(told: _Told, frame: tuple[int, bytes] | None) -> Iterator[str]:
 
 
 def frames(path: StrPath, notes: Notes) -> Iterator[tuple[int, bytes]]:
-    """The times and the frames of a capture. Truncated frames are left out."""
-    cut, others = [], []
+    """The times and the frames of a capture. Truncated frames are left out, and those that are too long for a row."""
+    cut, others, long = [], [], []
     for packet in kept_packets(path, notes):
         if packet.is_cut:
             cut.append(packet.number)
         elif packet.link != ETHERNET:
             others.append(packet.number)
+        elif len(packet.data) > _MOST_FRAME_BYTES:
+            long.append(packet.number)
         else:
             yield packet.nanoseconds, packet.data
-    for numbers, why in ((cut, "the capture has not kept all of"), (others, "no Ethernet frame:")):
+    for numbers, why in ((cut, "the capture has not kept all of"), (others, "no Ethernet frame:"), (long, "too long for a row:")):
         if numbers:
             notes.add(f"{path}: {why} packet {numbers[0]}{f' and {len(numbers) - 1} more' if numbers[1:] else ''}; left out")
 

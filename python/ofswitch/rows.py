@@ -49,6 +49,7 @@ _ROW = re.compile(
     rf"|port (?:add (?P<added>{_NUMBER}) {_HW.pattern} {_NAME.pattern} (?:up|down)"
     rf"|remove (?P<removed>{_NUMBER})|link (?P<linked>{_NUMBER}) (?:up|down))"
 )
+_SAID_DPID = re.compile(r"#.* --dpid (0x[0-9a-f]{1,16}|[1-9][0-9]{0,18})")
 _BITS = {"port": 32, "nanos": 64, "added": 32, "removed": 32, "linked": 32}
 
 
@@ -77,6 +78,12 @@ def as_bytes(octets: Octets) -> bytes:
 def dpid(value: int) -> int:
     """A datapath_id."""
     return _number(value, 64)
+
+
+def said_dpid(row: str) -> int:
+    """The datapath_id that the first line of an event file names, such as `# replay with --dpid 2`; 1 if it names none."""
+    said = _SAID_DPID.fullmatch(row)
+    return dpid(int(said[1], 0)) if said else 1
 
 
 def connect() -> str:

@@ -5,7 +5,7 @@ from __future__ import annotations
 from collections import Counter
 from collections.abc import Iterator
 from dataclasses import dataclass, field
-from typing import NamedTuple
+from typing import Literal, NamedTuple
 
 from . import tcp
 from .message_types import MessageType
@@ -13,6 +13,9 @@ from .pcap import CaptureError, Packet, packets
 from .program import StrPath
 
 _VERSION = 4
+
+# The versions that a HELLO may have: 1.0 to 1.5.
+_VERSIONS = range(1, 7)
 
 _OF_SWITCH = {
     MessageType.FEATURES_REPLY,
@@ -53,6 +56,8 @@ class Session:
     messages: list[Message]
     # when it ended, if the capture shows it
     ended: int | None
+    # the side that ended it first; "unknown" if bytes are missing
+    ended_by: Literal["switch", "controller", "nobody", "unknown"] = "unknown"
     datapath: int | None = None
 
 
@@ -61,8 +66,15 @@ class _Side:
     """The bytes that one side of a connection has sent."""
 
     end: tcp.End
+    # whether the capture has its first bytes
+    is_begun: bool
     messages: list[tuple[tcp.Piece, bytes]] = field(default_factory=list)
     rest: bytes = b""
+
+    @property
+    def begins_with_hello(self) -> bool:
+        first = self.messages[0][1] if self.messages else bytes(2)
+        return first[0] in _VERSIONS and first[1] == MessageType.HELLO
 
     def add(self, piece: tcp.Piece) -> None:
         self.rest += piece.data
@@ -112,19 +124,20 @@ def read(path: StrPath, port: int | None, datapath: int | None, notes: Notes) ->
 
 
 def _sides(connection: tcp.Connection, notes: Notes) -> tuple[_Side, _Side] | None:
-    """The messages of both sides, if they begin with HELLO and continue with OpenFlow 1.3."""
+    """The messages of both sides, if one side begins with HELLO, the beginnings of both are there, and they speak OpenFlow 1.3."""
     gap = connection.end_at_gap()
-    sides = (_Side(connection.sides[0]), _Side(connection.sides[1]))
+    sides = (_Side(connection.sides[0], connection.has_begin_of(0)), _Side(connection.sides[1], connection.has_begin_of(1)))
     for piece in connection.pieces:
         sides[piece.side].add(piece)
-    firsts = [side.messages[0][1][1] if side.messages else None for side in sides]
-    if firsts != [MessageType.HELLO, MessageType.HELLO]:
+    # a first message that is no HELLO is a fault that a switch has to answer, if it is the first one
+    hellos = [side.begins_with_hello for side in sides]
+    if not any(hellos) or not all(hello or side.is_begun for hello, side in zip(hellos, sides)):
         if connection.pieces:
             notes.add(f"{connection.name}: the capture does not have the HELLO of both sides; left out")
         return None
-    others = {data[0] for side in sides for _, data in side.messages[1:]} - {_VERSION}
-    if others:
-        notes.add(f"{connection.name}: messages of version {min(others)}, and not of OpenFlow 1.3 (version 4); left out")
+    versions = {data[0] for side in sides for _, data in side.messages if data[1] != MessageType.HELLO}
+    if versions and _VERSION not in versions:
+        notes.add(f"{connection.name}: messages of version {min(versions)}, and not of OpenFlow 1.3 (version 4); left out")
         return None
     if connection.cut:
         notes.add(f"{connection.name}: the capture has only a part of packet {connection.cut[0]}{_more(connection.cut)}")
@@ -162,6 +175,8 @@ def _session(connection: tcp.Connection, sides: tuple[_Side, _Side], switch: int
     ]
     messages.sort(key=lambda it: it.number)
     session = Session(connection.name, connection.pieces[0].nanoseconds, messages, connection.ended)
+    if not connection.is_cut_off:
+        session.ended_by = "nobody" if connection.ended_by is None else "switch" if connection.ended_by == switch else "controller"
     features = [it.data for it in messages if it.is_of_switch and it.data[1] == MessageType.FEATURES_REPLY and len(it.data) >= 16]
     if features:
         session.datapath = int.from_bytes(features[0][8:16], "big")

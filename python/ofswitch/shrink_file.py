@@ -53,6 +53,8 @@ def run(asked: argparse.Namespace) -> int:
 
 def _run(asked: argparse.Namespace) -> int:
     lines = read_lines(Path(asked.file))
+    if asked.dpid is None:
+        asked.dpid = rows.said_dpid(lines[0])
     question, units = _question(asked, lines)
     small = shrink_units(units, asking(question, asked.dpid, asked.program), fields=asked.fields)
     sys.stdout.write(small.text)

@@ -17,7 +17,7 @@ from .checking import check
 from .difference import diff
 from .dividing import paths
 from .effects import Answer, Closed, Effect, Refused, effect_of
-from .program import MARK_ROW, ProgramError, Run, StrPath, file_of, find, reads_of, received, run_to_end
+from .program import MARK_ROW, MOST_READS, ProgramError, Run, StrPath, file_of, find, reads_of, received, run_to_end
 from .rows import Octets
 from .run_pcap import write_pcap
 from .view import write_page
@@ -31,9 +31,6 @@ class Controller(Protocol):
     def take(self, effects: list[Effect]) -> None:
         """Gets the effects of each row, as soon as it is played."""
 
-
-# A HELLO, and a MULTIPART_REQUEST of the type PORT_DESC.
-_PORT_DESC = bytes.fromhex("0400000800000000" "0412001000000001" "000d000000000000")
 
 # The most bytes of a log that stay in memory; a longer log goes to a temporary file.
 _LOG_IN_MEMORY = 1 << 24
@@ -62,7 +59,7 @@ class Switch:
     """
 
     # the most reads of the program; before that a new run takes over, which has played the same rows
-    MOST_READS = 4_294_967_295
+    MOST_READS = MOST_READS
 
     def __init__(
         self,

@@ -68,6 +68,8 @@ class _Stream:
         # the place and the sequence number of the next byte; no number before the first segment
         self.place = 0
         self.sequence: int | None = None
+        # the number of its first byte, if the capture has its SYN
+        self.first: int | None = None
         # a heap
         self.early: list[_Early] = []
         # the packets in which the other side acknowledges bytes, and up to which place
@@ -76,7 +78,7 @@ class _Stream:
 
     def begin(self, sequence: int) -> None:
         if self.place == 0:
-            self.sequence = sequence & _MASK
+            self.sequence = self.first = sequence & _MASK
 
     def place_of(self, sequence: int) -> int:
         """The place of a sequence number, which is assumed to be near the next byte."""
@@ -112,9 +114,13 @@ class Connection:
     def __init__(self, sides: tuple[End, End]) -> None:
         self.sides = sides
         self.pieces: list[Piece] = []
+        # when it ended, and the side that ended it first
         self.ended: int | None = None
+        self.ended_by: int | None = None
         # the packets of which the capture kept a part
         self.cut: list[int] = []
+        # whether bytes are missing, and what came after them was dropped
+        self.is_cut_off = False
         self._streams = (_Stream(), _Stream())
 
     @property
@@ -134,8 +140,18 @@ class Connection:
             taken = stream.add(packet.number, segment.sequence, segment.data)
             self.pieces += [Piece(packet.nanoseconds, packet.number, side, it) for it in taken]
         if segment.flags & (FIN | RST):
-            self.ended = self.ended or packet.nanoseconds
+            if self.ended_by is None:
+                self.ended, self.ended_by = packet.nanoseconds, side
             stream.is_ended = True
+
+    def has_begin_of(self, side: int) -> bool:
+        """Whether the capture has the SYN of a side, and so its first bytes are the first of all."""
+        return self._streams[side].first is not None
+
+    def is_begun_by(self, segment: Segment) -> bool:
+        """Whether this SYN may belong to it: it is the one with which it began, sent again, or no bytes were seen yet."""
+        first = self._streams[self.sides.index(segment.source)].first
+        return not self.pieces or first == (segment.sequence + 1) & _MASK
 
     def end_at_gap(self) -> str | None:
         """Drops everything after missing bytes, on both sides, and returns the place at which they are missing; None if none are."""
@@ -146,7 +162,8 @@ class Connection:
         kept = [it for it in self.pieces if it.number < number]
         left = len(self.pieces) - len(kept) + sum(len(it.early) for it in self._streams)
         self.pieces = kept
-        self.ended = None
+        self.ended = self.ended_by = None
+        self.is_cut_off = True
         return f"{self.name}: {count} bytes of {self.sides[side]} are missing before packet {number}; {left} segments from there on are left out"
 
 
@@ -164,7 +181,7 @@ def connections(captured: Iterable[Packet], port: int | None = None) -> list[Con
             continue
         key = frozenset((segment.source, segment.target))
         is_first = segment.flags & (SYN | ACK) == SYN
-        if key not in found or (is_first and found[key].pieces):
+        if key not in found or (is_first and not found[key].is_begun_by(segment)):
             sides = (segment.source, segment.target)
             # without the SYN the side with the greater port is taken for the one that connected
             if not segment.flags & SYN and sides[0].port < sides[1].port or segment.flags & (SYN | ACK) == SYN | ACK:

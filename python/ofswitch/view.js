@@ -121,7 +121,12 @@ function select(place) {
   drawTables();
 }
 
-const link = (place) => made("a", { href: `#line-${lines[place]}` }, `line ${lines[place]}`);
+function link(place) {
+  const it = made("a", { href: `#line-${lines[place]}` }, `line ${lines[place]}`);
+  // at once, and not when the browser has changed the address, which another row may do meanwhile
+  it.addEventListener("click", (event) => { event.preventDefault(); select(place); });
+  return it;
+}
 
 function drawRow() {
   const [row, ...notes] = rows[selected].split("\n");
@@ -292,8 +297,9 @@ function onKey(event) {
   action();
 }
 
-function fromHash() {
-  const [, number] = /^#line-(\d+)$/.exec(location.hash) || [null, Infinity];
+function fromHash(event) {
+  const { hash } = event ? new URL(event.newURL) : location;
+  const [, number] = /^#line-(\d+)$/.exec(hash) || [null, Infinity];
   select(Math.max(0, upTo(lines, (it) => it, Number(number)) - 1));
 }
 

@@ -25,9 +25,11 @@ class Page:
         self._to, self._from = to_browser, from_browser
         self._left, self._number, self._session = b"", 0, None
         self.faults = []
+        # what the page asks for
+        self.asked = []
         target = self.call("Target.createTarget", url="about:blank")["targetId"]
         self._session = self.call("Target.attachToTarget", targetId=target, flatten=True)["sessionId"]
-        for it in ("Page", "Runtime", "Log"):
+        for it in ("Page", "Runtime", "Log", "Network", "Performance"):
             self.call(f"{it}.enable")
         self.size(1280, 900)
 
@@ -46,6 +48,8 @@ class Page:
             assert "error" not in message, message
             if message.get("method") in ("Runtime.exceptionThrown", "Log.entryAdded"):
                 self.faults.append(message["params"])
+            if message.get("method") == "Network.requestWillBeSent":
+                self.asked.append(message["params"]["request"]["url"])
             if is_wanted(message):
                 return message
 
@@ -65,6 +69,10 @@ class Page:
         self._until(lambda it: it.get("method") == "Page.loadEventFired")
         self.value("new Promise((done) => { const see = () => document.body.ariaBusy === 'false' ? done() : setTimeout(see, 5); see(); })")
         return time.monotonic() - began
+
+    def processor_seconds(self):
+        """How long the page's tasks have run so far."""
+        return next(it["value"] for it in self.call("Performance.getMetrics")["metrics"] if it["name"] == "TaskDuration")
 
     def size(self, width, height):
         self.call("Emulation.setDeviceMetricsOverride", width=width, height=height, deviceScaleFactor=1, mobile=False)

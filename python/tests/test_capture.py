@@ -2,71 +2,26 @@
 
 import base64
 import os
-import pathlib
 import random
 import re
 import shutil
 import struct
 import subprocess
-import sys
 
 import messages
 import pytest
 from ofswitch import pcap, tcp
+from ofswitch.run_pcap import write_pcap
+from recordings import (
+    CAPTURES, FRAME, HELLOS, changed, features_reply, flags, has_data, of_link, packet_in, port_description, port_status, ports_reply,
+    ports_request, ran, recorded, records, rows_of, segments, written,
+)
 
 pytest_plugins = ["pytester"]
-
-CAPTURES = pathlib.Path(__file__).resolve().parent / "captures"
-COMMAND = [sys.executable, "-m", "ofswitch", "capture"]
-FRAME = bytes.fromhex("020000000002020000000001") + bytes.fromhex("88b5") + bytes(46)
-
-
-def ran(*words, status=0):
-    done = subprocess.run([*COMMAND, *map(str, words)], capture_output=True, text=True, timeout=120)
-    assert done.returncode == status, done.stderr
-    return done
 
 
 def port_captures(name, way, option):
     return [word for number in range(1, 5) for word in (option, f"{number}={CAPTURES}/{name}-p{number}-{way}.pcap")]
-
-
-# ---- files of other forms, made of the captures
-
-
-def records(path):
-    """The head of a pcap file of this machine's order, and its packets with their heads."""
-    data = path.read_bytes()
-    found, at = [], 24
-    while at < len(data):
-        size = struct.unpack_from("<I", data, at + 8)[0]
-        found.append(data[at : at + 16 + size])
-        at += 16 + size
-    return data[:24], found
-
-
-def written(tmp_path, head, found):
-    path = tmp_path / "made.pcap"
-    path.write_bytes(head + b"".join(found))
-    return path
-
-
-def changed(record, data, size=None):
-    """The packet with other bytes, of which so many were on the wire."""
-    return record[:8] + struct.pack("<II", len(data), len(data) if size is None else size) + data
-
-
-def flags(record):
-    return record[16 + 14 + 20 + 13]
-
-
-def has_data(record):
-    ip = record[16 + 14 :]
-    return struct.unpack_from("!H", ip, 2)[0] > 20 + (ip[20 + 12] >> 4) * 4
-
-
-def of_link(head, link):
-    return head[:20] + struct.pack("<I", link)
 
 
 # ---- event files
@@ -229,6 +184,27 @@ def test_packets_of_other_links(tmp_path, link, form):
     assert done.stderr == "" and done.stdout == ran("events", CAPTURES / "osken.pcap").stdout
 
 
+def test_sequence_numbers_that_wrap(tmp_path):
+    """Both sides begin a hundred bytes before 2 to the 32."""
+    head, found = records(CAPTURES / "osken.pcap")
+    # the number of the SYN of each port
+    begun = {struct.unpack_from("!H", it, 50)[0]: struct.unpack_from("!I", it, 54)[0] for it in found if flags(it) & 2}
+
+    def moved(record):
+        source, target, sequence, acknowledged = struct.unpack_from("!HHII", record, 50)
+        numbers = [(number - begun[port] - 100) & 0xFFFFFFFF for number, port in ((sequence, source), (acknowledged, target))]
+        return record[:54] + struct.pack("!II", *numbers) + record[62:]
+
+    assert ran("events", written(tmp_path, head, map(moved, found))).stdout == ran("events", CAPTURES / "osken.pcap").stdout
+
+
+def test_bytes_behind_a_packet_are_not_data(tmp_path):
+    """Ethernet pads a frame to 60 bytes: what is behind the IP packet is of no segment."""
+    head, found = records(CAPTURES / "osken.pcap")
+    done = ran("events", written(tmp_path, head, (changed(it, it[16:] + bytes(6)) for it in found)))
+    assert done.stderr == "" and done.stdout == ran("events", CAPTURES / "osken.pcap").stdout
+
+
 def test_files_of_the_other_byte_order_and_of_nanoseconds(tmp_path):
     head, found = records(CAPTURES / "osken.pcap")
     turned = struct.pack(">IHHiIII", 0xA1B23C4D, *struct.unpack("<HHiIII", head[4:]))
@@ -265,40 +241,6 @@ def test_streams_are_those_of_tshark():
 # ---- connections that were made up
 
 
-def segments(talk, ports=(40_000, 6653), six=False):
-    """The packets of a connection: pairs of a side (0 connects) and bytes, and at the end both sides end it."""
-    address = (bytes(15) + b"\1" if six else bytes([10, 0, 0, 1])), (bytes(15) + b"\2" if six else bytes([10, 0, 0, 2]))
-    places = [1000, 0xFFFFFFF0]
-    for side, data, bits in [(0, b"", 2), (1, b"", 18), *((side, data, 24) for side, data in talk), (0, b"", 17), (1, b"", 17)]:
-        other = 1 - side
-        ack = places[other] if bits & 16 else 0
-        tcp_head = struct.pack("!HHIIBBHHH", ports[side], ports[other], places[side], ack, 0x50, bits, 1000, 0, 0)
-        places[side] = (places[side] + len(data) + bool(bits & 3)) & 0xFFFFFFFF
-        if six:
-            ip = struct.pack("!IHBB", 0x60000000, 20 + len(data), 6, 64) + address[side] + address[other]
-        else:
-            ip = struct.pack("!BBHIBBH", 0x45, 0, 40 + len(data), 0, 64, 6, 0) + address[side] + address[other]
-        yield bytes(12) + (b"\x86\xdd" if six else b"\x08\x00") + ip + tcp_head + data
-
-
-def recorded(tmp_path, *packets):
-    """A pcap file of these packets, a millisecond after each other."""
-    head = struct.pack("<IHHiIII", 0xA1B2C3D4, 2, 4, 0, 0, 65535, 1)
-    return written(tmp_path, head, [struct.pack("<4I", 1, 1000 * n, len(it), len(it)) + it for n, it in enumerate(packets)])
-
-
-def features_reply(xid, datapath):
-    return messages.header(6, xid, struct.pack("!QIBB2xII", datapath, 256, 16, 0, 15, 0))
-
-
-def packet_in(port, frame):
-    match = struct.pack("!HHII4x", 1, 12, 0x80000004, port)
-    return messages.header(10, 0, struct.pack("!IHBBQ", messages.NO_BUFFER, len(frame), 1, 0, 0) + match + bytes(2) + frame)
-
-
-HELLOS = [(0, messages.HELLO), (1, bytes.fromhex("04000010000000000001000800000010"))]
-
-
 @pytest.mark.parametrize("six", [False, True])
 def test_a_connection_without_a_list_of_ports(tmp_path, six):
     flow = messages.flow(messages.output(0xFFFFFFFD), in_port=3)
@@ -317,6 +259,60 @@ def test_a_connection_without_a_list_of_ports(tmp_path, six):
         "lost",
     ]
     assert ran("compare", path).stdout == "4 alike, 0 with differences\n"
+
+
+@pytest.mark.parametrize("order", [(0, 1, 0, 3, 2), (0, 1, 2, 3, 0)])
+def test_a_syn_that_is_sent_again(tmp_path, order):
+    """Before there are bytes, of which the second part comes first; and after some."""
+    hello = HELLOS[1][1]
+    talk = [(1, hello[:8]), (1, hello[8:]), HELLOS[0], (0, messages.features_request(7)), (1, features_reply(7, 1))]
+    packets = [*segments(talk)]
+    made = [*(packets[it] for it in order), *packets[4:]]
+    wanted = ["connect", f"c {messages.HELLO.hex()}", f"c {messages.features_request(7).hex()}", "lost"]
+    assert rows_of(recorded(tmp_path, *packets)) == wanted
+    assert rows_of(recorded(tmp_path, *made)) == wanted
+
+
+def test_two_changes_of_a_port_before_its_description(tmp_path):
+    """Port 3 is removed, and comes again with another address: at the beginning it has the first one."""
+    old, new = "0200000000a3", "0200000000b3"
+    talk = [*HELLOS, (1, port_status(1, 3, old)), (1, port_status(0, 3, new)), (0, ports_request(5)), (1, ports_reply(5, port_description(3, new)))]
+    rows = rows_of(recorded(tmp_path, *segments(talk)))
+    assert [it for it in rows if it.startswith("port")] == [f"port add 3 {old} eth3 up", "port remove 3", f"port add 3 {new} eth3 up"]
+
+
+def test_a_description_in_several_parts(tmp_path):
+    # OFPMPF_REPLY_MORE is 1
+    parts = [(1, ports_reply(5, port_description(1, "0200000000a1"), more=1)), (1, ports_reply(5, port_description(2, "0200000000a2", state=1)))]
+    rows = rows_of(recorded(tmp_path, *segments([*HELLOS, (0, ports_request(5)), *parts])))
+    assert rows[:2] == ["port add 1 0200000000a1 eth1 up", "port add 2 0200000000a2 eth2 down"]
+
+
+def test_a_part_of_a_frame_is_no_frame(tmp_path):
+    """The switch sends 64 bytes of a frame of 1,000: what it received is not known."""
+    cut = packet_in(3, FRAME)
+    cut = cut[:12] + struct.pack("!H", 1000) + cut[14:]
+    done = ran("events", recorded(tmp_path, *segments([*HELLOS, (0, messages.echo(1)), (1, cut), (1, packet_in(4, FRAME))])))
+    assert [it for it in done.stdout.splitlines() if it.startswith("f ")] == [f"f 4 {FRAME.hex()}"]
+    assert "1 PACKET_INs do not have a whole frame of a port" in done.stderr
+
+
+@pytest.mark.parametrize("length", range(8))
+def test_a_message_that_says_it_is_shorter_than_its_header(tmp_path, length):
+    """The specified switch ends the connection; the bytes are fed to it as they are."""
+    bad = struct.pack("!BBHI", 4, 5, length, 7)
+    rows = rows_of(recorded(tmp_path, *segments([*HELLOS, (0, messages.features_request(6)), (1, features_reply(6, 1)), (0, bad)])))
+    assert rows[-2:] == [f"c {bad.hex()}", "lost"]
+
+
+def test_a_connection_beside_another_is_left_out(tmp_path):
+    one, other = ([*HELLOS, (0, messages.features_request(it)), (1, features_reply(it, 1))] for it in (1, 2))
+    first, second = ([*segments(talk, ports=(port, 6653))] for talk, port in ((one, 40_001), (other, 40_002)))
+    done = ran("events", recorded(tmp_path, *first[:-2], *second, *first[-2:]))
+    assert "10.0.0.1:40002 to 10.0.0.2:6653: another connection lasts while this one begins; left out" in done.stderr
+    assert done.stdout.count("connect") == 1
+    # one after the other they are two connections
+    assert ran("events", recorded(tmp_path, *first, *second)).stdout.count("connect") == 2
 
 
 def test_two_switches_at_one_controller(tmp_path):
@@ -388,6 +384,14 @@ def test_a_run_as_a_capture(switch, tmp_path):
     assert found == [*sent, (late, 1, FRAME), (late, 1, FRAME)]
     # an option of its interface
     assert b"\x02\0\x07\0s1-eth1\0" in path.read_bytes() and b"\x02\0\x06\0port 2" in path.read_bytes()
+
+
+def test_times_and_bytes_of_a_run_that_is_not_smooth(tmp_path):
+    """A time that is earlier than the one before, and a connection that is lost inside a message."""
+    rows = ["t 5", "connect", "c 04000008000000", "lost", "t 3", "connect", f"c {messages.HELLO.hex()}", "t 7", f"c {messages.echo(1).hex()}"]
+    write_pcap(tmp_path / "run.pcapng", [(it, []) for it in rows])
+    found = [(it.nanoseconds, it.data[16:]) for it in pcap.packets(tmp_path / "run.pcapng")]
+    assert found == [(5, messages.HELLO), (7, messages.echo(1))]
 
 
 def test_tshark_reads_what_is_written(tmp_path):

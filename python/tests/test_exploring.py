@@ -4,6 +4,7 @@ import pathlib
 import random
 import re
 import shutil
+import sys
 
 import pytest
 from ofswitch import ProgramError, Switch
@@ -160,10 +161,51 @@ def test_links_and_times():
 def test_what_is_not_deterministic():
     class Chance(type(plain("Forgetful")())):
         def moved(self, send, address):
-            send(bytes.fromhex("04020008") + random.randbytes(4))
+            # an ECHO_REQUEST with other data each time
+            send(bytes.fromhex("0402000c00000001") + random.randbytes(4))
 
     fault = found(application=Chance, **ONE, always=[no_loop])
     assert "not deterministic" in str(fault) and len(fault.schedule) == 30
+
+
+def test_xids_are_not_compared():
+    """A controller in its own process has other xids each time: os-ken begins with a random one."""
+
+    class Chance(type(plain("Forgetful")())):
+        def connected(self, dpid, send):
+            super().connected(dpid, lambda data: send(data[:4] + random.randbytes(4) + data[8:]))
+
+    fault = found(application=Chance, **ONE)
+    assert fault.fault.kind == "black hole" and len(fault.schedule) <= 6
+
+
+@pytest.mark.parametrize(
+    "changed, said",
+    [
+        ({"hosts": {"a": ("s1", 1), "b": ("s1", 5)}}, "there is no port 5 of s1"),
+        ({"hosts": {"a": ("s2", 1)}}, "there is no port 1 of s2"),
+        ({"moves": [("s1", 1)]}, "port 1 of s1 has 2 ends"),
+        ({"links": [("s1", 0, "s1", 3)], "moves": []}, "there is no port 0 of s1"),
+        ({"links": [("s1", 3, "s1", 3)], "moves": []}, "port 3 of s1 has 2 ends"),
+    ],
+)
+def test_places_that_cannot_be(changed, said):
+    with pytest.raises(ValueError, match=said):
+        explore(application=plain("Learning"), **{**ONE, **changed})
+
+
+def test_a_network_of_many_switches():
+    """The start alone takes more than 400 deliveries."""
+    switches = {f"s{it}": 1 for it in range(110)}
+    hosts = {"a": ("s0", 1)}
+    assert explore(application=plain("Learning"), switches=switches, hosts=hosts, schedule=[], at_rest=[]) == 1
+
+
+def test_a_controller_that_ends_and_one_that_is_not_there():
+    ended = lambda: RemoteApplication([sys.executable, "-c", "import sys; sys.exit(7)"])
+    assert "the controller ended with status 7" in str(found(application=ended, **ONE, schedule=[]).fault)
+    absent = lambda: RemoteApplication(address=("127.0.0.1", 1), timeout=0.2)
+    assert "no controller listens at 127.0.0.1:1" in str(found(application=absent, **ONE, schedule=[]).fault)
 
 
 def test_conditions_of_a_test():

@@ -1,8 +1,10 @@
 """Interfaces as ports of a live switch: what needs no root. tools/try-mininet tries the rest."""
 
+import contextlib
 import struct
 import subprocess
 import sys
+from types import SimpleNamespace
 
 import pytest
 from ofswitch import interfaces, live
@@ -54,6 +56,73 @@ def test_what_the_system_reports(monkeypatch):
     assert interfaces.seen("s1-eth2") == Seen(8, "02:00:00:00:00:02", 1500, False, None, ("10.0.0.1/24",))
     with pytest.raises(InterfaceError, match="there is no interface s1-eth3"):
         interfaces.seen("s1-eth3")
+
+
+class Here:
+    """An underlay of which nothing is made: `faults` are the numbers of commands that fail."""
+
+    here, port, switch, kernel = "/proc/self/ns/net", 4789, "169.254.1.1", "169.254.1.2"
+
+    def __init__(self, fault=None):
+        self.fault = fault
+
+    def batch(self, lines):
+        for number, _ in enumerate(lines):
+            if number == self.fault:
+                raise interfaces.BatchError("File exists", number)
+
+
+@pytest.fixture
+def system(monkeypatch):
+    """The commands that would be run, in order, instead of running them; a class of this machine that has these interfaces."""
+    done = []
+
+    @contextlib.contextmanager
+    def entered(place):
+        yield
+
+    def set_ipv6(name, is_off):
+        done.append(f"ipv6 {name} {is_off}")
+        # it was on before
+        return "0"
+
+    monkeypatch.setattr(interfaces, "_batch", lambda tool, lines, is_checked=True: done.extend(f"{tool} {it}" for it in lines))
+    monkeypatch.setattr(interfaces, "_set_ipv6", set_ipv6)
+    monkeypatch.setattr(interfaces, "_without_offloads", lambda name: None)
+    monkeypatch.setattr(interfaces, "entered", entered)
+    monkeypatch.setattr(interfaces, "all_seen", lambda: {"veth1": Seen(7, "02:00:00:00:00:01", 1500, True, None, ()), "veth2": Seen(8, "02:00:00:00:00:02", 1500, True, None, (), True)})
+    return done
+
+
+def test_only_what_was_made_is_removed(system):
+    """An interface of the name of the second one is there already: it is of somebody else, and so may be one of the third."""
+    with pytest.raises(InterfaceError, match="tap:b cannot be made"):
+        interfaces.Joined({1: Made("a"), 2: Made("b"), 3: Made("c")}, Here(fault=1))
+    assert [it for it in system if "delete" in it] == ["ip link delete a"]
+
+
+def test_interfaces_are_left_as_they_were(system):
+    """IPv6, which was on, is on again; one that was not promiscuous is not, and the other one still is."""
+    joined = interfaces.Joined({1: Taken("veth1"), 2: Taken("veth2")}, Here())
+    assert "ipv6 veth1 1" in system and "ip link set veth1 promisc on" in system
+    assert not any("promisc off" in it for it in system)
+    made = len(system)
+    joined.close()
+    assert {"ipv6 veth1 0", "ipv6 veth2 0", "ip link set veth1 promisc off", "tc qdisc delete dev veth1 clsact", "tc qdisc delete dev veth2 clsact"} <= {*system[made:]}
+    assert not any("veth2 promisc" in it for it in system)
+
+
+def test_a_link_that_comes_up_again(monkeypatch):
+    """Each change of an interface is one of its port, and what is as before is none."""
+    monkeypatch.setattr(interfaces, "link_states", lambda names, stopped: iter([(1, True), (1, False), (1, False), (1, True), (1, False)]))
+    switch, played = live.LiveSwitch.__new__(live.LiveSwitch), []
+    switch.ports, switch.takes_rows, switch._undo = {1: Taken("veth1")}, True, contextlib.ExitStack()
+    switch.joined = SimpleNamespace(seen={1: Seen(7, "02:00:00:00:00:01", 1500, True, None, ())})
+    monkeypatch.setattr(live.LiveSwitch, "play", lambda self, row: played.append(row))
+    switch._watch()
+    # it waits for the thread
+    switch.close()
+    assert played == ["port link 1 down", "port link 1 up", "port link 1 down"]
 
 
 def link_message(kind, index, flags, more=b""):

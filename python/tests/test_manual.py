@@ -1,4 +1,4 @@
-"""The examples of docs/TESTING.md, docs/LAB.md, docs/EXPLORE.md, docs/TUTORIAL.md and docs/CAPTURES.md do what they say."""
+"""The examples of docs/TESTING.md, docs/LAB.md, docs/EXPLORE.md, docs/TUTORIAL.md, docs/VIEW.md and docs/CAPTURES.md do what they say."""
 
 import pathlib
 import re
@@ -16,6 +16,7 @@ LAB = TOP / "docs" / "LAB.md"
 EXPLORE = TOP / "docs" / "EXPLORE.md"
 TUTORIAL = TOP / "docs" / "TUTORIAL.md"
 CAPTURES = TOP / "docs" / "CAPTURES.md"
+VIEW = TOP / "docs" / "VIEW.md"
 
 
 def examples_of(document):
@@ -135,6 +136,15 @@ def test_the_fewest_rows(tmp_path):
     assert done.returncode == 0 and re.sub(r"in .* s:", "", done.stderr.strip()) == re.sub(r"in .* s:", "", shown)
 
 
+def test_the_page_of_a_run(tmp_path):
+    """The command of docs/VIEW.md."""
+    (tmp_path / "examples").symlink_to(TOP / "examples")
+    [command] = re.findall(r"^    (python -m ofswitch view .*)$", VIEW.read_text(encoding="utf-8"), re.M)
+    done = subprocess.run(command.replace("python", sys.executable, 1), shell=True, cwd=tmp_path, capture_output=True, text=True, timeout=60)
+    assert (done.returncode, done.stdout, done.stderr) == (0, "", "")
+    assert "<title>timeout.events" in (tmp_path / "run.html").read_text(encoding="utf-8")
+
+
 def test_commands_on_captures(tmp_path):
     """Each command line, in their order, prints the block below it."""
     if not CAPTURES.exists():
@@ -142,7 +152,7 @@ def test_commands_on_captures(tmp_path):
     for name in ("python", "examples"):
         (tmp_path / name).symlink_to(TOP / name)
     blocks = re.findall(r"^    (python -m ofswitch [^\n]*|tshark [^\n]*)\n(?:\n```\n(.*?)^```$)?", CAPTURES.read_text(encoding="utf-8"), re.M | re.S)
-    assert len(blocks) == 6
+    assert len(blocks) == 8
     for command, block in blocks:
         if command.startswith("tshark") and shutil.which("tshark") is None:
             continue

@@ -252,6 +252,45 @@ def test_a_controller_of_its_own_for_each_switch(network):
             stream.close()
 
 
+def test_settle_carries_what_came_meanwhile(network, monkeypatch):
+    """A frame that leaves while `settle` looks whether it is quiet, as because of a controller's message."""
+    line(network, "s1", "s2")
+    with_flows(network, messages.flow(messages.output(3), in_port=1), messages.flow(messages.output(1), in_port=2))
+    carry, frames = network._carry, [PING]
+
+    def carry_and_then(hops):
+        left = carry(hops)
+        if frames:
+            network["s1"].frame(1, frames.pop())
+        return left
+
+    monkeypatch.setattr(network, "_carry", carry_and_then)
+    assert network.settle() == [Arrived("s2", 1, PING)]
+
+
+def test_a_ring_that_changes_frames_is_named(network):
+    """Each switch adds a tag, so the same bytes never come twice: the frame that is carried has the way."""
+    line(network, "s1", "s2", "s3")
+    network.link("s3", 3, "s1", 2)
+    # PUSH_VLAN (OpenFlow 1.3.5, 7.2.5): type 17, 8 bytes
+    push = bytes.fromhex("0011000881000000")
+    with_flows(network, messages.flow(push, messages.output(3)))
+    network.hops = 50
+    with pytest.raises(Looped) as caught:
+        network.send("s1", 1, PING)
+    assert {*caught.value.loop} == {("s1", 3, "s2", 2), ("s2", 3, "s3", 2), ("s3", 3, "s1", 2)}
+
+
+def test_each_port_has_an_address_of_its_own(network):
+    """Also of switches and ports whose numbers differ in high bits: 24 bits of a datapath_id and 16 of a port are in it."""
+    for bit in range(24):
+        network.add(f"s{bit}", ports=[1], dpid=1 << bit)
+    network.add("many", ports=[1 << bit for bit in range(16)], dpid=3)
+    rows = [row.split() for switch in network.switches.values() for row in switch.log.splitlines()]
+    addresses = [row[3] for row in rows if row[:2] == ["port", "add"]]
+    assert len(addresses) == 40 == len({*addresses})
+
+
 def test_a_failure_names_the_switches(pytester, pytestconfig):
     plugin = [] if pytestconfig.pluginmanager.has_plugin("ofswitch") else ["-p", "ofswitch.pytest_plugin"]
     pytester.makepyfile("def test_that_fails(network): network.add('left', 1), network.add('right/2', 1); assert False")

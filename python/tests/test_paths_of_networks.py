@@ -111,6 +111,9 @@ def test_random_frames(network, name):
         # each host reaches each other host, and nothing circulates
         assert {*found.hosts} == {*places.values()} - {place}
         assert found.loops == []
+        # the frame of each path arrives where the path says, if it is sent
+        for path in found.paths:
+            assert Counter(network.send(*place, path.frame)) == Counter(path.arrived)
         check_random_frames(network, place, found, 16, seed)
 
 
@@ -183,6 +186,15 @@ def test_routers_that_point_at_each_other_are_a_hole(network):
     found = network.paths(*places["h0"])
     assert found.loops == [] and {it.places for it in found.ended} == {(places["h0"], ("s1", 1))}
     assert network.send(*places["h0"], FRAME) == []
+
+
+def test_ports_that_no_entry_names(network):
+    """The flat switch has all ports of hosts, whether an entry names them or not."""
+    network.add("s0", 9)
+    assert [it.places for it in network.paths("s0", 8).ended] == [(("s0", 8),)]
+    network["s0"].load(flow(["in_port 0x00000002"], "output 9 0"))
+    assert {*network.paths("s0", 2).hosts} == {("s0", 9)}
+    assert network.paths("s0", 8).hosts == {}
 
 
 def test_a_packet_that_comes_back_to_its_host(network):

@@ -1,7 +1,5 @@
 """The plugin of pytest: what a test gets, and what a failure shows."""
 
-import subprocess
-
 import pytest
 
 pytest_plugins = ["pytester"]
@@ -83,10 +81,55 @@ def test_a_long_log_is_shown_in_part(in_process):
     result.stdout.fnmatch_lines([".. 200 lines, and then", "t 200"])
 
 
+FRAMES = """
+FRAME = bytes.fromhex("02000000000202000000000188b5")
+FLOW = "flow 0 %d 0x0000000000000000 0 0 0\\nmatch in_port 0x00000001\\n"
+
+def test_that_fails(switch):
+    switch.port_add(1)
+    switch.port_add(2)
+    switch.load(FLOW % 5 + "apply\\noutput 2 0\\n")
+    switch.frame(1, FRAME)
+    switch.load(FLOW % 6)
+    switch.at(9)
+    assert switch.frame(PORT, FRAME)
+"""
+
+
+@pytest.mark.parametrize(
+    "port, said",
+    [
+        # `load` without a connection is connect, a HELLO, the flow, and lost: rows 3 to 6, and after the first frame 8 to 11
+        (1, ["the frame of line 13, since line 10: nothing leaves (before: out by port 2)", "    FLOW_MOD, command ADD, priority 6, match in_port 1", "", "port add 1 *"]),
+        (2, ["the frame of line 13, since line 2: nothing leaves (before: not received)", "    port add 2 020000000002 p2 up", "", "port add 1 *"]),
+        (3, ["the frame of line 13: not received", "", "port add 1 *"]),
+    ],
+)
+def test_a_failure_says_what_changed_the_fate_of_its_frame(in_process, port, said):
+    result = in_process(FRAMES.replace("PORT", str(port)))
+    result.assert_outcomes(failed=1)
+    result.stdout.fnmatch_lines(["ofswitch replay --explain *", "", *said], consecutive=True)
+
+
 def test_the_switches_end_with_the_test(in_process):
-    before = subprocess.run(["pgrep", "-cf", "replay -$"], capture_output=True, text=True).stdout
-    in_process("def test_that_passes(new_switch): [new_switch() for _ in range(5)]").assert_outcomes(passed=1)
-    assert subprocess.run(["pgrep", "-cf", "replay -$"], capture_output=True, text=True).stdout == before
+    result = in_process(
+        """
+        import os
+        import pytest
+
+        kept = []
+
+        def test_that_passes(new_switch):
+            kept.extend(new_switch() for _ in range(5))
+
+        def test_that_they_have_ended():
+            for it in kept:
+                # signal 0 asks whether the process is there
+                with pytest.raises(ProcessLookupError):
+                    os.kill(it.pid, 0)
+        """
+    )
+    result.assert_outcomes(passed=2)
 
 
 SHRUNK = """

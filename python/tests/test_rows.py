@@ -58,3 +58,17 @@ def test_rows_are_those_of_the_program():
         line = changed(luck.choice(LINES), luck)
         done = subprocess.run([PROGRAM, "replay", "-"], input=line.encode() + b"\n", capture_output=True, timeout=60)
         assert done.returncode == (0 if is_row(line) else 2), repr(line)
+
+
+def test_names_of_ports():
+    """The letters and digits of an interface's name, or the number of the port if there are none."""
+    named = {"s1-eth1": "s1eth1", "eth0.5": "eth05", "--": "p7", "é": "p7", "Gi0/1": "gi01"}
+    for name, wanted in named.items():
+        assert rows.port_name(name, 7) == wanted
+        rows.check(rows.port_add(7, None, name, True))
+
+
+def test_a_datapath_id_in_the_first_line():
+    """As `capture events` writes it, and other comments."""
+    said = {"# a switch of datapath_id 0x2a: replay it with --dpid 0x2a": 42, "# replay with --dpid 7": 7, "# replay with --dpid": 1, "connect": 1, "": 1, "# --dpid x": 1}
+    assert [rows.said_dpid(it) for it in said] == list(said.values())

@@ -104,6 +104,13 @@ def test_rows_that_are_kept():
     assert again.rows == small.rows
 
 
+def test_a_change_in_a_row_that_is_kept(tmp_path):
+    """A row with two messages, which is not cut: the frame leaves after it, and the barrier behind it changes nothing."""
+    rows = [*PORTS, *START, "# keep", f"c {OUT.hex()}{messages.echo(4).hex()}", f"c {messages.barrier(5).hex()}", "t 9"]
+    done = command(tmp_path, rows, "--change", FRAME.hex(), "--port", "1")
+    assert rows_of(done.stdout) == [PORTS[0], PORTS[1], *START, rows[6]]
+
+
 def test_fields():
     """A cookie, a timeout, a second action, and the bytes of a frame behind its headers."""
     flow = messages.flow(messages.output(2), messages.output(3), in_port=1, hard=9)
@@ -143,6 +150,14 @@ def test_statuses(tmp_path, rows, words, status):
     done = command(tmp_path, rows, *words)
     assert done.returncode == status and done.stdout == "", done.stderr
     assert "Traceback" not in done.stderr
+
+
+def test_the_datapath_id_of_the_first_line(tmp_path):
+    """Only the FEATURES_REPLY of that switch has it."""
+    rows = ["# replay with --dpid 42", *START, f"c {messages.features_request(5).hex()}"]
+    done = command(tmp_path, rows, "--prints", "^a 0406.{12}000000000000002a")
+    assert rows_of(done.stdout) == rows[1:]
+    assert command(tmp_path, rows, "--prints", "^a 0406.{12}000000000000002a", "--dpid", "1").returncode == 4
 
 
 def test_a_file_that_is_missing():

@@ -4,6 +4,7 @@ import base64
 import importlib.util
 import os
 import pathlib
+import random
 import re
 import shutil
 import subprocess
@@ -137,6 +138,15 @@ def test_statuses(tmp_path, words, status, said):
     assert done.returncode == status and said in done.stderr and "Traceback" not in done.stderr
 
 
+def test_the_datapath_id_of_the_first_line(tmp_path):
+    log = tmp_path / "log.events"
+    log.write_text(f"# replay with --dpid 42\nconnect\nc {messages.HELLO.hex()}\nc {messages.features_request(5).hex()}\n")
+    text = pathlib.Path(viewed(log, tmp_path / "page.html")).read_text()
+    packed = re.search(r'id="data">([^<]*)<', text)[1]
+    # in words, as `replay --explain` prints a FEATURES_REPLY
+    assert "datapath 0x000000000000002a" in zlib.decompress(base64.b64decode(packed)).decode()
+
+
 def test_a_bad_row_and_a_missing_file(tmp_path):
     for log, words, status, said in [("port add 1\n", [], 2, "line 1: bad row"), (None, ["missing.events"], 3, "missing.events")]:
         done = subprocess.run([*COMMAND, *(words or ["-"]), "-o", str(tmp_path / "it")], input=log, capture_output=True, text=True, timeout=60)
@@ -170,6 +180,8 @@ def page(tmp_path_factory):
     with browser.opened(tmp_path_factory.mktemp("browser")) as page:
         yield page
         assert page.faults == []
+        # nothing comes from a network
+        assert page.asked and all(it.startswith(("file:", "data:")) for it in page.asked)
 
 
 @pytest.fixture
@@ -280,6 +292,8 @@ def test_search_and_kinds(failover):
 
 
 def test_links_to_rows(failover):
+    # at once after the page chose a row, whose address it has still to write
+    failover.press("k")
     failover.value("location.hash = '#line-9'")
     wait(failover)
     assert failover.text("#row-head") == "Line 9, 0.000 s: comments"
@@ -323,19 +337,21 @@ def test_text_of_the_log_does_no_harm(page, tmp_path):
 
 def test_a_long_log(page, tmp_path):
     """100,000 rows: times, frames with other bytes in each, and entries that come and go. The words are as the program prints them."""
-    rows, changes = [], []
+    rows, changes, chosen = [], [], random.Random(1)
     for at in range(100_000):
-        row = f"f 1 {at:024x}88b5{hash(at * 1.1) & 0xFFFFFFFFFFFF:092x}\nin by port 1, 60 bytes\ntable 0: entry {at % 7}\nsent out of port 2, 60 bytes"
+        row = f"f 1 {chosen.randbytes(60).hex()}\nin by port 1, 60 bytes\ntable 0: entry {at % 7}\nsent out of port 2, 60 bytes"
         rows.append(f"t {at * 1_000_000}" if at % 5 == 0 else row)
         if at % 5 == 1:
             changes.append([at, [[len(changes) % 300, len(changes) >= 300, [len(changes)]]]])
     entries = [["0", "10", f"in_port={it}", "apply: output port 2", ""] for it in range(len(changes))]
     path = tmp_path / "page.html"
     path.write_text(page_of({"name": "long", "lines": [*range(1, 100_001)], "rows": rows, "entries": entries, "changes": changes}))
+    before = page.processor_seconds()
     seconds = page.open(path, "#line-50000")
-    print(f"{path.stat().st_size} bytes, opened in {seconds:.2f} s")
-    # it takes some 0.7 s of processor time, but the machine may be busy
-    assert seconds < 20
+    work = page.processor_seconds() - before
+    print(f"{path.stat().st_size} bytes, opened in {seconds:.2f} s, {work:.2f} s of processor time of the page")
+    # about a second, but the machine may be busy, and slower than others
+    assert work < 5 and seconds < 60
     assert page.text("#status").endswith("100000 of 100000 rows are shown")
     # only what is visible is drawn, and the row of the link is
     assert page.value("document.querySelectorAll('.item').length") < 100
