@@ -51,18 +51,18 @@ abbrev pub ranges_words : ℕ → ℕ → List ℕ → List ℕ
 ranges_words low high [] = range_words low high
 ranges_words low high (p ∷ ports) = if p == high + 1 then ranges_words low p ports else range_words low high ++ codes ", " ++ ranges_words p p ports
 
-abbrev pub port_words : List ℕ → List ℕ
-port_words [] = codes "out by port "
-port_words (p ∷ ports) = codes "out by ports "
+abbrev pub out_words : List ℕ → List ℕ
+out_words [] = codes "out by port "
+out_words (p ∷ ports) = codes "out by ports "
 
 -- the ports by which the next items send this frame
-abbrev pub ports_with : List ℕ → List Item → List ℕ
-ports_with frame [] = []
-ports_with frame (Sent port other ∷ items) = if bytes_eq other frame then port ∷ ports_with frame items else []
-ports_with frame (PacketIn p ∷ items) = []
+abbrev pub ports_of_frame : List ℕ → List Item → List ℕ
+ports_of_frame frame [] = []
+ports_of_frame frame (Sent port other ∷ items) = if bytes_eq other frame then port ∷ ports_of_frame frame items else []
+ports_of_frame frame (PacketIn p ∷ items) = []
 
 unfoldable pub sent_line : List ℕ → ℕ → List ℕ → List ℕ → List ℕ
-sent_line who port frame others = who ++ port_words others ++ ranges_words port port others ++ codes ": " ++ encode_lower frame ++ 10 ∷ []
+sent_line who port frame others = who ++ out_words others ++ ranges_words port port others ++ codes ": " ++ encode_lower frame ++ 10 ∷ []
 
 -- the item before sent this frame, so that its line names the port
 abbrev pub has_sent : Option Item → List ℕ → Bool
@@ -70,18 +70,18 @@ has_sent None frame = false
 has_sent (Some (Sent port other)) frame = bytes_eq other frame
 has_sent (Some (PacketIn p)) frame = false
 
-abbrev pub item_line : List ℕ → Option Item → Item → List Item → List ℕ
-item_line who before (Sent port frame) items = if has_sent before frame then [] else sent_line who port frame (ports_with frame items)
-item_line who before (PacketIn p) items = packet_line who p
+abbrev pub side_line : List ℕ → Option Item → Item → List Item → List ℕ
+side_line who before (Sent port frame) items = if has_sent before frame then [] else sent_line who port frame (ports_of_frame frame items)
+side_line who before (PacketIn p) items = packet_line who p
 
 -- the lines of items, after another one
-abbrev pub item_lines : List ℕ → Option Item → List Item → List ℕ
-item_lines who before [] = []
-item_lines who before (item ∷ items) = item_line who before item items ++ item_lines who (Some item) items
+abbrev pub side_lines : List ℕ → Option Item → List Item → List ℕ
+side_lines who before [] = []
+side_lines who before (item ∷ items) = side_line who before item items ++ side_lines who (Some item) items
 
 abbrev pub side_words : List ℕ → List Item → List ℕ
 side_words who [] = who ++ codes "nothing leaves" ++ 10 ∷ []
-side_words who (item ∷ items) = item_lines who None (item ∷ items)
+side_words who (item ∷ items) = side_lines who None (item ∷ items)
 
 -- ---- the frame, its port and bytes as `trace` takes them
 

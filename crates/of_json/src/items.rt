@@ -1,7 +1,7 @@
 //! What leaves a switch, in words.
 ghost use Rattle.std.specs.Prelude.{◌≡◌, ◌+◌, ◌==◌, ◌++◌, IfOk, OnOk, None, []};
 ghost use Rattle.std.specs.Option.{option_copied};
-ghost use Rattle.of_json.specs.LeavingWords.{first_bytes, first_bytes_part, frame_line, has_sent, item_line, item_lines, packet_in_parts, packet_in_reason, packet_in_words, packet_line, part_unless_zero, port_words, ports_with, range_words, ranges_words, reason_said, sent_line, side_words};
+ghost use Rattle.of_json.specs.LeavingWords.{first_bytes, first_bytes_part, frame_line, has_sent, side_line, side_lines, packet_in_parts, packet_in_reason, packet_in_words, packet_line, part_unless_zero, out_words, ports_of_frame, range_words, ranges_words, reason_said, sent_line, side_words};
 
 use of_build::push_hex;
 use of_machine::{Item, ToController};
@@ -142,7 +142,7 @@ fn push_ranges(out: &mut Vec<u8>, first: u32, others: &[u32]) -> Result<(), Allo
 
 // The ports by which the next items send this frame.
 fn same_frame_ports(alloc: Global, frame: &[u8], items: &[Item]) -> Result<Vec<u32>, AllocError>
-    ensures { IfOk result (λ ports. ports.items ≡ ports_with frame.now items.now) }
+    ensures { IfOk result (λ ports. ports.items ≡ ports_of_frame frame.now items.now) }
 {
     let mut ports = Vec::new(alloc);
     for item in items {
@@ -155,7 +155,7 @@ fn same_frame_ports(alloc: Global, frame: &[u8], items: &[Item]) -> Result<Vec<u
 }
 
 fn name_of_ports(others: &[u32]) -> &'static [u8]
-    ensures { result.now ≡ port_words others.now }
+    ensures { result.now ≡ out_words others.now }
 {
     match others {
         [] => b"out by port ",
@@ -203,7 +203,7 @@ fn push_item_line(
     item: &Item,
     behind: &[Item],
 ) -> Result<(), AllocError>
-    ensures { OnOk result (out.new.items ≡ out.old.items ++ item_line who.now (option_copied before.entry) item.now behind.now) }
+    ensures { OnOk result (out.new.items ≡ out.old.items ++ side_line who.now (option_copied before.entry) item.now behind.now) }
 {
     match item {
         Item::Sent { frame, .. } if sent_before(before, frame.as_slice()) => Ok(()),
@@ -221,7 +221,7 @@ fn push_item_lines(
     who: &[u8],
     items: &[Item],
 ) -> Result<(), AllocError>
-    ensures { OnOk result (out.new.items ≡ out.old.items ++ item_lines who.now None items.now) }
+    ensures { OnOk result (out.new.items ≡ out.old.items ++ side_lines who.now None items.now) }
 {
     let mut before = None;
     let mut rest = items;

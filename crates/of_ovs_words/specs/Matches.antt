@@ -32,23 +32,23 @@ abbrev pub tag_with : Field → List MatchField → List MatchField
 tag_with f settings = if number_of f == number_of fields.VlanPcp then one (tagged_setting (last_of fields.VlanVid settings)) else []
 
 -- those of other fields
-abbrev pub without_field : Field → List MatchField → List MatchField
-without_field f settings = filter (λ e. not (number_of e.field == number_of f)) settings
+abbrev pub without_settings : Field → List MatchField → List MatchField
+without_settings f settings = filter (λ e. not (number_of e.field == number_of f)) settings
 
 -- what was said of VLAN_PCP says that there is a tag, too, so it cannot be taken back alone
 abbrev pub takes_tag_back : Field → List MatchField → Bool
 takes_tag_back f settings = number_of f == number_of fields.VlanPcp && is_some (last_of fields.VlanPcp settings)
 
 -- a mask of 0 takes back what was said of the field before
-abbrev pub with_setting : List MatchField → Field → Option MatchField → Result (List MatchField) Why
-with_setting settings f None = if takes_tag_back f settings then Err whys.Value else Ok (without_field f settings)
-with_setting settings f (Some e) = Ok (settings ++ tag_with f settings ++ e ∷ [])
+abbrev pub with_field_value : List MatchField → Field → Option MatchField → Result (List MatchField) Why
+with_field_value settings f None = if takes_tag_back f settings then Err whys.Value else Ok (without_settings f settings)
+with_field_value settings f (Some e) = Ok (settings ++ tag_with f settings ++ e ∷ [])
 
 abbrev pub with_field_setting : List MatchField → FieldWord → List ℕ → Result (List MatchField) Why
 with_field_setting settings word value = do
   f ← value_or_why whys.Protocol (field_for word.target settings)
   e ← setting_in word.form f value
-  with_setting settings f e
+  with_field_value settings f e
 
 abbrev pub with_tci : List MatchField → List ℕ → Result (List MatchField) Why
 with_tci settings value = tci_settings value >>= λ es. Ok (settings ++ one es.0 ++ one es.1)

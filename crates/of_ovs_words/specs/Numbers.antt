@@ -33,11 +33,11 @@ some_digits base limit (b ∷ bs) = digits_in base limit 0 (b ∷ bs) >>= below 
 abbrev pub is_octal : List ℕ → Bool
 is_octal word = slice_index word 0 == 48 && nat_lt 1 (length word)
 
-abbrev pub decimal_in : ℕ → List ℕ → Option ℕ
-decimal_in limit word = if is_octal word then None else some_digits 10 limit word
+abbrev pub decimal_number : ℕ → List ℕ → Option ℕ
+decimal_number limit word = if is_octal word then None else some_digits 10 limit word
 
 abbrev pub number_in : ℕ → List ℕ → Option ℕ
 number_in limit word =
     if bytes_eq (before 120 word) (codes "0") && not (length (behind 120 word) == 0)
     then some_digits 16 limit (behind 120 word)
-    else decimal_in limit word
+    else decimal_number limit word

@@ -3,7 +3,7 @@ use Rattle.std.specs.Prelude.{ℕ, ◌^◌, ◌&&◌, nat_le, List, Option, Some
 use Rattle.of_ovs_words.specs.declared.why.Why.{Why}
 use Rattle.of_ovs_words.specs.declared.why.Why.TheVariants.{Unknown, Value}
 use Rattle.of_ovs_words.specs.declared.port_word.PortWord.{PortWord}
-use Rattle.of_ovs_words.specs.Numbers.{decimal_in}
+use Rattle.of_ovs_words.specs.Numbers.{decimal_number}
 use Rattle.of_ovs_words.specs.Outcomes.{value_or_why}
 use Rattle.of_ovs_words.specs.PortWords.{port_word_named}
 
@@ -22,4 +22,4 @@ port_numbered why word None = port_named why (port_word_named word)
 
 -- the number of a port; this is why, where the word is neither a number nor reserved
 abbrev pub port_in : Why → List ℕ → Result ℕ Why
-port_in why word = port_numbered why word (decimal_in (2 ^ 32) word)
+port_in why word = port_numbered why word (decimal_number (2 ^ 32) word)

@@ -1,7 +1,7 @@
 //! Numbers in words.
 ghost use Rattle.std.specs.Prelude.{◌≡◌, ◌≤◌, ◌<◌, ◌+◌, ◌*◌, ◌^◌, IfOk, IfSome, Some, None};
 ghost use Rattle.of_lines.specs.Reading.{below};
-ghost use Rattle.of_ovs_words.specs.Numbers.{decimal_in as decimal_of, digit as digit_of, digit_in as digit_below, digits_in as value_of_digits, is_octal as leads_with_zero, some_digits as value_of_some, number_in as number_of};
+ghost use Rattle.of_ovs_words.specs.Numbers.{decimal_number as decimal_of, digit as digit_of, digit_in as digit_below, digits_in as value_of_digits, is_octal as leads_with_zero, some_digits as value_of_some, number_in as number_of};
 ghost use Rattle.of_ovs_words.specs.Outcomes.{numbered as numbered_of};
 
 use crate::why::Why;
@@ -81,7 +81,7 @@ fn is_octal(word: &[u8]) -> bool
 }
 
 /// A decimal number below the limit.
-pub fn decimal_in(limit: u128, word: &[u8]) -> Option<u128>
+pub fn decimal_number(limit: u128, word: &[u8]) -> Option<u128>
     requires { limit ≤ 2 ^ 64 }
     ensures value { result ≡ decimal_of limit word.now }
     ensures small { IfSome result (λ n. n < limit) }
@@ -103,7 +103,7 @@ pub fn number_in(limit: u128, word: &[u8]) -> Option<u128>
     if is(zero, b"0") && !digits.is_empty() {
         some_digits(16, limit, digits)
     } else {
-        decimal_in(limit, word)
+        decimal_number(limit, word)
     }
 }
 

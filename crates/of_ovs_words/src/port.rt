@@ -2,7 +2,7 @@
 ghost use Rattle.std.specs.Prelude.{◌≡◌, ◌<◌, ◌^◌, IfOk};
 ghost use Rattle.of_ovs_words.specs.Ports.{port_in as port_of};
 
-use crate::numbers::decimal_in;
+use crate::numbers::decimal_number;
 use crate::port_word::PortWord;
 use crate::why::Why;
 
@@ -11,7 +11,7 @@ use crate::why::Why;
 pub fn port_in(why: Why, word: &[u8]) -> Result<u32, Why>
     ensures { result ≡ port_of why word.now }
 {
-    match decimal_in(0x1_0000_0000, word) {
+    match decimal_number(0x1_0000_0000, word) {
         Some(0xff00..=0xffff) => Err(Why::Value),
         Some(number) => Ok(number as u32),
         None => match PortWord::named(word) {

@@ -2,7 +2,7 @@
 ghost use Rattle.std.specs.Prelude.{◌≡◌, ◌==◌, ◌≤◌, ◌<◌, ◌++◌, ◌∷◌, [], not, IfOk, IfErr, OnOk, Ok, filter_map};
 ghost use Rattle.of_layers.specs.Fields.{number_of};
 ghost use Rattle.of_ovs_words.specs.Settings.{exact, last_of};
-ghost use Rattle.of_ovs_words.specs.Matches.{fields_of_settings as fields_in, tag_with, tagged_setting as tagged_by, takes_tag_back as takes_back, with_match_field, with_protocol, with_field_setting, with_tci, without_field};
+ghost use Rattle.of_ovs_words.specs.Matches.{fields_of_settings as fields_in, tag_with, tagged_setting as tagged_by, takes_tag_back as takes_back, with_match_field, with_protocol, with_field_setting, with_tci, without_settings};
 ghost use Rattle.of_ovs_words.specs.Stops.{IfRefused, Stops};
 
 use crate::field_word::{FieldWord, Form};
@@ -92,7 +92,7 @@ fn others(
     settings: &[MatchField],
     field: Field,
 ) -> Result<Vec<MatchField>, AllocError>
-    ensures { IfOk result (λ others. others.items ≡ without_field field settings.now) }
+    ensures { IfOk result (λ others. others.items ≡ without_settings field settings.now) }
 {
     settings
         .iter()
@@ -103,7 +103,7 @@ fn others(
 
 // Nothing is said of a field any more.
 fn forget(settings: &mut Vec<MatchField>, field: Field) -> Result<(), AllocError>
-    ensures ok { OnOk result (settings.new.items ≡ without_field field settings.old.items) }
+    ensures ok { OnOk result (settings.new.items ≡ without_settings field settings.old.items) }
 {
     *settings = others(*settings.allocator(), settings, field)?;
     Ok(())
