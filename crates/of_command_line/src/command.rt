@@ -89,6 +89,30 @@ headers that no word says are 0, the TTL is 64, lengths and checksums are right.
   ofswitch trace --lines examples/router.flows --port 1 0200000000a10200000000010800450000140000000040fd64e30a0000010a010109
   ofswitch trace --events examples/failover.events --at 14 --port 1 02000000000202000000000188b5";
 
+const HISTORIES: &str =
+    "FILE is an event file (`ofswitch replay --help`), such as a log of `live`. Its rows are played on a new switch, and after each
+message of the controller, each change of a port and each time, the fate of the frame is looked at: the steps that it would take and
+what would leave, if it were received then at that port. Where the fate has changed, it says what happened, and both fates:
+
+  in_port=2,dl_src=02:00:00:00:00:02,dl_dst=02:00:00:00:00:01
+  line 11, message 1
+      from the controller: FLOW_MOD xid 6 ADD table 0 priority 1 ...
+      - table 0, priority 0, any packet
+      ...
+      - to the controller: no match, table 0: 020000000001...
+      + table 0, priority 1, in_port 2, eth_dst 02:00:00:00:00:01
+      ...
+      + out by port 1: 020000000001...
+
+Lines with - are of the fate before it, lines with + of the fate after it, and lines without a mark of both. Between two changes that
+are printed the fate is the same. The first fate is that on a switch without ports. Connections do not matter: what goes to the
+controller is a packet, whether one is connected or not. With --row the frame is the one of a row `f PORT HEX`, and the history
+ends there: the last change says why the frame went where it went. FRAME and --port are as `trace` takes them.
+
+  ofswitch history examples/moved-host.events in_port=2,dl_src=02:00:00:00:00:02,dl_dst=02:00:00:00:00:01
+  ofswitch history examples/moved-host.events --row 20
+  ofswitch history examples/failover.events --port 1 02000000000202000000000188b5";
+
 const CHECKS: &str =
     "FILE is a flow text (`ofswitch asm --help`), an event file (`ofswitch replay --help`), or what ovs-ofctl prints
 (`ofswitch import --help`). The first word that is not in a comment says which; --flows, --events and --ovs override this.
@@ -417,6 +441,39 @@ const TRACE: [Argument; 13] = [
     },
 ];
 
+const HISTORY: [Argument; 6] = [
+    Argument {
+        name: "FILE",
+        kind: Kind::Positional,
+        help: "The event file, such as a log of `live`; - is standard input",
+    },
+    Argument {
+        name: "FRAME",
+        kind: Kind::Place,
+        help: "The frame: two hexadecimal digits per byte, or words such as in_port=1,tcp,nw_src=10.0.0.1,tp_dst=80",
+    },
+    Argument {
+        name: "row",
+        kind: Kind::Alternative("row", "ROW"),
+        help: "Take the frame of this line of the file, and play only the lines before it",
+    },
+    Argument {
+        name: "N",
+        kind: Kind::Excluded("port", "N", "row"),
+        help: "The port at which the frame is received. Words of FRAME may say it instead",
+    },
+    Argument {
+        name: "dpid",
+        kind: Kind::Optional("dpid", "N"),
+        help: "The datapath_id, decimal or 0x and hexadecimal digits (by default 1)",
+    },
+    Argument {
+        name: "json",
+        kind: Kind::Flag("json"),
+        help: "Print a JSON object for each change, in a line of its own (docs/JSON.md)",
+    },
+];
+
 const CHECK: [Argument; 9] = [
     Argument {
         name: "FILE",
@@ -640,7 +697,7 @@ struct Subcommand {
     arguments: &'static [Argument],
 }
 
-const SUBCOMMANDS: [Subcommand; 11] = [
+const SUBCOMMANDS: [Subcommand; 12] = [
     Subcommand {
         name: "replay",
         about: "Runs an event file on a new switch and prints the effects",
@@ -676,6 +733,12 @@ const SUBCOMMANDS: [Subcommand; 11] = [
         about: "Prints each step of a frame through a switch",
         text: TRACES,
         arguments: &TRACE,
+    },
+    Subcommand {
+        name: "history",
+        about: "Finds where in an event file the fate of a frame changes, and what changed it",
+        text: HISTORIES,
+        arguments: &HISTORY,
     },
     Subcommand {
         name: "check",

@@ -1,0 +1,15 @@
+//! The history of what a switch shows: the messages, rows and times of an event file at which it changes.
+#![tactic(auto)]
+
+mod fate;
+mod history;
+mod laws;
+mod marks;
+mod telling;
+mod view;
+
+pub use fate::FrameView;
+pub use history::{LogHistory, history};
+pub use laws::fates_between;
+pub use telling::{ChangeTeller, InWords};
+pub use view::View;
