@@ -1,12 +1,13 @@
 -- THE TURNS OF A ROW: a row of the controller's bytes has one for each message that it completes, and any other row that happens is one itself. A row
 -- that is refused has none, nor have an empty line and a comment.
-use Rattle.std.specs.Prelude.{ℕ, ◌+◌, max, zero, suc, List, [], ◌∷◌, length, take, Option, Some, None}
+use Rattle.std.specs.Prelude.{◌≡◌, ℕ, ◌+◌, max, zero, suc, Bool, true, false, List, [], ◌∷◌, length, take, Option, Some, None}
 use Rattle.of_session.specs.Stream.{length_of}
+use Rattle.of_datapath.specs.declared.effect.Effect.{Effect}
 use Rattle.of_switch.specs.declared.event.Event.{Event}
 use Rattle.of_switch.specs.declared.event.Event.TheVariants.{Connect, Lost, Chunk, Frame, Moment, Ports}
 use Rattle.of_switch.specs.declared.switch_error.SwitchError.{SwitchError}
 use Rattle.of_switch.specs.State.{State}
-use Rattle.of_switch.specs.Steps.{Outcome, fed, next_of}
+use Rattle.of_switch.specs.Steps.{Outcome, fed, gives, next_of}
 use Rattle.of_switch.specs.Calls.{feed_refusal}
 use Rattle.of_switch.specs.Runs.{Report, Gives, IsRefused, Happened, happened}
 
@@ -57,3 +58,10 @@ row_turns s (Some event) = event_turns event s
 abbrev pub after_turns : State → List Turn → State
 after_turns s [] = s
 after_turns s (t ∷ ts) = after_turns t.after ts
+
+-- ---- for contracts inside this crate
+
+-- the first message was handled, which had these bytes; or there is none
+abbrev pub Handles : Bool → State → State → List ℕ → Type 0
+Handles false s new message = (next_of s ≡ None) × (new ≡ s)
+Handles true s new message = (effects : List Effect) × (next_of s ≡ Some (gives effects new)) × (message ≡ first_handled s.connection.pending)

@@ -2,14 +2,14 @@
 #![tactic(auto)]
 
 mod fate;
-mod history;
 mod laws;
 mod marks;
 mod telling;
 mod view;
+mod watching;
 
 pub use fate::FrameView;
-pub use history::{LogHistory, history};
 pub use laws::fates_between;
 pub use telling::{ChangeTeller, InWords};
 pub use view::View;
+pub use watching::{LogHistory, history};

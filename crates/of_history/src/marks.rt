@@ -44,7 +44,10 @@ pub fn push_both(out: &mut Vec<u8>, old: &[u8], new: &[u8]) -> Result<(), AllocE
 {
     let (mut gone, mut come) = (old, new);
     loop {
-        if gone.is_empty() || come.is_empty() {
+        if gone.is_empty() {
+            return push_others(out, gone, come);
+        }
+        if come.is_empty() {
             return push_others(out, gone, come);
         }
         let (old_line, old_rest) = cut(gone, b'\n');

@@ -9,7 +9,7 @@ ghost use Rattle.of_switch.specs.declared.event.Event.TheVariants.{Chunk};
 ghost use Rattle.of_switch.specs.Runs.{drained, happened};
 ghost use Rattle.of_replay.specs.Rows.{with_bytes};
 ghost use Rattle.of_replay.specs.RowTexts.{row_happened, told};
-ghost use Rattle.of_history.specs.Turns.{all_message_turns, event_turns, first_handled, turn_of};
+ghost use Rattle.of_history.specs.Turns.{Handles, all_message_turns, event_turns, first_handled, turn_of};
 ghost use Rattle.of_history.specs.Changes.{bad_from, history_of, turns_told, unless_same};
 
 use crate::telling::ChangeTeller;
@@ -80,6 +80,17 @@ impl<L: Lookup, V: View<L> + Drop, T: ChangeTeller + Drop> Watching<L, V, T> {
         Ok(())
     }
 
+    // Handles the first message, whose bytes it keeps; false where there is none.
+    fn handle(&mut self, message: &mut Vec<u8>) -> Result<bool, SwitchError>
+        ensures handles { IfOk result (λ some. Handles some self.old.switch self.new.switch message.new.items) }
+        ensures kept { (self.new.view ≡ self.old.view) × (self.new.seen ≡ self.old.seen) × (self.new.out ≡ self.old.out) }
+        ensures err { IfErr result (λ e. e ≡ NoMemory) }
+    {
+        message.clear();
+        message.extend_from_slice(handled_first(self.switch.pending()))?;
+        Ok(self.switch.next()?.is_some())
+    }
+
     // Handles all messages that are there, and says what each of them changed.
     fn tell_messages(&mut self, number: u64, line: &[u8]) -> Result<(), SwitchError>
         requires { self.old.seen.items ≡ V.seen self.old.view self.old.switch.core.forwarding }
@@ -94,15 +105,11 @@ impl<L: Lookup, V: View<L> + Drop, T: ChangeTeller + Drop> Watching<L, V, T> {
         let _most = self.switch.pending().len();
         let mut turn = 0;
         let mut message = Vec::new(self.alloc);
-        loop {
-            message.clear();
-            message.extend_from_slice(handled_first(self.switch.pending()))?;
-            if self.switch.next()?.is_none() {
-                return Ok(());
-            }
+        while self.handle(&mut message)? {
             turn += 1;
             self.look_again(number, line, turn, Some(&message))?;
         }
+        Ok(())
     }
 
     // A row of the controller's bytes.
