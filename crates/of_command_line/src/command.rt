@@ -110,7 +110,7 @@ controller is a packet, whether one is connected or not. With --row the frame is
 ends there: the last change says why the frame went where it went. FRAME and --port are as `trace` takes them.
 
   ofswitch history examples/moved-host.events in_port=2,dl_src=02:00:00:00:00:02,dl_dst=02:00:00:00:00:01
-  ofswitch history examples/moved-host.events --row 20
+  ofswitch history examples/moved-host.events --row 21
   ofswitch history examples/failover.events --port 1 02000000000202000000000188b5";
 
 const CHECKS: &str =

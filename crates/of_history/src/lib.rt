@@ -4,12 +4,14 @@
 mod fate;
 mod laws;
 mod marks;
+mod objects;
 mod telling;
 mod view;
 mod watching;
 
 pub use fate::FrameView;
 pub use laws::fates_between;
+pub use objects::InJson;
 pub use telling::{ChangeTeller, InWords};
 pub use view::View;
 pub use watching::{LogHistory, history};

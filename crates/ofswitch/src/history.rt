@@ -4,7 +4,7 @@ use crate::hinting::Seen;
 use crate::lookups::Lookups;
 use of_command_line::{HistoryAsked, HistoryOf};
 use of_frame_words::frame_words;
-use of_history::{FrameView, InWords, LogHistory, history};
+use of_history::{FrameView, InJson, InWords, LogHistory, history};
 use of_replay::streams::WriterSink;
 use of_replay::{Ended, Row, read_row, write_all};
 use of_switch::SwitchError;
@@ -57,25 +57,39 @@ fn push_asked(alloc: Global, out: &mut Vec<u8>, of: &FrameView) -> Result<(), Al
     Ok(())
 }
 
-// Prints the history of a frame over these rows.
+// The history of a frame over these rows, in words below the frame, or as JSON.
+fn history_text(
+    alloc: Global,
+    asked: &HistoryAsked,
+    view: FrameView,
+    rows: &[u8],
+) -> Result<LogHistory, SwitchError> {
+    if asked.json {
+        return history::<Lookups, _, _>(alloc, asked.dpid, view, InJson, rows);
+    }
+    let mut text = Vec::new(alloc);
+    push_asked(alloc, &mut text, &view)?;
+    let told = history::<Lookups, _, _>(alloc, asked.dpid, view, InWords, rows)?;
+    text.extend_from_slice(&told.text)?;
+    Ok(LogHistory {
+        text,
+        bad: told.bad,
+    })
+}
+
+// Prints it.
 fn write_history(
     rt: &HostRuntime,
-    dpid: u64,
+    asked: &HistoryAsked,
     view: FrameView,
     rows: &[u8],
 ) -> Result<Ended, SwitchError> {
-    let alloc = rt.alloc();
-    let mut text = Vec::new(alloc);
-    push_asked(alloc, &mut text, &view)?;
-    let LogHistory { text: changes, bad } = history::<Lookups, _, _>(
-        alloc, dpid, view, InWords, rows,
-    )?;
-    text.extend_from_slice(&changes)?;
+    let told = history_text(rt.alloc(), asked, view, rows)?;
     let mut writer = WriterSink::new(rt.stdout());
-    if !write_all(&mut writer, &text) {
+    if !write_all(&mut writer, &told.text) {
         return Ok(Ended::WriteFault);
     }
-    match bad {
+    match told.bad {
         Some(number) => Ok(Ended::BadRow(number)),
         None => Ok(Ended::Done),
     }
@@ -93,12 +107,12 @@ fn recount(
                 port: *port,
                 frame: frame.clone()?,
             };
-            Ok(Some(write_history(rt, asked.dpid, view, bytes)?))
+            Ok(Some(write_history(rt, asked, view, bytes)?))
         }
         HistoryOf::Row(row) => {
             let (rows, line) = split_at_row(bytes, *row);
             match frame_in_row(rt.alloc(), line)? {
-                Some(view) => Ok(Some(write_history(rt, asked.dpid, view, rows)?)),
+                Some(view) => Ok(Some(write_history(rt, asked, view, rows)?)),
                 None => Ok(None),
             }
         }

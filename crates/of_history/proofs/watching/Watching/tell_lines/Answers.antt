@@ -34,7 +34,7 @@ loop-rest-preserved g c =
       few = omega (arith, some, c.cut.ensures.shorter, c.loop-rest.invariant.few);
       bad = sym (row_passed (history_of g.T.ChangeTeller.text (g.V.View.seen c.args.self.now.view)) c.loop-rest.number c.loop-rest.rest.now c.cut.result.0.now c.cut.result.1.now c.loop-rest.self.switch some c.cut.ensures.first c.cut.ensures.rest row is) ∙ c.loop-rest.invariant.bad;
       text = said_more (history_of g.T.ChangeTeller.text (g.V.View.seen c.args.self.now.view)) c.loop-rest.number c.loop-rest.rest.now c.cut.result.0.now c.cut.result.1.now c.loop-rest.self.switch some c.cut.ensures.first c.cut.ensures.rest
-        row c.loop-rest.self.out.items c.tell_row.new.self.out.items _ c.tell_row.new.self.switch is said goes c.loop-rest.invariant.text;
+          row c.loop-rest.self.out.items c.tell_row.new.self.out.items _ c.tell_row.new.self.switch is said goes c.loop-rest.invariant.text;
     }
 
 pub returns-clause-said : goal.returns-clause-said

@@ -24,9 +24,9 @@ loop-message-preserved g c =
       fresh = rw c.in_ok-look_again.ensures.kept.0 fresh;
       few = rw c.in_ok-look_again.ensures.kept.0 (omega (arith, shorter, c.loop-message.invariant.few));
       telling = rw c.in_ok-look_again.ensures.kept.0
-        (telling_more g.T.ChangeTeller.text (g.V.View.seen c.args.self.now.view) c.args.number c.args.line.now c.args.self.now.switch c.loop-message.self.switch (gives h.0 c.handle.new.self.switch)
-        c.loop-message.turn (c.loop-message.turn + 1) (Some c.deref.result.now) c.args.self.now.out.items c.loop-message.self.out.items c.look_again.new.self.out.items c.loop-message.self.seen.items c.look_again.new.self.seen.items
-        h.1 refl (ap Some (c.deref.ensures.value ∙ h.2)) c.loop-message.invariant.fresh fresh said c.loop-message.invariant.telling);
+          (telling_more g.T.ChangeTeller.text (g.V.View.seen c.args.self.now.view) c.args.number c.args.line.now c.args.self.now.switch c.loop-message.self.switch (gives h.0 c.handle.new.self.switch)
+          c.loop-message.turn (c.loop-message.turn + 1) (Some c.deref.result.now) c.args.self.now.out.items c.loop-message.self.out.items c.look_again.new.self.out.items c.loop-message.self.seen.items c.look_again.new.self.seen.items
+          h.1 refl (ap Some (c.deref.ensures.value ∙ h.2)) c.loop-message.invariant.fresh fresh said c.loop-message.invariant.telling);
     }
 
 pub returns-clause-said : goal.returns-clause-said
