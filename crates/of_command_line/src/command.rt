@@ -1,5 +1,6 @@
 //! The words of the command line.
 
+use crate::history::HISTORIES;
 use clap::{Arg, ArgAction, ArgGroup, Command};
 use std::alloc::{AllocError, Global};
 
@@ -88,30 +89,6 @@ headers that no word says are 0, the TTL is 64, lengths and checksums are right.
   ofswitch trace examples/router.flows --port 1 0200000000a10200000000010800450000140000000040fd64e30a0000010a010109
   ofswitch trace --lines examples/router.flows --port 1 0200000000a10200000000010800450000140000000040fd64e30a0000010a010109
   ofswitch trace --events examples/failover.events --at 14 --port 1 02000000000202000000000188b5";
-
-const HISTORIES: &str =
-    "FILE is an event file (`ofswitch replay --help`), such as a log of `live`. Its rows are played on a new switch, and after each
-message of the controller, each change of a port and each time, the fate of the frame is looked at: the steps that it would take and
-what would leave, if it were received then at that port. Where the fate has changed, it says what happened, and both fates:
-
-  in_port=2,dl_src=02:00:00:00:00:02,dl_dst=02:00:00:00:00:01
-  line 11, message 1
-      from the controller: FLOW_MOD xid 6 ADD table 0 priority 1 ...
-      - table 0, priority 0, any packet
-      ...
-      - to the controller: no match, table 0: 020000000001...
-      + table 0, priority 1, in_port 2, eth_dst 02:00:00:00:00:01
-      ...
-      + out by port 1: 020000000001...
-
-Lines with - are of the fate before it, lines with + of the fate after it, and lines without a mark of both. Between two changes that
-are printed the fate is the same. The first fate is that on a switch without ports. Connections do not matter: what goes to the
-controller is a packet, whether one is connected or not. With --row the frame is the one of a row `f PORT HEX`, and the history
-ends there: the last change says why the frame went where it went. FRAME and --port are as `trace` takes them.
-
-  ofswitch history examples/moved-host.events in_port=2,dl_src=02:00:00:00:00:02,dl_dst=02:00:00:00:00:01
-  ofswitch history examples/moved-host.events --row 21
-  ofswitch history examples/failover.events --port 1 02000000000202000000000188b5";
 
 const CHECKS: &str =
     "FILE is a flow text (`ofswitch asm --help`), an event file (`ofswitch replay --help`), or what ovs-ofctl prints

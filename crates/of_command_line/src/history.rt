@@ -5,6 +5,31 @@ use crate::{FileKind, NoRequest, dpid_of, row_of};
 use clap::ArgMatches;
 use std::alloc::Global;
 
+/// What the help of `history` says.
+pub(crate) const HISTORIES: &str =
+    "FILE is an event file (`ofswitch replay --help`), such as a log of `live`. Its rows are played on a new switch, and after each
+message of the controller, each change of a port and each time, the fate of the frame is looked at: the steps that it would take and
+what would leave, if it were received then at that port. Where the fate has changed, it says what happened, and both fates:
+
+  in_port=2,dl_src=02:00:00:00:00:02,dl_dst=02:00:00:00:00:01
+  line 11, message 1
+      from the controller: FLOW_MOD xid 6 ADD table 0 priority 1 ...
+      - table 0, priority 0, any packet
+      ...
+      - to the controller: no match, table 0: 020000000001...
+      + table 0, priority 1, in_port 2, eth_dst 02:00:00:00:00:01
+      ...
+      + out by port 1: 020000000001...
+
+Lines with - are of the fate before it, lines with + of the fate after it, and lines without a mark of both. Between two changes that
+are printed the fate is the same. The first fate is that on a switch without ports. Connections do not matter: what goes to the
+controller is a packet, whether one is connected or not. With --row the frame is the one of a row `f PORT HEX`, and the history
+ends there: the last change says why the frame went where it went. FRAME and --port are as `trace` takes them.
+
+  ofswitch history examples/moved-host.events in_port=2,dl_src=02:00:00:00:00:02,dl_dst=02:00:00:00:00:01
+  ofswitch history examples/moved-host.events --row 21
+  ofswitch history examples/failover.events --port 1 02000000000202000000000188b5";
+
 /// Of which frame a history is.
 #[derive(PartialEq, Eq, Drop)]
 pub enum HistoryOf {

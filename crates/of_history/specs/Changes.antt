@@ -40,8 +40,8 @@ marked_lines [] new = other_lines [] new
 marked_lines (l ∷ old) [] = other_lines (l ∷ old) []
 marked_lines (l ∷ old) (m ∷ new) = if bytes_eq l m then kept_line l ++ marked_lines old new else other_lines (l ∷ old) (m ∷ new)
 
-unfoldable pub change_words : ChangeText
-change_words n line k cause old new = cause_words n line k cause ++ marked_lines (lines_of old) (lines_of new)
+unfoldable pub changed_words : ChangeText
+changed_words n line k cause old new = cause_words n line k cause ++ marked_lines (lines_of old) (lines_of new)
 
 -- ---- the history
 

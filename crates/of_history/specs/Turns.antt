@@ -62,6 +62,6 @@ after_turns s (t ∷ ts) = after_turns t.after ts
 -- ---- for contracts inside this crate
 
 -- the first message was handled, which had these bytes; or there is none
-abbrev pub Handles : Bool → State → State → List ℕ → Type 0
-Handles false s new message = (next_of s ≡ None) × (new ≡ s)
-Handles true s new message = (effects : List Effect) × (next_of s ≡ Some (gives effects new)) × (message ≡ first_handled s.connection.pending)
+abbrev pub HandlesFirst : Bool → State → State → List ℕ → Type 0
+HandlesFirst false s new message = (next_of s ≡ None) × (new ≡ s)
+HandlesFirst true s new message = (effects : List Effect) × (next_of s ≡ Some (gives effects new)) × (message ≡ first_handled s.connection.pending)

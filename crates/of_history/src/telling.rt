@@ -1,7 +1,7 @@
 //! What is said of a change.
 ghost use Rattle.std.specs.Prelude.{◌≡◌, ◌++◌, OnOk};
 ghost use Rattle.std.specs.Option.{option_copied};
-ghost use Rattle.of_history.specs.Changes.{ChangeText, cause_words, change_words};
+ghost use Rattle.of_history.specs.Changes.{ChangeText, cause_words, changed_words};
 
 use crate::marks::push_both;
 use of_explain::push_request;
@@ -60,9 +60,9 @@ fn push_cause(
 pub struct InWords;
 
 impl ChangeTeller for InWords {
-    ghost text = { change_words };
+    ghost text = { changed_words };
 
-    #[tactic(auto, unfolding(crate::specs::Changes::change_words))]
+    #[tactic(auto, unfolding(crate::specs::Changes::changed_words))]
     fn tell(
         &self,
         alloc: Global,

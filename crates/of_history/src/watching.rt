@@ -9,7 +9,7 @@ ghost use Rattle.of_switch.specs.declared.event.Event.TheVariants.{Chunk};
 ghost use Rattle.of_switch.specs.Runs.{drained, happened};
 ghost use Rattle.of_replay.specs.Rows.{with_bytes};
 ghost use Rattle.of_replay.specs.RowTexts.{row_happened, told};
-ghost use Rattle.of_history.specs.Turns.{Handles, all_message_turns, event_turns, first_handled, turn_of};
+ghost use Rattle.of_history.specs.Turns.{HandlesFirst, all_message_turns, event_turns, first_handled, turn_of};
 ghost use Rattle.of_history.specs.Changes.{bad_from, history_of, turns_told, unless_same};
 
 use crate::telling::ChangeTeller;
@@ -80,9 +80,9 @@ impl<L: Lookup, V: View<L> + Drop, T: ChangeTeller + Drop> Watching<L, V, T> {
         Ok(())
     }
 
-    // Handles the first message, whose bytes it keeps; false where there is none.
+    // HandlesFirst the first message, whose bytes it keeps; false where there is none.
     fn handle(&mut self, message: &mut Vec<u8>) -> Result<bool, SwitchError>
-        ensures handles { IfOk result (λ some. Handles some self.old.switch self.new.switch message.new.items) }
+        ensures handles { IfOk result (λ some. HandlesFirst some self.old.switch self.new.switch message.new.items) }
         ensures kept { (self.new.view ≡ self.old.view) × (self.new.seen ≡ self.old.seen) × (self.new.out ≡ self.old.out) }
         ensures err { IfErr result (λ e. e ≡ NoMemory) }
     {
@@ -91,7 +91,7 @@ impl<L: Lookup, V: View<L> + Drop, T: ChangeTeller + Drop> Watching<L, V, T> {
         Ok(self.switch.next()?.is_some())
     }
 
-    // Handles all messages that are there, and says what each of them changed.
+    // HandlesFirst all messages that are there, and says what each of them changed.
     fn tell_messages(&mut self, number: u64, line: &[u8]) -> Result<(), SwitchError>
         requires { self.old.seen.items ≡ V.seen self.old.view self.old.switch.core.forwarding }
         ensures said { OnOk result (self.new.out.items ≡ self.old.out.items
