@@ -1,6 +1,6 @@
 //! The words of the command line.
 
-use crate::history::HISTORIES;
+use crate::history::{HISTORIES, HISTORY};
 use clap::{Arg, ArgAction, ArgGroup, Command};
 use std::alloc::{AllocError, Global};
 
@@ -248,14 +248,14 @@ const VERSION: &str = "0.1.0";
 const ALTERNATIVES: &str = "alternatives";
 
 // An argument of a subcommand, and what its help says.
-struct Argument {
-    name: &'static str,
-    kind: Kind,
-    help: &'static str,
+pub(crate) struct Argument {
+    pub(crate) name: &'static str,
+    pub(crate) kind: Kind,
+    pub(crate) help: &'static str,
 }
 
 // How an argument is written.
-enum Kind {
+pub(crate) enum Kind {
     // By its place; it has to be there.
     Positional,
     // By its place, where it is there; then none of the options of which there has to be exactly one is needed.
@@ -415,39 +415,6 @@ const TRACE: [Argument; 13] = [
         name: "ports",
         kind: Kind::Optional("ports", "LIST"),
         help: "The ports of the switch of FILE, such as 1-8,100 (by default 1 to 4 and those that its flows and groups name)",
-    },
-];
-
-const HISTORY: [Argument; 6] = [
-    Argument {
-        name: "FILE",
-        kind: Kind::Positional,
-        help: "The event file, such as a log of `live`; - is standard input",
-    },
-    Argument {
-        name: "FRAME",
-        kind: Kind::Place,
-        help: "The frame: two hexadecimal digits per byte, or words such as in_port=1,tcp,nw_src=10.0.0.1,tp_dst=80",
-    },
-    Argument {
-        name: "row",
-        kind: Kind::Alternative("row", "ROW"),
-        help: "Take the frame of this line of the file, and play only the lines before it",
-    },
-    Argument {
-        name: "N",
-        kind: Kind::Excluded("port", "N", "row"),
-        help: "The port at which the frame is received. Words of FRAME may say it instead",
-    },
-    Argument {
-        name: "dpid",
-        kind: Kind::Optional("dpid", "N"),
-        help: "The datapath_id, decimal or 0x and hexadecimal digits (by default 1)",
-    },
-    Argument {
-        name: "json",
-        kind: Kind::Flag("json"),
-        help: "Print a JSON object for each change, in a line of its own (docs/JSON.md)",
     },
 ];
 

@@ -1,5 +1,6 @@
 //! Which frame `history` is about.
 
+use crate::command::{Argument, Kind};
 use crate::received::received_of;
 use crate::{FileKind, NoRequest, dpid_of, row_of};
 use clap::ArgMatches;
@@ -12,8 +13,8 @@ message of the controller, each change of a port and each time, the fate of the 
 what would leave, if it were received then at that port. Where the fate has changed, it says what happened, and both fates:
 
   in_port=2,dl_src=02:00:00:00:00:02,dl_dst=02:00:00:00:00:01
-  line 11, message 1
-      from the controller: FLOW_MOD xid 6 ADD table 0 priority 1 ...
+  line 14, message 1
+      from the controller: FLOW_MOD xid 5 ADD table 0 priority 1 ...
       - table 0, priority 0, any packet
       ...
       - to the controller: no match, table 0: 020000000001...
@@ -29,6 +30,40 @@ ends there: the last change says why the frame went where it went. FRAME and --p
   ofswitch history examples/moved-host.events in_port=2,dl_src=02:00:00:00:00:02,dl_dst=02:00:00:00:00:01
   ofswitch history examples/moved-host.events --row 21
   ofswitch history examples/failover.events --port 1 02000000000202000000000188b5";
+
+/// Its arguments.
+pub(crate) const HISTORY: [Argument; 6] = [
+    Argument {
+        name: "FILE",
+        kind: Kind::Positional,
+        help: "The event file, such as a log of `live`; - is standard input",
+    },
+    Argument {
+        name: "FRAME",
+        kind: Kind::Place,
+        help: "The frame: two hexadecimal digits per byte, or words such as in_port=1,tcp,nw_src=10.0.0.1,tp_dst=80",
+    },
+    Argument {
+        name: "row",
+        kind: Kind::Alternative("row", "ROW"),
+        help: "Take the frame of this line of the file, and play only the lines before it",
+    },
+    Argument {
+        name: "N",
+        kind: Kind::Excluded("port", "N", "row"),
+        help: "The port at which the frame is received. Words of FRAME may say it instead",
+    },
+    Argument {
+        name: "dpid",
+        kind: Kind::Optional("dpid", "N"),
+        help: "The datapath_id, decimal or 0x and hexadecimal digits (by default 1)",
+    },
+    Argument {
+        name: "json",
+        kind: Kind::Flag("json"),
+        help: "Print a JSON object for each change, in a line of its own (docs/JSON.md)",
+    },
+];
 
 /// Of which frame a history is.
 #[derive(PartialEq, Eq, Drop)]
