@@ -1,5 +1,5 @@
 -- Turns, one after the other.
-use Rattle.std.proofs.Common.{◌≡◌, ℕ, ◌+◌, ◌<◌, ◌≤◌, suc, zero, Bool, true, false, cond, List, [], ◌∷◌, ◌++◌, length, Option, Some, None, Result, Ok, Err, refl, sym, ◌∙◌, ap, ◌⊎◌, inl, inr, arith, append_assoc}
+use Rattle.std.proofs.Common.{◌≡◌, ℕ, ◌+◌, ◌<◌, suc, zero, Bool, true, false, cond, List, [], ◌∷◌, ◌++◌, length, Option, Some, None, Result, Ok, Err, refl, sym, ◌∙◌, ap, ◌⊎◌, inl, inr, arith, append_assoc}
 use Rattle.std.proofs.lemmas.List.{append-nil}
 use Rattle.std.proofs.lemmas.Slice.Eq.{bytes_eq-Decides}
 use Rattle.std.specs.Prelude.{OnOk}
@@ -11,7 +11,7 @@ use Rattle.of_switch.specs.declared.switch_error.SwitchError.{SwitchError}
 use Rattle.of_switch.specs.State.{State}
 use Rattle.of_switch.specs.Steps.{Outcome, connected, fed, frame_in, gives, lost, moment_in, next_of, port_changed}
 use Rattle.of_switch.specs.Calls.{Call, connect_refusal, feed_refusal, port_refusal}
-use Rattle.of_switch.specs.Runs.{Report, Gives, IsRefused, Happened, chunk_in, drain, drained, happened, then_more, unless_refusal}
+use Rattle.of_switch.specs.Runs.{chunk_in, drain, drained, happened, then_more, unless_refusal}
 use Rattle.of_switch.proofs.Draining.{next_shorter}
 use Rattle.of_switch.specs.declared.port_change.PortChange.{PortChange}
 use Rattle.of_replay.specs.declared.rows.Row.{Row}
@@ -19,7 +19,7 @@ use Rattle.of_replay.specs.declared.rows.Row.TheVariants as row
 use Rattle.of_replay.specs.Rows.{with_bytes}
 use Rattle.of_replay.specs.RowTexts.{row_happened}
 use Rattle.of_history.specs.Turns.{Turn, after_turns, all_message_turns, chunk_turns, first_handled, message_turns, row_turns, turn_and, turn_of}
-use Rattle.of_history.specs.Changes.{ChangeText, after_rows, rows_told_last, told_last, turn_told, turns_told, unless_same}
+use Rattle.of_history.specs.Changes.{ChangeText, after_rows, rows_told_last, told_last, turns_told, unless_same}
 
 -- ---- where turns lead
 

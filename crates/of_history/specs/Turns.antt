@@ -9,7 +9,7 @@ use Rattle.of_switch.specs.declared.switch_error.SwitchError.{SwitchError}
 use Rattle.of_switch.specs.State.{State}
 use Rattle.of_switch.specs.Steps.{Outcome, fed, gives, next_of}
 use Rattle.of_switch.specs.Calls.{feed_refusal}
-use Rattle.of_switch.specs.Runs.{Report, Gives, IsRefused, Happened, happened}
+use Rattle.of_switch.specs.Runs.{Report, Gives, IsRefused, happened}
 
 -- a message, or nothing where the row itself happens; and the switch after it
 pub record Turn : Type 0 where

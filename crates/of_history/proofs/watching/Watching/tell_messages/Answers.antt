@@ -1,4 +1,4 @@
-use Rattle.std.proofs.Common.{◌≡◌, ◌+◌, ◌++◌, List, ℕ, Some, refl, sym, ◌∙◌, ap, arith}
+use Rattle.std.proofs.Common.{◌≡◌, ◌+◌, ◌++◌, Some, refl, ◌∙◌, ap, arith}
 use Rattle.of_switch.specs.Steps.{gives}
 use Rattle.of_switch.proofs.Draining.{next_shorter}
 use Rattle.of_history.specs.Changes.{unless_same}
