@@ -20,10 +20,13 @@ pub enum HistoryVerdict {
     NoFrame,
 }
 
-// The bytes before the line of that number, from 1, and that line. Both are empty where there are fewer lines.
+// The bytes before the line of that number, from 1, and that line, which is empty where there are fewer lines.
 fn split_at_row(bytes: &[u8], row: u32) -> (&[u8], &[u8]) {
     let mut rest = bytes;
     for _ in 1..row {
+        if rest.is_empty() {
+            return (bytes, rest);
+        }
         let (_, after) = cut(rest, b'\n');
         rest = after;
     }
