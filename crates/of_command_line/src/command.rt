@@ -1,5 +1,6 @@
 //! The words of the command line.
 
+use crate::history::{HISTORIES, HISTORY};
 use clap::{Arg, ArgAction, ArgGroup, Command};
 use std::alloc::{AllocError, Global};
 
@@ -247,14 +248,14 @@ const VERSION: &str = "0.1.0";
 const ALTERNATIVES: &str = "alternatives";
 
 // An argument of a subcommand, and what its help says.
-struct Argument {
-    name: &'static str,
-    kind: Kind,
-    help: &'static str,
+pub(crate) struct Argument {
+    pub(crate) name: &'static str,
+    pub(crate) kind: Kind,
+    pub(crate) help: &'static str,
 }
 
 // How an argument is written.
-enum Kind {
+pub(crate) enum Kind {
     // By its place; it has to be there.
     Positional,
     // By its place, where it is there; then none of the options of which there has to be exactly one is needed.
@@ -640,7 +641,7 @@ struct Subcommand {
     arguments: &'static [Argument],
 }
 
-const SUBCOMMANDS: [Subcommand; 11] = [
+const SUBCOMMANDS: [Subcommand; 12] = [
     Subcommand {
         name: "replay",
         about: "Runs an event file on a new switch and prints the effects",
@@ -676,6 +677,12 @@ const SUBCOMMANDS: [Subcommand; 11] = [
         about: "Prints each step of a frame through a switch",
         text: TRACES,
         arguments: &TRACE,
+    },
+    Subcommand {
+        name: "history",
+        about: "Finds where in an event file the fate of a frame changes, and what changed it",
+        text: HISTORIES,
+        arguments: &HISTORY,
     },
     Subcommand {
         name: "check",

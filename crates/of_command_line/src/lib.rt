@@ -2,6 +2,7 @@
 #![tactic(auto)]
 
 mod command;
+mod history;
 mod paths;
 mod port_list;
 mod received;
@@ -13,6 +14,8 @@ ghost use Rattle.of_command_line.specs.declared.NoRequest.TheVariants.{NoMemory}
 use clap::ArgMatches;
 use clap::error::{Error, ErrorKind};
 use command::command;
+use history::history_of;
+pub use history::{HistoryAsked, HistoryOf};
 use of_wire::limits::TABLES;
 pub use paths::{Leading, PathsAsked};
 use paths::{paths_of, steps_of};
@@ -96,6 +99,8 @@ pub enum Request {
     },
     /// To print the trace of a frame that is received at a port of the switch of a file; `-` is standard input.
     Trace(Trace),
+    /// To print where in an event file the fate of a frame changes; `-` is standard input.
+    History(HistoryAsked),
     /// To print which flows of the switch of a file can win, and which never do; `-` is standard input.
     Check(Check),
     /// To print which frames the switches of two files treat differently.
@@ -308,6 +313,7 @@ fn request_of<N: Net>(
         "serve" => Ok(Request::Serve(serve_of(alloc, net, matches)?)),
         "live" => Ok(Request::Live(live_of(alloc, net, matches)?)),
         "trace" => Ok(Request::Trace(trace_of(alloc, matches)?)),
+        "history" => Ok(Request::History(history_of(alloc, matches)?)),
         "check" => Ok(Request::Check(check_of(alloc, matches)?)),
         "diff" => Ok(Request::Diff(diff_of(alloc, matches)?)),
         "paths" => Ok(Request::Paths(paths_of(alloc, matches)?)),

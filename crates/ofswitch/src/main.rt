@@ -7,6 +7,7 @@ mod checking;
 mod diffing;
 mod files;
 mod hinting;
+mod history;
 mod importing;
 mod live;
 mod lookups;
@@ -19,6 +20,7 @@ mod tracing;
 use crate::checking::{CheckVerdict, checked};
 use crate::diffing::diffed;
 use crate::files::{NoFile, Opened, bytes_of, open, read_whole};
+use crate::history::{HistoryVerdict, recounted};
 use crate::lookups::Lookups;
 use crate::paths::{NoPaths, divided};
 use crate::tracing::{TraceVerdict, traced};
@@ -26,8 +28,8 @@ use hinting::{Seen, Watched, say_hint, say_refusal, say_unread};
 use importing::{NotImported, imported, imported_as_json};
 use live::live_rows;
 use of_command_line::{
-    Check, Diff, FileRun, Live, NoRequest, PathsAsked, ReplayOutput, Request, Run, Serve, Trace,
-    read_request,
+    Check, Diff, FileRun, HistoryAsked, Live, NoRequest, PathsAsked, ReplayOutput, Request, Run,
+    Serve, Trace, read_request,
 };
 use of_diff_report::DiffVerdict;
 use of_explain::{Answering, Explaining, ExplainingJson};
@@ -100,6 +102,7 @@ fn carry_out(rt: &HostRuntime, request: &Request) -> ExitCode {
     match request {
         Request::File(asked) => run_file(rt, asked),
         Request::Trace(asked) => run_trace(rt, asked),
+        Request::History(asked) => run_history(rt, asked),
         Request::Check(asked) => run_check(rt, asked),
         Request::Diff(asked) => run_diff(rt, asked),
         Request::Paths(asked) => run_paths(rt, asked),
@@ -207,6 +210,14 @@ fn run_trace(rt: &HostRuntime, asked: &Trace) -> ExitCode {
         Ok(TraceVerdict::MissingPorts) => ExitCode::from(UNDECIDED),
         Ok(TraceVerdict::NoPort) => ExitCode::from(BAD_ARGUMENTS),
         Err(why) => end_unread(rt, asked.of.path.as_str(), why),
+    }
+}
+
+fn run_history(rt: &HostRuntime, asked: &HistoryAsked) -> ExitCode {
+    match recounted(rt, asked) {
+        Ok(HistoryVerdict::Told) => ExitCode::SUCCESS,
+        Ok(HistoryVerdict::NoFrame) => ExitCode::from(BAD_ARGUMENTS),
+        Err(why) => end_unread(rt, asked.file.as_str(), why),
     }
 }
 

@@ -1,0 +1,21 @@
+-- CHANGES AS JSON LINES (RFC 8259): an object for each, in a line of its own.
+use Rattle.std.specs.Prelude.{ℕ, List, [], ◌∷◌, ◌++◌, codes, decimal, Option, Some, None}
+use Rattle.of_text.specs.Lines.{lines_of}
+use Rattle.of_json.specs.Parts.{key, listed, number_member}
+use Rattle.of_json.specs.Strings.{array_member, line_string, string_member}
+use Rattle.of_explain.specs.Requests.{request_notes}
+use Rattle.of_history.specs.Changes.{ChangeText}
+
+-- a further member: the lines of a text without so many bytes before each
+unfoldable pub lines_member : List ℕ → ℕ → List ℕ → List ℕ
+lines_member name indent text = array_member name (listed (line_string indent) (lines_of text))
+
+-- `"row":"port link 1 down"`, or `"message":3,"by":["from the controller: FLOW_MOD xid 6 ..",..]`
+unfoldable pub cause_members : List ℕ → ℕ → Option (List ℕ) → List ℕ
+cause_members line k None = string_member (codes "row") line
+cause_members line k (Some m) = number_member (codes "message") k ++ lines_member (codes "by") 4 (request_notes m)
+
+-- `{"line":24,"message":3,"by":[..],"before":[..],"after":[..]}`: what the view was before and after it
+unfoldable pub change_object : ChangeText
+change_object n line k cause old new =
+    123 ∷ key (codes "line") ++ decimal n ++ cause_members line k cause ++ lines_member (codes "before") 0 old ++ lines_member (codes "after") 0 new ++ 125 ∷ 10 ∷ []

@@ -1,0 +1,93 @@
+-- THE HISTORY OF A VIEW of a switch, which is a text of lines: for each turn after which the text is another one, who did it, and both texts.
+use Rattle.std.specs.Prelude.{ℕ, ◌+◌, List, [], ◌∷◌, ◌++◌, codes, decimal, Option, Some, None, if◌then◌else◌}
+use Rattle.std.specs.List.{flat_map}
+use Rattle.std.specs.Str.{bytes_eq}
+use Rattle.of_text.specs.Lines.{ended, lines_of}
+use Rattle.of_datapath.specs.Datapath.{Forwarding}
+use Rattle.of_switch.specs.declared.event.Event.{Event}
+use Rattle.of_switch.specs.State.{State}
+use Rattle.of_replay.specs.Rows.{row_of_line}
+use Rattle.of_replay.specs.RowTexts.{RowText, row_happened}
+use Rattle.of_explain.specs.Requests.{request_notes}
+use Rattle.of_history.specs.Turns.{Turn, row_turns}
+
+-- what is said of a change: by the number of the line, from 1, the line, the number of the turn in it, from 1, its message if it is one, and both texts
+abbrev pub ChangeText : Type 0
+ChangeText = ℕ → List ℕ → ℕ → Option (List ℕ) → List ℕ → List ℕ → List ℕ
+
+-- ---- in words
+
+-- `line 9: port link 1 down`, or `line 24, message 3` and the notes of the message
+unfoldable pub cause_words : ℕ → List ℕ → ℕ → Option (List ℕ) → List ℕ
+cause_words n line k None = codes "line " ++ decimal n ++ codes ": " ++ ended line
+cause_words n line k (Some m) = codes "line " ++ decimal n ++ codes ", message " ++ decimal k ++ 10 ∷ request_notes m
+
+abbrev pub kept_line : List ℕ → List ℕ
+kept_line line = codes "      " ++ ended line
+
+abbrev pub gone_line : List ℕ → List ℕ
+gone_line line = codes "    - " ++ ended line
+
+abbrev pub come_line : List ℕ → List ℕ
+come_line line = codes "    + " ++ ended line
+
+abbrev pub other_lines : List (List ℕ) → List (List ℕ) → List ℕ
+other_lines old new = flat_map gone_line old ++ flat_map come_line new
+
+-- the first lines that both texts have, then the others of the old one, then those of the new one
+abbrev pub marked_lines : List (List ℕ) → List (List ℕ) → List ℕ
+marked_lines [] new = other_lines [] new
+marked_lines (l ∷ old) [] = other_lines (l ∷ old) []
+marked_lines (l ∷ old) (m ∷ new) = if bytes_eq l m then kept_line l ++ marked_lines old new else other_lines (l ∷ old) (m ∷ new)
+
+unfoldable pub changed_words : ChangeText
+changed_words n line k cause old new = cause_words n line k cause ++ marked_lines (lines_of old) (lines_of new)
+
+-- ---- the history
+
+-- a turn after which the text is the same is not told
+abbrev pub unless_same : List ℕ → List ℕ → List ℕ → List ℕ
+unless_same old new text = if bytes_eq old new then [] else text
+
+abbrev pub turn_told : ChangeText → (Forwarding → List ℕ) → ℕ → List ℕ → ℕ → State → Turn → List ℕ
+turn_told text seen n line k s t =
+    let old = seen s.core.forwarding in
+    let new = seen t.after.core.forwarding in
+    unless_same old new (text n line k t.cause old new)
+
+-- from the turn of that number in its line on
+abbrev pub turns_told : ChangeText → (Forwarding → List ℕ) → ℕ → List ℕ → ℕ → State → List Turn → List ℕ
+turns_told text seen n line k s [] = []
+turns_told text seen n line k s (t ∷ ts) = turn_told text seen n line k s t ++ turns_told text seen n line (k + 1) t.after ts
+
+-- THE TALE of a row: the turns that change the view
+abbrev pub history_of : ChangeText → (Forwarding → List ℕ) → RowText
+history_of text seen n s line row = turns_told text seen n line 1 s (row_turns s row)
+
+-- the number of the first bad line, where the first of them has this one
+abbrev pub bad_and : ℕ → Option (Option Event) → Option ℕ → Option ℕ
+bad_and n None others = Some n
+bad_and n (Some row) others = others
+
+abbrev pub bad_from : ℕ → List (List ℕ) → Option ℕ
+bad_from n [] = None
+bad_from n (line ∷ lines) = bad_and n (row_of_line line) (bad_from (n + 1) lines)
+
+-- ---- what is known from it
+
+-- the text that was told last, where it was this one before the turns: at each place between two turns
+abbrev pub told_last : (Forwarding → List ℕ) → List ℕ → State → List Turn → List ℕ
+told_last seen told s [] = told
+told_last seen told s (t ∷ ts) =
+    let old = seen s.core.forwarding in
+    let new = seen t.after.core.forwarding in
+    told_last seen (if bytes_eq old new then told else new) t.after ts
+
+-- the same for rows
+abbrev pub rows_told_last : (Forwarding → List ℕ) → List ℕ → State → List (Option Event) → List ℕ
+rows_told_last seen told s [] = told
+rows_told_last seen told s (row ∷ rows) = rows_told_last seen (told_last seen told s (row_turns s row)) (row_happened s row).state rows
+
+abbrev pub after_rows : State → List (Option Event) → State
+after_rows s [] = s
+after_rows s (row ∷ rows) = after_rows (row_happened s row).state rows

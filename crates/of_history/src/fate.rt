@@ -1,0 +1,186 @@
+//! The fate of a frame.
+ghost use Rattle.std.specs.Prelude.{◌≡◌, ◌≤◌, ◌++◌, IfOk, IsTrue, OnOk, Some, length};
+ghost use Rattle.of_datapath.specs.DryRun.{received_steps};
+ghost use Rattle.of_tracing.specs.Encoded.{are_encoded, is_encoded};
+ghost use Rattle.of_trace.specs.Words.{flow_there, found_words};
+ghost use Rattle.of_history.specs.Fates.{deaf_port, fate, fate_line, fate_lines, received_fate, received_items};
+
+use crate::view::View;
+use of_classifier::Lookup;
+use of_headers::check_length;
+use of_json::push_side;
+use of_machine::{Items, Step, Steps};
+use of_ports::{Port, find_port};
+use of_switch::Switch;
+use of_table::Flow;
+use of_text::push_number;
+use of_trace::push_words_line;
+use of_values::push_entry_words;
+use of_wire::limits::TABLES;
+use std::alloc::{AllocError, Global};
+
+/// The steps of the run of a received frame, and what it emits.
+#[derive(Drop)]
+struct FrameRun {
+    steps: Vec<Step>,
+    items: Items,
+    ghost encoded: { IsTrue (are_encoded steps.items) },
+}
+
+// The run of a frame that is received at a port. Nothing changes.
+fn run_frame<L: Lookup>(
+    alloc: Global,
+    switch: &Switch<L>,
+    port: u32,
+    frame: &[u8],
+) -> Result<FrameRun, AllocError>
+    requires long { 14 ≤ length frame.now }
+    requires most { length frame.now ≤ 9216 }
+    ensures steps { IfOk result (λ run. run.steps.items ≡ received_steps port frame.now switch.now.core.forwarding) }
+    ensures items { IfOk result (λ run. run.items.items ≡ received_items port frame.now switch.now.core.forwarding) }
+{
+    let datapath = switch.datapath();
+    datapath.known_world();
+    let mut log = Steps::new(alloc);
+    let items = datapath.received_items(alloc, port, frame, &mut log)?;
+    let Steps { list } = log;
+    Ok(FrameRun { steps: list, items })
+}
+
+// Appends the priority and the match of a flow.
+#[tactic(auto, unfolding(of_trace::specs::Words::found_words))]
+fn push_winner_words(out: &mut Vec<u8>, flow: &Flow) -> Result<(), AllocError>
+    ensures { OnOk result (out.new.items ≡ out.old.items ++ found_words (Some flow.now)) }
+{
+    out.extend_from_slice(b", ")?;
+    push_entry_words(out, flow.priority, flow.fields.fields())
+}
+
+// Appends those of an entry, if there is one.
+#[tactic(auto, unfolding(of_trace::specs::Words::found_words))]
+fn push_winner<L: Lookup>(
+    out: &mut Vec<u8>,
+    switch: &Switch<L>,
+    table: u8,
+    place: usize,
+) -> Result<(), AllocError>
+    ensures { OnOk result (out.new.items ≡ out.old.items ++ found_words (flow_there switch.now.core.forwarding table place)) }
+{
+    if table >= TABLES {
+        return Ok(());
+    }
+    let Some(entry) = switch.datapath().entry(table, place) else {
+        return Ok(());
+    };
+    push_winner_words(out, &entry.flow)
+}
+
+// Appends a step in words, an entry without its place in its table.
+#[tactic(auto, unfolding(of_trace::specs::Words::numbered_words, crate::specs::Fates::fate_line))]
+fn push_fate_line<L: Lookup>(
+    out: &mut Vec<u8>,
+    switch: &Switch<L>,
+    step: Step,
+) -> Result<(), AllocError>
+    requires { IsTrue (is_encoded step) }
+    ensures { OnOk result (out.new.items ≡ out.old.items ++ fate_line switch.now.core.forwarding step) }
+{
+    match step {
+        Step::Entry { table, number } => {
+            out.extend_from_slice(b"table")?;
+            push_number(out, u64::from(table))?;
+            push_winner(out, switch, table, number)
+        }
+        _ => push_words_line(out, switch, step),
+    }
+}
+
+// Appends the lines of steps.
+fn push_fate_lines<L: Lookup>(
+    out: &mut Vec<u8>,
+    switch: &Switch<L>,
+    steps: &[Step],
+) -> Result<(), AllocError>
+    requires { IsTrue (are_encoded steps.now) }
+    ensures { OnOk result (out.new.items ≡ out.old.items ++ fate_lines switch.now.core.forwarding steps.now) }
+{
+    for step in steps {
+        push_fate_line(out, switch, *step)?;
+        out.push(b'\n')?;
+    }
+    Ok(())
+}
+
+// Appends the fate of a frame that is received.
+#[tactic(auto, unfolding(crate::specs::Fates::received_fate))]
+fn push_received_fate<L: Lookup>(
+    alloc: Global,
+    out: &mut Vec<u8>,
+    switch: &Switch<L>,
+    port: u32,
+    frame: &[u8],
+) -> Result<(), AllocError>
+    requires long { 14 ≤ length frame.now }
+    requires most { length frame.now ≤ 9216 }
+    ensures { OnOk result (out.new.items ≡ out.old.items ++ received_fate port frame.now switch.now.core.forwarding) }
+{
+    let run = run_frame(alloc, switch, port, frame)?;
+    push_fate_lines(out, switch, &run.steps)?;
+    push_side(alloc, out, b"", &run.items)
+}
+
+// Appends why a port receives nothing.
+#[tactic(auto, unfolding(crate::specs::Fates::deaf_port))]
+fn push_deaf_port(out: &mut Vec<u8>, port: &Port) -> Result<(), AllocError>
+    ensures { OnOk result (out.new.items ≡ out.old.items ++ deaf_port port.now) }
+{
+    if port.is_live() {
+        out.extend_from_slice(b"not received: the port receives nothing\n")
+    } else {
+        out.extend_from_slice(b"not received: the port is down\n")
+    }
+}
+
+// Appends the fate of a frame at a port.
+#[tactic(auto, unfolding(crate::specs::Fates::fate, crate::specs::Fates::fate_at, crate::specs::Fates::fate_unless_fault))]
+fn push_fate<L: Lookup>(
+    alloc: Global,
+    out: &mut Vec<u8>,
+    switch: &Switch<L>,
+    port: u32,
+    frame: &[u8],
+) -> Result<(), AllocError>
+    ensures { OnOk result (out.new.items ≡ out.old.items ++ fate port frame.now switch.now.core.forwarding) }
+{
+    let Some(there) = find_port(switch.datapath().ports.as_slice(), port) else {
+        return out.extend_from_slice(b"not received: there is no such port\n");
+    };
+    if !there.may_receive() {
+        return push_deaf_port(out, there);
+    }
+    if check_length(frame).is_err() {
+        return out.extend_from_slice(b"not received: a frame has 14 to 9216 bytes\n");
+    }
+    push_received_fate(alloc, out, switch, port, frame)
+}
+
+/// Watches the fate of a frame that would be received at a port (OpenFlow 1.3.5, 5.1): its steps and what leaves, in words; or why it is
+/// not received.
+///
+/// Entries are named by their priority and match. What leaves are the frames and the packets to the controller that the run emits,
+/// whether a controller is connected or not.
+#[derive(Drop)]
+pub struct FrameView {
+    pub port: u32,
+    pub frame: Vec<u8>,
+}
+
+impl<L: Lookup> View<L> for FrameView {
+    ghost seen = { λ v. fate v.port v.frame.items };
+
+    fn look(&self, alloc: Global, switch: &Switch<L>) -> Result<Vec<u8>, AllocError> {
+        let mut out = Vec::new(alloc);
+        push_fate(alloc, &mut out, switch, self.port, &self.frame)?;
+        Ok(out)
+    }
+}

@@ -1,0 +1,17 @@
+//! The history of what a switch shows: the messages, rows and times of an event file at which it changes.
+#![tactic(auto)]
+
+mod fate;
+mod laws;
+mod marks;
+mod objects;
+mod telling;
+mod view;
+mod watching;
+
+pub use fate::FrameView;
+pub use laws::fates_between;
+pub use objects::InJson;
+pub use telling::{ChangeTeller, InWords};
+pub use view::View;
+pub use watching::{LogHistory, history};

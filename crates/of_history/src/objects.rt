@@ -1,0 +1,79 @@
+//! Changes as JSON.
+ghost use Rattle.std.specs.Prelude.{◌≡◌, ◌++◌, OnOk};
+ghost use Rattle.std.specs.Option.{option_copied};
+ghost use Rattle.of_history.specs.ChangeObjects.{cause_members, change_object, lines_member};
+
+use crate::telling::ChangeTeller;
+use of_explain::push_request;
+use of_json::{begin_array, push_key, push_line_strings, push_number_member, push_string_member};
+use of_values::push_decimal;
+use std::alloc::{AllocError, Global};
+
+/// How many spaces there are before a note.
+const INDENT: usize = 4;
+
+// Appends the lines of a text as an array.
+#[tactic(auto, unfolding(of_json::specs::Strings::array_member, crate::specs::ChangeObjects::lines_member))]
+fn push_lines_member(
+    out: &mut Vec<u8>,
+    name: &[u8],
+    indent: usize,
+    text: &[u8],
+) -> Result<(), AllocError>
+    ensures { OnOk result (out.new.items ≡ out.old.items ++ lines_member name.now indent text.now) }
+{
+    begin_array(out, name)?;
+    push_line_strings(out, indent, text)?;
+    out.push(b']')?;
+    Ok(())
+}
+
+// Appends who it was.
+#[tactic(auto, unfolding(crate::specs::ChangeObjects::cause_members))]
+fn push_cause_members(
+    alloc: Global,
+    out: &mut Vec<u8>,
+    line: &[u8],
+    turn: u64,
+    message: Option<&[u8]>,
+) -> Result<(), AllocError>
+    ensures { OnOk result (out.new.items ≡ out.old.items ++ cause_members line.now turn (option_copied message.entry)) }
+{
+    let Some(message) = message else {
+        return push_string_member(out, b"row", line);
+    };
+    let mut notes = Vec::new(alloc);
+    push_request(alloc, &mut notes, message)?;
+    push_number_member(out, b"message", u128::from(turn))?;
+    push_lines_member(out, b"by", INDENT, &notes)
+}
+
+/// As JSON Lines: an object for each change, with the number of its line, the row, or the number of the message in it and its notes,
+/// and the lines of the view before and after it.
+#[derive(Drop)]
+pub struct InJson;
+
+impl ChangeTeller for InJson {
+    ghost text = { change_object };
+
+    #[tactic(auto, unfolding(crate::specs::ChangeObjects::change_object))]
+    fn tell(
+        &self,
+        alloc: Global,
+        out: &mut Vec<u8>,
+        number: u64,
+        line: &[u8],
+        turn: u64,
+        message: Option<&[u8]>,
+        old: &[u8],
+        new: &[u8],
+    ) -> Result<(), AllocError> {
+        out.push(b'{')?;
+        push_key(out, b"line")?;
+        push_decimal(out, u128::from(number))?;
+        push_cause_members(alloc, out, line, turn, message)?;
+        push_lines_member(out, b"before", 0, old)?;
+        push_lines_member(out, b"after", 0, new)?;
+        out.extend_from_slice(b"}\n")
+    }
+}

@@ -1,0 +1,243 @@
+//! The history of a view of a switch.
+ghost use Rattle.std.specs.Prelude.{◌≡◌, ◌++◌, IfErr, IfOk, OnOk};
+ghost use Rattle.std.specs.Option.{option_copied};
+ghost use Rattle.of_text.specs.Lines.{lines_of};
+ghost use Rattle.of_switch.specs.declared.switch_error.SwitchError.TheVariants.{NoMemory};
+ghost use Rattle.of_switch.specs.State.{start};
+ghost use Rattle.of_switch.specs.declared.event.Event.{Event};
+ghost use Rattle.of_switch.specs.declared.event.Event.TheVariants.{Chunk};
+ghost use Rattle.of_switch.specs.Runs.{drained, happened};
+ghost use Rattle.of_replay.specs.Rows.{with_bytes};
+ghost use Rattle.of_replay.specs.RowTexts.{row_happened, told};
+ghost use Rattle.of_history.specs.Turns.{HandlesFirst, all_message_turns, event_turns, first_handled, turn_of};
+ghost use Rattle.of_history.specs.Changes.{bad_from, history_of, turns_told, unless_same};
+
+use crate::telling::ChangeTeller;
+use crate::view::View;
+use of_classifier::Lookup;
+use of_replay::{Row, play_row, read_row};
+use of_switch::{Switch, SwitchError};
+use of_text::{cut, is};
+use of_wire::front_part;
+use std::alloc::{AllocError, Global};
+
+/// How many bytes a message's header has (OpenFlow 1.3.5, 7.1).
+const HEADER: usize = 8;
+
+// The bytes that are handled first.
+fn handled_first(pending: &[u8]) -> &[u8]
+    ensures { result.now ≡ first_handled pending.now }
+{
+    let size = match pending {
+        [_, _, high, low, ..] => usize::from(*high) * 256 + usize::from(*low),
+        _ => 0,
+    };
+    front_part(pending, size.max(HEADER))
+}
+
+/// A switch whose rows are played, and how a view of it has changed.
+#[derive(Drop)]
+struct Watching<L: Lookup, V: View<L> + Drop, T: ChangeTeller + Drop> {
+    alloc: Global,
+    switch: Switch<L>,
+    view: V,
+    teller: T,
+    // the view of the switch
+    seen: Vec<u8>,
+    // what was said of its changes
+    out: Vec<u8>,
+}
+
+impl<L: Lookup, V: View<L> + Drop, T: ChangeTeller + Drop> Watching<L, V, T> {
+    // Looks at the switch after a turn, and says what that changed.
+    fn look_again(
+        &mut self,
+        number: u64,
+        line: &[u8],
+        turn: u64,
+        message: Option<&[u8]>,
+    ) -> Result<(), AllocError>
+        ensures said { OnOk result (self.new.out.items ≡ self.old.out.items ++ unless_same self.old.seen.items self.new.seen.items
+            (T.text number line.now turn (option_copied message.entry) self.old.seen.items self.new.seen.items)) }
+        ensures seen { OnOk result (self.new.seen.items ≡ V.seen self.old.view self.old.switch.core.forwarding) }
+        ensures kept { (self.new.switch ≡ self.old.switch) × (self.new.view ≡ self.old.view) }
+    {
+        let seen = self.view.look(self.alloc, &self.switch)?;
+        if is(&self.seen, &seen) {
+            return Ok(());
+        }
+        self.teller.tell(
+            self.alloc,
+            &mut self.out,
+            number,
+            line,
+            turn,
+            message,
+            &self.seen,
+            &seen,
+        )?;
+        self.seen = seen;
+        Ok(())
+    }
+
+    // HandlesFirst the first message, whose bytes it keeps; false where there is none.
+    fn handle(&mut self, message: &mut Vec<u8>) -> Result<bool, SwitchError>
+        ensures handles { IfOk result (λ some. HandlesFirst some self.old.switch self.new.switch message.new.items) }
+        ensures kept { (self.new.view ≡ self.old.view) × (self.new.seen ≡ self.old.seen) × (self.new.out ≡ self.old.out) }
+        ensures err { IfErr result (λ e. e ≡ NoMemory) }
+    {
+        message.clear();
+        message.extend_from_slice(handled_first(self.switch.pending()))?;
+        Ok(self.switch.next()?.is_some())
+    }
+
+    // HandlesFirst all messages that are there, and says what each of them changed.
+    fn tell_messages(&mut self, number: u64, line: &[u8]) -> Result<(), SwitchError>
+        requires { self.old.seen.items ≡ V.seen self.old.view self.old.switch.core.forwarding }
+        ensures said { OnOk result (self.new.out.items ≡ self.old.out.items
+            ++ turns_told T.text (V.seen self.old.view) number line.now 1 self.old.switch (all_message_turns self.old.switch)) }
+        ensures switch { OnOk result (self.new.switch ≡ (drained self.old.switch).state) }
+        ensures seen { OnOk result (self.new.seen.items ≡ V.seen self.old.view self.new.switch.core.forwarding) }
+        ensures view { self.new.view ≡ self.old.view }
+        ensures err { IfErr result (λ e. e ≡ NoMemory) }
+    {
+        // no more messages than bytes
+        let _most = self.switch.pending().len();
+        let mut turn = 0;
+        let mut message = Vec::new(self.alloc);
+        while self.handle(&mut message)? {
+            turn += 1;
+            self.look_again(number, line, turn, Some(&message))?;
+        }
+        Ok(())
+    }
+
+    // A row of the controller's bytes.
+    fn tell_chunk(&mut self, number: u64, line: &[u8], chunk: &[u8]) -> Result<(), SwitchError>
+        requires { self.old.seen.items ≡ V.seen self.old.view self.old.switch.core.forwarding }
+        ensures said { OnOk result (self.new.out.items ≡ self.old.out.items
+            ++ turns_told T.text (V.seen self.old.view) number line.now 1 self.old.switch (event_turns (Chunk chunk.now) self.old.switch)) }
+        ensures switch { OnOk result (self.new.switch ≡ (happened (Chunk chunk.now) self.old.switch).state) }
+        ensures seen { OnOk result (self.new.seen.items ≡ V.seen self.old.view self.new.switch.core.forwarding) }
+        ensures view { self.new.view ≡ self.old.view }
+        ensures err { IfErr result (λ e. e ≡ NoMemory) }
+    {
+        match self.switch.feed(chunk) {
+            Ok(()) => self.tell_messages(number, line),
+            Err(SwitchError::NoMemory) => Err(SwitchError::NoMemory),
+            Err(_) => Ok(()),
+        }
+    }
+
+    // A row that is one turn.
+    fn tell_whole(
+        &mut self,
+        number: u64,
+        line: &[u8],
+        row: Row,
+        bytes: &[u8],
+    ) -> Result<(), SwitchError>
+        requires { self.old.seen.items ≡ V.seen self.old.view self.old.switch.core.forwarding }
+        ensures said { (event : Event) → with_bytes bytes.now row ≡ Some event → OnOk result (self.new.out.items ≡ self.old.out.items
+            ++ turns_told T.text (V.seen self.old.view) number line.now 1 self.old.switch
+            (turn_of (happened event self.old.switch).report (happened event self.old.switch).state)) }
+        ensures switch { OnOk result (self.new.switch ≡ (row_happened self.old.switch (with_bytes bytes.now row)).state) }
+        ensures seen { OnOk result (self.new.seen.items ≡ V.seen self.old.view self.new.switch.core.forwarding) }
+        ensures view { self.new.view ≡ self.old.view }
+        ensures err { IfErr result (λ e. e ≡ NoMemory) }
+    {
+        match play_row(self.alloc, &mut self.switch, row, bytes) {
+            Ok(_) => Ok(self.look_again(number, line, 1, None)?),
+            Err(SwitchError::NoMemory) => Err(SwitchError::NoMemory),
+            Err(_) => Ok(()),
+        }
+    }
+
+    // Plays the row of a line, and says what its turns changed.
+    fn tell_row(
+        &mut self,
+        number: u64,
+        line: &[u8],
+        row: Row,
+        bytes: &[u8],
+    ) -> Result<(), SwitchError>
+        requires { self.old.seen.items ≡ V.seen self.old.view self.old.switch.core.forwarding }
+        ensures said { OnOk result (self.new.out.items ≡ self.old.out.items
+            ++ history_of T.text (V.seen self.old.view) number self.old.switch line.now (with_bytes bytes.now row)) }
+        ensures switch { OnOk result (self.new.switch ≡ (row_happened self.old.switch (with_bytes bytes.now row)).state) }
+        ensures seen { OnOk result (self.new.seen.items ≡ V.seen self.old.view self.new.switch.core.forwarding) }
+        ensures view { self.new.view ≡ self.old.view }
+        ensures err { IfErr result (λ e. e ≡ NoMemory) }
+    {
+        match row {
+            Row::Passed => Ok(()),
+            Row::Chunk => self.tell_chunk(number, line, bytes),
+            Row::Connect | Row::Lost | Row::Frame { .. } | Row::Moment { .. } | Row::Ports(_) => {
+                self.tell_whole(number, line, row, bytes)
+            }
+        }
+    }
+
+    // Plays the rows of lines up to a bad one, whose number from 1 it returns.
+    fn tell_lines(&mut self, file: &[u8]) -> Result<Option<u64>, SwitchError>
+        requires { self.old.seen.items ≡ V.seen self.old.view self.old.switch.core.forwarding }
+        ensures said { OnOk result (self.new.out.items ≡ self.old.out.items
+            ++ told self.old.switch (history_of T.text (V.seen self.old.view)) (lines_of file.now)) }
+        ensures bad { IfOk result (λ bad. bad ≡ bad_from 1 (lines_of file.now)) }
+        ensures err { IfErr result (λ e. e ≡ NoMemory) }
+    {
+        let mut bytes = Vec::new(self.alloc);
+        let mut rest = file;
+        let mut number = 1;
+        while !rest.is_empty() {
+            let (line, after) = cut(rest, b'\n');
+            let Some(row) = read_row(line, &mut bytes)? else {
+                return Ok(Some(number));
+            };
+            self.tell_row(number, line, row, &bytes)?;
+            rest = after;
+            number += 1;
+        }
+        Ok(None)
+    }
+}
+
+/// How a view of a switch changed while the rows of a file were played.
+#[derive(Drop)]
+pub struct LogHistory {
+    pub text: Vec<u8>,
+    /// The number of the line, from 1, that is a bad row: no further line was played.
+    pub bad: Option<u64>,
+}
+
+/// Plays the rows of an event file (docs/EVENTS.md) on a new switch without a connection, flows and ports, and says at which of them a view of
+/// the switch changes: after which message of the controller, which change of a port, or which time.
+///
+/// It fails only where memory runs out.
+pub fn history<L: Lookup, V: View<L> + Drop, T: ChangeTeller + Drop>(
+    alloc: Global,
+    dpid: u64,
+    view: V,
+    teller: T,
+    file: &[u8],
+) -> Result<LogHistory, SwitchError>
+    ensures text { IfOk result (λ h. h.text.items ≡ told (start dpid) (history_of T.text (V.seen view)) (lines_of file.now)) }
+    ensures bad { IfOk result (λ h. h.bad ≡ bad_from 1 (lines_of file.now)) }
+    ensures err { IfErr result (λ e. e ≡ NoMemory) }
+{
+    let switch = Switch::<L>::new(alloc, dpid)?;
+    let seen = view.look(alloc, &switch)?;
+    let mut watching = Watching {
+        alloc,
+        switch,
+        view,
+        teller,
+        seen,
+        out: Vec::new(alloc),
+    };
+    let bad = watching.tell_lines(file)?;
+    Ok(LogHistory {
+        text: watching.out,
+        bad,
+    })
+}
