@@ -80,7 +80,7 @@ impl<L: Lookup, V: View<L> + Drop, T: ChangeTeller + Drop> Watching<L, V, T> {
         Ok(())
     }
 
-    // HandlesFirst the first message, whose bytes it keeps; false where there is none.
+    // Handles the first message, whose bytes it keeps; false where there is none.
     fn handle(&mut self, message: &mut Vec<u8>) -> Result<bool, SwitchError>
         ensures handles { IfOk result (λ some. HandlesFirst some self.old.switch self.new.switch message.new.items) }
         ensures kept { (self.new.view ≡ self.old.view) × (self.new.seen ≡ self.old.seen) × (self.new.out ≡ self.old.out) }
@@ -91,7 +91,7 @@ impl<L: Lookup, V: View<L> + Drop, T: ChangeTeller + Drop> Watching<L, V, T> {
         Ok(self.switch.next()?.is_some())
     }
 
-    // HandlesFirst all messages that are there, and says what each of them changed.
+    // Handles all messages that are there, and says what each of them changed.
     fn tell_messages(&mut self, number: u64, line: &[u8]) -> Result<(), SwitchError>
         requires { self.old.seen.items ≡ V.seen self.old.view self.old.switch.core.forwarding }
         ensures said { OnOk result (self.new.out.items ≡ self.old.out.items
