@@ -11,7 +11,8 @@
 
 `Bridge` connects a real controller in its own process. `Network` has several switches with links between them. `check` finds flows
 that never win, `diff` the frames that two switches treat differently, and `paths` the steps that the frames take that a switch
-receives. `shrink` finds the fewest rows of a log that show a fault. The manuals are docs/TESTING.md and docs/LAB.md of the repository.
+receives. `history` finds where in a log the fate of a frame changes, and `shrink` the fewest rows that show a fault. The manuals are
+docs/TESTING.md and docs/LAB.md of the repository.
 """
 
 from .bridge import Bridge
@@ -20,6 +21,7 @@ from .difference import diff
 from .dividing import paths
 from .effects import Answer, Closed, Effect, Refused, Sent
 from .flattening import NetworkPath, NetworkPaths, NotFlat
+from .histories import history
 from .hops import Arrived, Crossing, Hop, NetworkTrace
 from .message_types import MessageType
 from .network import Looped, Network
@@ -55,6 +57,7 @@ __all__ = [
     "Switch",
     "check",
     "diff",
+    "history",
     "paths",
     "shrink",
 ]

@@ -17,6 +17,7 @@ from .checking import check
 from .difference import diff
 from .dividing import paths
 from .effects import Answer, Closed, Effect, Refused, effect_of
+from .histories import history
 from .program import MARK_ROW, MOST_READS, ProgramError, Run, StrPath, file_of, find, reads_of, received, run_to_end
 from .rows import Octets
 from .run_pcap import write_pcap
@@ -202,6 +203,10 @@ class Switch:
     ) -> dict[str, Any]:
         """The steps that the frames take that this switch receives, as it is now (docs/PATHS.md), as `ofswitch.paths` returns them."""
         return paths(self._events(), port=port, match=match, each=each, to=to, steps=steps, program=self._program)
+
+    def history(self, port: int, frame: Octets | str) -> list[dict[str, Any]]:
+        """Since when a frame goes where it goes, and who did it: the changes of its fate (docs/HISTORY.md), as `ofswitch.history` returns them."""
+        return history(self._events(), port, self._octets(frame), dpid=self._dpid, program=self._program)
 
     def frame_of(self, words: str) -> bytes:
         """The frame that has these fields: "tcp,nw_src=10.0.0.1,tp_dst=80" (docs/TRACE.md). ValueError if there is none.

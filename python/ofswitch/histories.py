@@ -1,0 +1,44 @@
+"""Where in an event file the fate of a frame changes, and what changed it, as `ofswitch history` finds them (docs/HISTORY.md)."""
+
+from __future__ import annotations
+
+import json
+import os
+from typing import Any
+
+from . import rows
+from .program import ProgramError, StrPath, file_of, find, run_to_end
+from .rows import Octets
+
+# Exit statuses: an argument or a file has a fault.
+_BAD = (1, 2)
+
+
+def history(
+    log: str | os.PathLike[str],
+    port: int | None = None,
+    frame: Octets | str | None = None,
+    *,
+    row: int | None = None,
+    dpid: int = 1,
+    program: StrPath | None = None,
+    timeout: float = 600.0,
+) -> list[dict[str, Any]]:
+    """The changes of the fate of a frame, as docs/JSON.md describes them: `line`, `row` or `message` and `by`, `before` and `after`.
+
+    The log is an event file as a text, or its path (a `pathlib.Path`). The frame is bytes or words, as `trace` takes them; with `row`
+    it is that of a row `f PORT HEX` in this line, and the history ends there. ValueError if an argument or the text has a fault.
+    """
+    if (row is None) == (frame is None):
+        raise ValueError("a history is of a port and a frame, or of a row")
+    words = ["--row", str(row)] if frame is None else [frame if isinstance(frame, str) else rows.as_bytes(frame).hex()]
+    options = [] if port is None else ["--port", str(port)]
+    with file_of(log) as file:
+        command = [find(program), "history", "--json", "--dpid", str(dpid), *options, file, *words]
+        try:
+            told = run_to_end(command, b"", timeout)
+        except ProgramError as fault:
+            if fault.status not in _BAD:
+                raise
+            raise ValueError(fault.said) from None
+    return [json.loads(line) for line in told.splitlines()]

@@ -1,0 +1,75 @@
+"""Since when a frame goes where it goes, and who did it."""
+
+import random
+
+import messages
+import pytest
+from ofswitch import Switch, history
+from ofswitch.fates import changes
+from ofswitch.units import units_of
+
+FRAME = bytes.fromhex("02000000000202000000000188b5") + bytes(46)
+PORTS = [f"port add {it} 02000000000{it} p{it} up" for it in (1, 2, 3)]
+START = ["connect", f"c {messages.HELLO.hex()}"]
+OUT, DROP = messages.flow(messages.output(2), in_port=1, xid=7), messages.flow(in_port=1, priority=20, xid=8)
+
+
+@pytest.fixture
+def switch():
+    with Switch() as made:
+        made.play_all([*PORTS, *START])
+        yield made
+
+
+def test_says_since_when_and_who_did_it(switch):
+    assert [it["row"] for it in switch.history(1, FRAME)] == [PORTS[0]]
+    switch.feed(messages.echo(5) + OUT)
+    switch.port_link(3, up=False)
+    switch.feed(DROP)
+    found = switch.history(1, FRAME)
+    assert [(it["line"], it.get("message")) for it in found] == [(1, None), (6, 2), (8, 1)]
+    assert found[1]["by"][0].startswith("from the controller: FLOW_MOD xid 7 ADD table 0")
+    assert found[1]["after"][-1] == f"out by port 2: {FRAME.hex()}"
+    assert (found[2]["before"], found[2]["after"][-1]) == (found[1]["after"], "nothing leaves")
+    # that of another port
+    assert [it["row"] for it in switch.history(3, FRAME)] == [PORTS[2], "port link 3 down"]
+
+
+def test_words_and_rows_of_a_log(switch, tmp_path):
+    switch.feed(OUT)
+    switch.frame(1, FRAME)
+    path = tmp_path / "log.events"
+    path.write_text(switch.log)
+    assert history(path, row=7) == history(path, 1, FRAME) == switch.history(1, FRAME)
+    words = "in_port=1,dl_src=02:00:00:00:00:01,dl_dst=02:00:00:00:00:02,dl_type=0x88b5"
+    assert [it["line"] for it in history(switch.log, frame=words)] == [1, 6]
+
+
+def test_arguments_with_a_fault(switch):
+    with pytest.raises(ValueError, match="of a port and a frame, or of a row"):
+        history(switch.log)
+    with pytest.raises(ValueError, match="the line is no row of a frame"):
+        history(switch.log, row=1)
+    with pytest.raises(ValueError, match="line 1: bad row"):
+        history("c 0\n", 1, FRAME)
+
+
+def test_has_each_change_of_what_leaves():
+    """A search that asks the switch after each message finds the same places."""
+    rng = random.Random(7)
+    some = [f"port link {port} {state}" for port in (1, 2) for state in ("up", "down")]
+    some += [f"c {messages.flow(messages.output(rng.choice((2, 3))), in_port=1, priority=it, xid=it).hex()}" for it in range(9)]
+    some += [f"c {OUT.hex()}{DROP.hex()}", f"f 1 {FRAME.hex()}"]
+    for _ in range(5):
+        log = [*PORTS, *START, *rng.choices(some, k=60)]
+        units = units_of(log)
+        searched = [(units[it.place].line, it.before.leaves, it.after.leaves) for it in changes(units, 1, FRAME)]
+        told = history("".join(f"{it}\n" for it in log), 1, FRAME)
+        leaving = [(it["line"], _leaves(it["before"]), _leaves(it["after"])) for it in told]
+        assert [it for it in leaving if it[1] != it[2]] == searched
+
+
+def _leaves(lines):
+    if lines[-1].startswith("not received"):
+        return ["not received"]
+    return [it for it in lines if it.startswith("out by port ") or it == "nothing leaves"]
