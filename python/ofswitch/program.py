@@ -9,6 +9,7 @@ import re
 import select
 import shutil
 import subprocess
+import sysconfig
 import tempfile
 import weakref
 from collections.abc import Iterator
@@ -46,9 +47,13 @@ class ProgramError(Exception):
 
 
 def find(program: StrPath | None) -> str:
-    """The path of the program: the one that is given, the one that OFSWITCH names, or the one on the PATH."""
+    """The path of the program: the one that is given, the one that OFSWITCH names, or the one on the PATH.
+
+    A wheel installs the program into the folder of this Python's commands, which is not on the PATH in a virtual environment that
+    is not activated.
+    """
     asked = os.fspath(program or os.environ.get("OFSWITCH") or "ofswitch")
-    found = shutil.which(asked)
+    found = shutil.which(asked) or shutil.which(asked, path=sysconfig.get_path("scripts"))
     if found is None:
         raise ProgramError(f"there is no program {asked}: give its path, set OFSWITCH to it, or put ofswitch on the PATH")
     return found

@@ -7,6 +7,7 @@ import pathlib
 import signal
 import subprocess
 import sys
+import sysconfig
 import textwrap
 import threading
 import time
@@ -14,6 +15,7 @@ import time
 import messages
 import pytest
 from ofswitch import Answer, ProgramError, Refused, Sent, Switch
+from ofswitch.program import find
 
 FRAME = bytes.fromhex("020000000002020000000001") + bytes.fromhex("88b5") + bytes(46)
 
@@ -56,8 +58,17 @@ def test_a_missing_program(monkeypatch, tmp_path):
         Switch()
     monkeypatch.delenv("OFSWITCH")
     monkeypatch.setenv("PATH", str(tmp_path))
+    monkeypatch.setattr(sysconfig, "get_path", lambda name: str(tmp_path))
     with pytest.raises(ProgramError, match="PATH"):
         Switch()
+
+
+def test_the_program_of_an_environment_that_is_not_activated(monkeypatch, tmp_path):
+    made = script(tmp_path, "").rename(tmp_path / "ofswitch")
+    monkeypatch.delenv("OFSWITCH", raising=False)
+    monkeypatch.setenv("PATH", "/nowhere")
+    monkeypatch.setattr(sysconfig, "get_path", lambda name: {"scripts": str(tmp_path)}[name])
+    assert find(None) == str(made)
 
 
 def test_a_program_that_does_not_run(tmp_path):
