@@ -6,6 +6,7 @@ use of_files::{
 };
 use of_import::Mode;
 use of_replay::{Ended, switch_of_config};
+use of_values::Origin;
 use std::alloc::Global;
 use std::process::Abort;
 use std::test::Fail;
@@ -42,10 +43,19 @@ fn kinds_of_files(rt: HostRuntime) -> Result<(), Fail> {
     Ok(())
 }
 
+// The first flow of table 2.
+fn flow_of_table_2(origins: &[Vec<Origin>]) -> Result<&Origin, Fail> {
+    match origins {
+        [_, _, flows, ..] => Ok(flows.get(0).ok_or("no flow")?),
+        _ => Err("no table 2".into()),
+    }
+}
+
 // The ports that a flow text names, those of its switch, and those that another switch lacks.
 fn has_ports(rt: &impl Abort, alloc: Global) -> Result<(), Fail> {
     let tables = read_text(alloc, TEXT).ok().ok_or("a flow text")?;
-    same(rt, "the line of the flow", &tables.origins[2][0].line, &4);
+    let flow = flow_of_table_2(&tables.origins)?;
+    same(rt, "the line of the flow", &flow.line, &4);
     let named = named_ports(alloc, &tables.config)?;
     let (wanted, all, lacking): (&[u32], &[u32], &[u32]) = (
         &[9, 8, 7, 100],
@@ -70,8 +80,9 @@ fn ports_of_a_text(rt: HostRuntime) -> Result<(), Fail> {
 // A table of ovs-ofctl has the counters of its flows.
 fn has_counters(rt: &impl Abort, alloc: Global) -> Result<(), Fail> {
     let tables = read_table(alloc, TABLE, WHOLE).ok().ok_or("a table")?;
-    same(rt, "the line of the flow", &tables.origins[2][0].line, &1);
-    same(rt, "its counters", &tables.origins[2][0].counters.len(), &1);
+    let flow = flow_of_table_2(&tables.origins)?;
+    same(rt, "the line of the flow", &flow.line, &1);
+    same(rt, "its counters", &flow.counters.len(), &1);
     Ok(())
 }
 

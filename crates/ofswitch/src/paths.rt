@@ -3,7 +3,6 @@ use crate::files::{Described, NoFile, has_port, read_switch, say_missing};
 use crate::lookups::Lookups;
 use of_command_line::{Leading, PathsAsked};
 use of_frame_words::NoFrame;
-use of_oxm::MatchField;
 use of_paths::Merging;
 use of_paths_report::{Destination, PathsForm, PathsVerdict, asked_conditions, write_paths};
 use of_replay::Ended;
@@ -77,47 +76,50 @@ fn without_match(rt: &HostRuntime, why: &NoFrame) -> NoPaths {
     }
 }
 
+fn unfinished(rt: &HostRuntime, ended: Ended) -> NoPaths {
+    NoPaths::File(NoFile::ended(rt.alloc(), ended))
+}
+
 // Prints the paths of the frames that a switch receives and that match.
 fn paths_within(
     rt: &HostRuntime,
     asked: &PathsAsked,
     described: &Described,
-    within: &[MatchField],
-) -> Result<PathsVerdict, Ended> {
-    let missing = say_missing(rt, asked.json, &described.missing)?;
+) -> Result<PathsVerdict, NoPaths> {
+    let within = match asked_conditions(rt.alloc(), asked.port, asked.within.as_bytes()) {
+        Ok(within) => within,
+        Err(why) => return Err(without_match(rt, &why)),
+    };
+    let missing = match say_missing(rt, asked.json, &described.missing) {
+        Ok(missing) => missing,
+        Err(ended) => return Err(unfinished(rt, ended)),
+    };
     let (alloc, to, steps) = (rt.alloc(), asked_place(asked.to), asked.steps as usize);
     let (merging, form) = (merging_of(asked.each), form_of(asked.json));
     let mut out = WriterSink::new(rt.stdout());
     match write_paths(
         alloc,
         &described.switch,
-        within,
+        &within,
         merging,
         to,
         steps,
         form,
         &mut out,
-    )? {
-        PathsVerdict::Complete if missing => Ok(PathsVerdict::Undecided),
-        verdict => Ok(verdict),
+    ) {
+        Ok(PathsVerdict::Complete) if missing => Ok(PathsVerdict::Undecided),
+        Ok(verdict) => Ok(verdict),
+        Err(ended) => Err(unfinished(rt, ended)),
     }
 }
 
 /// Prints which steps the frames take that the switch of a file receives, and returns whether it is known of all of them.
 pub fn divided(rt: &HostRuntime, asked: &PathsAsked) -> Result<PathsVerdict, NoPaths> {
-    let described = match read_switch(rt, &asked.of, None, true) {
-        Ok(described) => described,
-        Err(why) => return Err(NoPaths::File(why)),
-    };
-    if !has_ports(rt, asked, &described.switch) {
-        return Err(NoPaths::NoPort);
-    }
-    let within = match asked_conditions(rt.alloc(), asked.port, asked.within.as_bytes()) {
-        Ok(within) => within,
-        Err(why) => return Err(without_match(rt, &why)),
-    };
-    match paths_within(rt, asked, &described, &within) {
-        Ok(verdict) => Ok(verdict),
-        Err(ended) => Err(NoPaths::File(NoFile::ended(rt.alloc(), ended))),
+    match read_switch(rt, &asked.of, None, true) {
+        Ok(described) if has_ports(rt, asked, &described.switch) => {
+            paths_within(rt, asked, &described)
+        }
+        Ok(_) => Err(NoPaths::NoPort),
+        Err(why) => Err(NoPaths::File(why)),
     }
 }
