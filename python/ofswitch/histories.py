@@ -1,4 +1,4 @@
-"""Where in an event file the fate of a frame changes, and what changed it, as `ofswitch history` finds them (docs/HISTORY.md)."""
+"""At which places of an event file the fate of a frame changes, and what changed it, as `ofswitch history` finds them (docs/HISTORY.md)."""
 
 from __future__ import annotations
 
