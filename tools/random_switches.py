@@ -5,9 +5,8 @@ from typing import NamedTuple
 from random_matches import ADDRESS, ARP, IPV4, TCP, UDP, some_match, some_tagged_match
 from second_model import ALL, BYTES, CONTROLLER, FLOOD, IN_PORT, NONE, Flow, Group, Switch, flow_text
 
-# the ports of the switch of a flow text, and those of our event files
-TEXT_PORTS = dict.fromkeys(range(1, 65), True)
-EVENT_PORTS = dict.fromkeys(range(1, 5), True)
+# the ports of our event files, and of the switch of a flow text, which also has those that buckets watch
+PORTS = dict.fromkeys(range(1, 5), True)
 
 
 class Writing:
@@ -251,14 +250,22 @@ def changed_switch(writing, switch):
             return change.__name__, switch._replace(flows=distinct(flows)), change in ALIKE
 
 
+def with_watched_ports(*switches):
+    """The switches of flow texts that are compared: both have the ports that either names."""
+    watched = {port for it in switches for group in it.groups.values() for port, _, _ in group.buckets if port != NONE}
+    return [it._replace(ports=it.ports | dict.fromkeys(watched, True)) for it in switches]
+
+
 def some_pair(pick):
     plain, events = pick.random() < 0.5, pick.random() < 0.3
-    ports = EVENT_PORTS | {pick.choice((3, 4)): pick.random() < 0.5} if events else TEXT_PORTS
+    ports = PORTS | {pick.choice((3, 4)): pick.random() < 0.5} if events else PORTS
     writing, first = some_switch(pick, ports, plain)
     change, second, alike = changed_switch(writing, first)
     if events and pick.random() < 0.1:
         link = pick.choice(list(ports))
         change, second = "link", second._replace(ports=ports | {link: not ports[link]})
+    if not events:
+        first, second = with_watched_ports(first, second)
     return Pair(change, first, second, alike, plain, events, pick.random() < 0.7)
 
 
