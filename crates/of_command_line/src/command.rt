@@ -106,12 +106,22 @@ metadata. A flow is undecided if the search ended after N steps. Whether packets
 before it. A table without a table-miss entry is reported if a goto leads to it, or with --all. A flow that is not
 reported does not necessarily do what was intended.
 
-Exit status: 4 if something is found: a flow that never wins or is undecided, or a likely mistake; 0 if nothing is found.
+With --require, each line of REQ is a requirement of the switch, which is proved for all frames that it receives:
+
+  no frame ip,nw_src=10.0.9.0/24 leaves by 2,3,4
+  each frame in_port=1,ip,nw_dst=10.0.1.0/24 leaves by 2 except ttl
+  each frame in_port=1,ip leaves only by 2,3,controller
+  each frame ip passes table 1
+  some frame in_port=1,tcp,tp_dst=80 leaves by 2
+
+Exit status: 4 if something is found: a flow that never wins or is undecided, a likely mistake, or a requirement that fails; 5 if
+nothing is found and a requirement is undecided; 0 if nothing is found.
 
   ofswitch check examples/office.txt
   ofswitch check --all examples/router.flows
   ofswitch check --all --words examples/router.flows
-  ofswitch check --json examples/router.flows";
+  ofswitch check --json examples/router.flows
+  ofswitch check examples/office.txt --require examples/office.req";
 
 const DIFFS: &str =
     "A and B are flow texts (`ofswitch asm --help`), event files (`ofswitch replay --help`), or what ovs-ofctl prints (`ofswitch import
@@ -418,7 +428,7 @@ const TRACE: [Argument; 13] = [
     },
 ];
 
-const CHECK: [Argument; 9] = [
+const CHECK: [Argument; 11] = [
     Argument {
         name: "FILE",
         kind: Kind::Place,
@@ -458,6 +468,16 @@ const CHECK: [Argument; 9] = [
         name: "steps",
         kind: Kind::Optional("steps", "N"),
         help: "Leave a flow undecided after N steps (by default 100000)",
+    },
+    Argument {
+        name: "require",
+        kind: Kind::Optional("require", "REQ"),
+        help: "Prove the requirements of this file, or print a frame that shows that one fails (docs/REQUIRE.md)",
+    },
+    Argument {
+        name: "junit",
+        kind: Kind::Optional("junit", "XML"),
+        help: "With --require, also write the verdicts to this file, as JUnit writes test results",
     },
     Argument {
         name: "ports",

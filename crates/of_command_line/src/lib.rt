@@ -159,6 +159,10 @@ pub struct Check {
     /// After how many of them a flow is given up.
     pub steps: u32,
     pub output: CheckOutput,
+    /// A file of requirements.
+    pub require: Option<String>,
+    /// The file for the report on these as XML.
+    pub junit: Option<String>,
 }
 
 /// Which switches are compared, and how.
@@ -405,10 +409,18 @@ fn trace_of(alloc: Global, matches: &ArgMatches<'_>) -> Result<Trace, NoRequest>
 }
 
 fn check_of(alloc: Global, matches: &ArgMatches<'_>) -> Result<Check, NoRequest> {
+    if matches.get_str("junit").is_some() && matches.get_str("require").is_none() {
+        return Err(refused(
+            alloc,
+            "bad --junit: there are no verdicts without --require\n",
+        )?);
+    }
     Ok(Check {
         of: switch_file_of(alloc, matches)?,
         steps: steps_of(alloc, matches.get_str("steps"))?,
         output: output_of(matches),
+        require: text_of(alloc, matches.get_str("require"))?,
+        junit: text_of(alloc, matches.get_str("junit"))?,
     })
 }
 

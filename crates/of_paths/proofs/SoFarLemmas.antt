@@ -17,7 +17,7 @@ use Rattle.of_symbolic_run.specs.declared.state.SymbolicState.{SymbolicState}
 use Rattle.of_symbolic_run.specs.Cases.{AreCases}
 use Rattle.of_symbolic_run.specs.FrameSets.{InFrames}
 use Rattle.of_symbolic_run.specs.Later.{AreOneLater, IsOneLater}
-use Rattle.of_symbolic_run.specs.States.{IsAt}
+use Rattle.of_symbolic_run.specs.States.{IsAt, items_for}
 use Rattle.of_symbolic_run.specs.Received.{IsReceivedAt}
 use Rattle.of_symbolic_run.specs.Unfound.{FindsNone}
 use Rattle.of_paths.specs.declared.path.Merging.{Merging}
@@ -29,8 +29,7 @@ use Rattle.of_paths.specs.declared.path.UndecidedFrames.{UndecidedFrames}
 use Rattle.of_paths.specs.declared.path.WhyUndecided.TheVariants.{Steps}
 use Rattle.of_paths.specs.Paths.{ArePaths, AreMerged}
 use Rattle.of_paths.specs.Reasons.{AreLeftAfter, AreMatched, AreUndecided, IsFirstCase, IsReason, IsStateOfRuns}
-use Rattle.of_paths.specs.SoFar.{ArePathsSoFar, InCases, IsFoundIn, PutsPath, unfound}
-use Rattle.of_paths.specs.Ways.{lines_at}
+use Rattle.of_paths.specs.SoFar.{ArePathsSoFar, AreRunsOf, InCases, IsFoundIn, PutsPath, unfound}
 use Rattle.of_paths.proofs.FoundLemmas.{found_undecided, last_undecided, more_undecided}
 
 pub on_appended : {X Y E : Type 0} (r : Result Y E) (new old more : List X) (Q : Type 0) → new ≡ (if is_ok r then old ++ more else old) → (new ≡ old ++ more → Q) → OnOk r Q
@@ -99,10 +98,17 @@ one_later old new later c there = by_place (Contains-push_cases [] new c there)
     by_place (inl before) = absurd (omega (arith, before.1))
     by_place (inr same) = subst (λ (x : Case). IsOneLater old x.state) same later
 
--- the lines of a run that is done
-pub ended_lines : (w : TheWorld) (c : Case) → ((v : TheWorld) (frame : List ℕ) (port : ℕ) (s : SymbolicState) → IsSound v → IsAt v frame port s → s.tasks.items ≡ [] → (run_of v (entering frame port) (Lookup 0 ∷ [])).lines ≡ s.steps.items) → IsSound w → c.state.tasks.items ≡ [] →
-    IsStateOfRuns w c → (frame : List ℕ) (port : ℕ) → IsReceivedAt w frame port → InFrames c.frames frame port → lines_at w frame port ≡ c.state.steps.items
-ended_lines w c give sound none holds frame port received inside = give w frame port c.state sound (holds frame port received.frame_is inside) none
+-- the lines and the items of a run that is done
+abbrev pub path_of : Case → Path
+path_of c = record { frames = c.frames; steps = c.state.steps; emitted = c.state.emitted }
+
+pub ended_runs : (w : TheWorld) (c : Case) → ((v : TheWorld) (frame : List ℕ) (port : ℕ) (s : SymbolicState) → IsSound v → IsAt v frame port s → s.tasks.items ≡ [] → (run_of v (entering frame port) (Lookup 0 ∷ [])).lines ≡ s.steps.items) →
+    ((v : TheWorld) (frame : List ℕ) (port : ℕ) (s : SymbolicState) → IsSound v → IsAt v frame port s → s.tasks.items ≡ [] → (run_of v (entering frame port) (Lookup 0 ∷ [])).items ≡ items_for v.ports s.emitted.items frame port) →
+    IsSound w → c.state.tasks.items ≡ [] → IsStateOfRuns w c → AreRunsOf w c (path_of c)
+ended_runs w c lines items sound none holds = record {
+  takes = λ frame port received inside. lines w frame port c.state sound (holds frame port received.frame_is inside) none;
+  emits = λ frame port received inside. items w frame port c.state sound (holds frame port received.frame_is inside) none;
+}
 
 none_merged : (m : Merging) → AreMerged m []
 none_merged SameWay = tt
@@ -170,11 +176,11 @@ module _ (m : Merging) (w : TheWorld) (within : List MatchField) (steps : ℕ) w
       reason = reason;
     }
 
-    pub put_ended : (taken : ℕ) (p : Path) (found' : Paths) → taken ≤ steps → AreLeftAfter w within taken (cases ++ old ∷ []) → p.frames ≡ old.frames → old.state.tasks.items ≡ [] → (IsStateOfRuns w old → (frame : List ℕ) (port : ℕ) → IsReceivedAt w frame port → InFrames old.frames frame port → lines_at w frame port ≡ p.steps.items) → PutsPath m w steps p found found' → ArePathsSoFar m w within steps cases found'
-    put_ended taken p found' most left frames done takes puts = record {
+    pub put_ended : (taken : ℕ) (p : Path) (found' : Paths) → taken ≤ steps → AreLeftAfter w within taken (cases ++ old ∷ []) → p.frames ≡ old.frames → old.state.tasks.items ≡ [] → (IsStateOfRuns w old → AreRunsOf w old p) → PutsPath m w steps p found found' → ArePathsSoFar m w within steps cases found'
+    put_ended taken p found' most left frames done runs puts = record {
       hold = others_hold;
       inside = others_inside;
-      right = puts.found within (record { matched = rw frames last_inside; takes = λ frame port received inside. takes last_holds frame port received (rw (sym frames) inside) })
+      right = puts.found within (record { matched = rw frames last_inside; takes = λ frame port received inside. (runs last_holds).takes frame port received (rw (sym frames) inside); emits = λ frame port received inside. (runs last_holds).emits frame port received (rw (sym frames) inside) })
           (λ none. last_is_undecided taken (unfound p) most left frames (done, subst (FindsNone w steps) frames none)) h.right;
       all = λ frame port received matched. at_cases frame port (IsSomewhere cases found' frame port) (h.all frame port received matched)
           (λ inside. inr (puts.own frame port received (rw frames inside)))

@@ -7,6 +7,7 @@ use Rattle.of_machine.specs.TheWorld.{TheWorld}
 use Rattle.of_symbolic.specs.Parts.{received_fields}
 use Rattle.of_symbolic_run.specs.FrameSets.{InFrames}
 use Rattle.of_symbolic_run.specs.Received.{IsReceivedAt, items_at}
+use Rattle.of_symbolic_run.specs.States.{items_for}
 use Rattle.of_paths.specs.declared.path.Merging.{Merging}
 use Rattle.of_paths.specs.declared.path.Merging.TheVariants.{Each, SameWay}
 use Rattle.of_paths.specs.declared.path.Path.{Path}
@@ -16,10 +17,11 @@ use Rattle.of_paths.specs.declared.path.UndecidedFrames.{UndecidedFrames}
 use Rattle.of_paths.specs.Reasons.{AreMatched, AreUndecided}
 use Rattle.of_paths.specs.Ways.{AreApart, class_way, lines_at, way_of}
 
--- each frame of the path that is received takes its steps
+-- each frame of the path that is received takes its steps, and emits what they emit
 pub record IsPath (w : TheWorld) (within : List MatchField) (p : Path) : Type 0 where
   pub matched : AreMatched within p.frames
   pub takes : (frame : List ℕ) (port : ℕ) → IsReceivedAt w frame port → InFrames p.frames frame port → lines_at w frame port ≡ p.steps.items
+  pub emits : (frame : List ℕ) (port : ℕ) → IsReceivedAt w frame port → InFrames p.frames frame port → items_at w frame port ≡ items_for w.ports p.emitted.items frame port
 
 -- the frame is one of those of a path, of a class or of an undecided set
 abbrev pub InPaths : List Path → List ℕ → ℕ → Type 0

@@ -9,8 +9,9 @@ use Rattle.of_symbolic_run.specs.declared.dividing.Case.{Case}
 use Rattle.of_symbolic_run.specs.Cases.{AreCases}
 use Rattle.of_symbolic_run.specs.FrameSets.{InFrames}
 use Rattle.of_symbolic_run.specs.Later.{AreOneLater}
-use Rattle.of_symbolic_run.specs.Received.{IsReceivedAt}
+use Rattle.of_symbolic_run.specs.Received.{IsReceivedAt, items_at}
 use Rattle.of_symbolic_run.specs.Sides.{IsUnknownLookup}
+use Rattle.of_symbolic_run.specs.States.{items_for}
 use Rattle.of_symbolic_run.specs.Unfound.{FindsNone}
 use Rattle.of_paths.specs.declared.path.Merging.{Merging}
 use Rattle.of_paths.specs.declared.path.Merging.TheVariants.{Each, SameWay}
@@ -28,10 +29,15 @@ use Rattle.of_paths.specs.Ways.{class_way, lines_at, way_of}
 abbrev pub InCases : List Case → List ℕ → ℕ → Type 0
 InCases cases frame port = (c : Case) × Contains cases c × InFrames c.frames frame port
 
+-- each frame of a state that is received takes the steps of a path, and emits what they emit
+pub record AreRunsOf (w : TheWorld) (old : Case) (p : Path) : Type 0 where
+  pub takes : (frame : List ℕ) (port : ℕ) → IsReceivedAt w frame port → InFrames old.frames frame port → lines_at w frame port ≡ p.steps.items
+  pub emits : (frame : List ℕ) (port : ℕ) → IsReceivedAt w frame port → InFrames old.frames frame port → items_at w frame port ≡ items_for w.ports p.emitted.items frame port
+
 -- what comes of a state for some frames
 abbrev pub IsNextOf : TheWorld → Case → Next → Type 0
 IsNextOf w old (next.Cases cases) = AreCases w old.frames old.state cases.items × AreOneLater old.state cases.items
-IsNextOf w old (next.Ended p) = (p.frames ≡ old.frames) × (old.state.tasks.items ≡ []) × (IsStateOfRuns w old → (frame : List ℕ) (port : ℕ) → IsReceivedAt w frame port → InFrames old.frames frame port → lines_at w frame port ≡ p.steps.items)
+IsNextOf w old (next.Ended p) = (p.frames ≡ old.frames) × (old.state.tasks.items ≡ []) × (IsStateOfRuns w old → AreRunsOf w old p)
 IsNextOf w old (next.Undecided u) = (u.frames ≡ old.frames) × (u.why ≡ UnknownTag) × IsUnknownLookup w old.state
 
 -- what was found is right

@@ -1,13 +1,15 @@
 //! What is found about the frames that a switch receives.
 
 use of_machine::{Items, Step};
-use of_symbolic_run::FrameSet;
+use of_symbolic_run::{Emission, FrameSet};
 
 /// Frames that take the same steps, the hits of the same entries among them (OpenFlow 1.3.5, 5.1).
 #[derive(Drop)]
 pub struct Path {
     pub frames: FrameSet,
     pub steps: Vec<Step>,
+    /// What they emit, in order.
+    pub emitted: Vec<Emission>,
 }
 
 /// Paths whose steps differ only in which entries are hit. One of their frames was run.

@@ -40,8 +40,12 @@ fn ended_path<'a, L: Lookup>(datapath: &Datapath<L>, case: Case<'a>) -> Next<'a>
     datapath.known_world();
     ended_states_give_runs();
     let Case { frames, state } = case;
-    let SymbolicState { steps, .. } = state;
-    Next::Ended(Path { frames, steps })
+    let SymbolicState { emitted, steps, .. } = state;
+    Next::Ended(Path {
+        frames,
+        steps,
+        emitted,
+    })
 }
 
 /// A step of the run, or its path if it is done.

@@ -1,5 +1,5 @@
 -- THE REPORT ON A SWITCH: on its flow tables, and on the groups and flows that it has.
-use Rattle.std.specs.Prelude.{◌≡◌, ◌≢◌, ℕ, Bool, true, false, List, Result, Ok, Err}
+use Rattle.std.specs.Prelude.{◌≡◌, ◌≢◌, ◌++◌, ℕ, Bool, true, false, List, Result, Ok, Err}
 use Rattle.of_text.specs.Configs.{Configuration}
 use Rattle.of_text.specs.Flows.{Flow}
 use Rattle.of_table.specs.Tables.{Tables}
@@ -15,12 +15,12 @@ use Rattle.of_report.specs.declared.reporting.Form.TheVariants.{Findings, All, A
 use Rattle.of_report.specs.Report.{report_words, is_found}
 use Rattle.of_report.specs.Json.{report_json}
 
--- in words, without the entries that win or with them, each with a packet in digits or in words, or as JSON
-abbrev pub check_report_text : Form → List (List EntryOrigin) → List (List Flow) → List Finding → List Remark → List ℕ
-check_report_text Findings origins tables findings remarks = report_words false false origins tables findings remarks
-check_report_text All origins tables findings remarks = report_words true false origins tables findings remarks
-check_report_text AllInWords origins tables findings remarks = report_words true true origins tables findings remarks
-check_report_text Json origins tables findings remarks = report_json origins tables findings remarks
+-- in words, without the entries that win or with them, each with a packet in digits or in words, and a further text; or as JSON, with further members
+abbrev pub check_report_text : Form → List (List EntryOrigin) → List (List Flow) → List Finding → List Remark → List ℕ → List ℕ
+check_report_text Findings origins tables findings remarks further = report_words false false origins tables findings remarks ++ further
+check_report_text All origins tables findings remarks further = report_words true false origins tables findings remarks ++ further
+check_report_text AllInWords origins tables findings remarks further = report_words true true origins tables findings remarks ++ further
+check_report_text Json origins tables findings remarks further = report_json origins tables findings remarks further
 
 -- whether something was found, where that is said: where all was written
 abbrev pub IsFindingResult : Result Bool Ended → Bool → Type 0
@@ -28,6 +28,6 @@ IsFindingResult (Ok found) is = found ≡ is
 IsFindingResult (Err ended) is = ended ≢ Done
 
 -- the text of the report on these tables, after so many steps at most for each entry, and on this configuration, whose entries come from these lines; and whether something was found
-abbrev pub IsCheckReport : Result Bool Ended → ℕ → Form → List (List EntryOrigin) → Tables → Configuration → List ℕ → Type 0
-IsCheckReport result steps form origins ts c text =
-    (findings : List Finding) × Checks ts steps findings × (text ≡ check_report_text form origins c.tables findings (remarks_on c)) × IsFindingResult result (is_found findings (remarks_on c))
+abbrev pub IsCheckReport : Result Bool Ended → ℕ → Form → List ℕ → List (List EntryOrigin) → Tables → Configuration → List ℕ → Type 0
+IsCheckReport result steps form further origins ts c text =
+    (findings : List Finding) × Checks ts steps findings × (text ≡ check_report_text form origins c.tables findings (remarks_on c) further) × IsFindingResult result (is_found findings (remarks_on c))

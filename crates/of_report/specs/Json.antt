@@ -94,7 +94,7 @@ remark_members origins tables (NoBuckets id) = key (codes "group") ++ decimal id
 unfoldable pub remark_object : List (List EntryOrigin) → List (List Flow) → Remark → List ℕ
 remark_object origins tables r = 123 ∷ remark_members origins tables r ++ 125 ∷ []
 
--- ---- THE DOCUMENT: each finding, each remark, how many entries there are of each kind, and whether something was found
+-- ---- THE DOCUMENT: each finding, each remark, how many entries there are of each kind, whether something was found, and further members
 
 unfoldable pub summary_members : List Finding → List ℕ
 summary_members findings =
@@ -113,6 +113,6 @@ flows_member origins tables findings = array_member (codes "flows") (listed (fin
 unfoldable pub remarks_member : List (List EntryOrigin) → List (List Flow) → List Remark → List ℕ
 remarks_member origins tables remarks = array_member (codes "remarks") (listed (remark_object origins tables) remarks)
 
-unfoldable pub report_json : List (List EntryOrigin) → List (List Flow) → List Finding → List Remark → List ℕ
-report_json origins tables findings remarks =
-    123 ∷ report_head_members findings remarks ++ flows_member origins tables findings ++ remarks_member origins tables remarks ++ 125 ∷ 10 ∷ []
+unfoldable pub report_json : List (List EntryOrigin) → List (List Flow) → List Finding → List Remark → List ℕ → List ℕ
+report_json origins tables findings remarks further =
+    123 ∷ report_head_members findings remarks ++ flows_member origins tables findings ++ remarks_member origins tables remarks ++ further ++ 125 ∷ 10 ∷ []

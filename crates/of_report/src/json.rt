@@ -193,7 +193,7 @@ fn push_remarks_member(
     })
 }
 
-/// The report on findings and remarks as JSON, for a configuration whose entries come from these lines.
+/// The report on findings and remarks as JSON, for a configuration whose entries come from these lines, with further members.
 #[tactic(auto, unfolding(crate::specs::Json::report_json))]
 pub fn json_of(
     alloc: Global,
@@ -201,14 +201,16 @@ pub fn json_of(
     origins: &[Vec<Origin>],
     findings: &[Finding],
     remarks: &[Remark],
+    further: &[u8],
 ) -> Result<Vec<u8>, AllocError>
-    ensures { IfOk result (λ text. text.items ≡ report_json (view_origins origins.now) config.now.tables findings.now remarks.now) }
+    ensures { IfOk result (λ text. text.items ≡ report_json (view_origins origins.now) config.now.tables findings.now remarks.now further.now) }
 {
     let mut out = Vec::new(alloc);
     out.push(b'{')?;
     push_head(&mut out, findings, remarks)?;
     push_flows_member(alloc, &mut out, config, origins, findings)?;
     push_remarks_member(&mut out, config, origins, remarks)?;
+    out.extend_from_slice(further)?;
     out.extend_from_slice(b"}\n")?;
     Ok(out)
 }

@@ -36,19 +36,22 @@ fn text_of(
     origins: &[Vec<Origin>],
     findings: &[Finding],
     remarks: &[Remark],
+    further: &[u8],
 ) -> Result<Vec<u8>, AllocError>
-    ensures { IfOk result (λ text. text.items ≡ check_report_text form (view_origins origins.now) config.now.tables findings.now remarks.now) }
+    ensures { IfOk result (λ text. text.items ≡ check_report_text form (view_origins origins.now) config.now.tables findings.now remarks.now further.now) }
 {
-    match form {
-        Form::Findings => words_of(alloc, false, false, config, origins, findings, remarks),
-        Form::All => words_of(alloc, true, false, config, origins, findings, remarks),
-        Form::AllInWords => words_of(alloc, true, true, config, origins, findings, remarks),
-        Form::Json => json_of(alloc, config, origins, findings, remarks),
-    }
+    let mut text = match form {
+        Form::Findings => words_of(alloc, false, false, config, origins, findings, remarks)?,
+        Form::All => words_of(alloc, true, false, config, origins, findings, remarks)?,
+        Form::AllInWords => words_of(alloc, true, true, config, origins, findings, remarks)?,
+        Form::Json => return json_of(alloc, config, origins, findings, remarks, further),
+    };
+    text.extend_from_slice(further)?;
+    Ok(text)
 }
 
 /// Writes the report on the entries of a switch, each after at most so many steps, and on its configuration, whose entries come from these lines,
-/// by table, then by age. Ok says whether something was found.
+/// by table, then by age. `further` is a text that follows in words, or further members of the JSON object. Ok says whether something was found.
 ///
 /// Err is `WriteFault`, where a write failed and a prefix of the text was written; or `NoMemory`, where nothing was.
 pub fn write_report<L: Lookup, W: Sink>(
@@ -58,10 +61,11 @@ pub fn write_report<L: Lookup, W: Sink>(
     origins: &[Vec<Origin>],
     steps: usize,
     form: Form,
+    further: &[u8],
     writer: &mut W,
 ) -> Result<bool, Ended>
     requires { W.failures writer.old ≡ 0 }
-    ensures output { Writes (IsCheckReport result steps form (view_origins origins.now) switch.now.core.forwarding.tables config.now) (ended_as result)
+    ensures output { Writes (IsCheckReport result steps form further.now (view_origins origins.now) switch.now.core.forwarding.tables config.now) (ended_as result)
         (W.taken writer.old) (W.taken writer.new) }
     ensures write_fault { (ended_as result ≡ Ended.WriteFault) ↔ (0 < W.failures writer.new) }
 {
@@ -71,7 +75,7 @@ pub fn write_report<L: Lookup, W: Sink>(
     let Ok(remarks) = remarks_on(alloc, config) else {
         return Err(Ended::NoMemory);
     };
-    let Ok(text) = text_of(alloc, form, config, origins, &findings, &remarks) else {
+    let Ok(text) = text_of(alloc, form, config, origins, &findings, &remarks, further) else {
         return Err(Ended::NoMemory);
     };
     if write_all(writer, &text) {

@@ -1,13 +1,21 @@
 //! Reports of `check`.
-use crate::files::{Contents, FileRead, NoFile, PortList, port_list, read_contents, say_missing};
+use crate::files::{
+    Contents, FileRead, NoFile, PortList, port_list, push_named, read_contents, say_missing,
+};
 use crate::lookups::Lookups;
+use crate::requiring::{
+    Required, missing_on, no_requirements, push_required, read_required, required,
+};
 use of_command_line::{Check, CheckOutput};
 use of_files::FileTables;
 use of_replay::streams::WriterSink;
 use of_replay::{Ended, switch_of_config, write_all};
 use of_report::{Form, write_report};
+use of_require::{Line, Verdict};
 use of_switch::Switch;
-use of_text::cut;
+use of_text::{Config, cut};
+use of_values::Origin;
+use std::alloc::{AllocError, Global};
 
 /// What a flow text begins with that is a part of a table, as `import --skip` writes it.
 const PART: &[u8] = b"# part of a table";
@@ -17,8 +25,8 @@ const PART: &[u8] = b"# part of a table";
 pub enum CheckVerdict {
     Nothing,
     Found,
-    /// Nothing was found, but groups or flows name ports that the switch does not have.
-    MissingPorts,
+    /// Nothing was found, but a requirement is undecided, or groups, flows or requirements name ports that the switch does not have.
+    Undecided,
 }
 
 fn form_of(output: CheckOutput) -> Form {
@@ -44,11 +52,44 @@ fn print_part(rt: &HostRuntime, text: &[u8]) -> Result<(), Ended> {
     }
 }
 
-fn verdict_of(found: bool, missing: bool) -> CheckVerdict {
-    match (found, missing) {
-        (true, _) => CheckVerdict::Found,
-        (false, true) => CheckVerdict::MissingPorts,
-        (false, false) => CheckVerdict::Nothing,
+fn verdict_of(found: bool, missing: bool, required: Verdict) -> CheckVerdict {
+    match (found, missing, required) {
+        (true, _, _) | (_, _, Verdict::Fails) => CheckVerdict::Found,
+        (_, true, _) | (_, _, Verdict::Undecided) => CheckVerdict::Undecided,
+        (false, false, Verdict::Holds) => CheckVerdict::Nothing,
+    }
+}
+
+// The report on a switch and its groups and flows, which come from these lines; and that on requirements.
+fn reported(
+    rt: &HostRuntime,
+    asked: &Check,
+    switch: &Switch<Lookups>,
+    config: &Config,
+    origins: &[Vec<Origin>],
+    lines: Vec<Line>,
+    missing: &[u32],
+) -> Result<CheckVerdict, NoFile> {
+    let alloc = rt.alloc();
+    let Required { text, verdict } = required(rt, asked, switch, lines)?;
+    let missing = match say_missing(rt, asked.output == CheckOutput::Json, missing) {
+        Ok(missing) => missing,
+        Err(ended) => return Err(NoFile::ended(alloc, ended)),
+    };
+    let (steps, form) = (asked.steps as usize, form_of(asked.output));
+    let mut writer = WriterSink::new(rt.stdout());
+    match write_report(
+        alloc,
+        switch,
+        config,
+        origins,
+        steps,
+        form,
+        &text,
+        &mut writer,
+    ) {
+        Ok(found) => Ok(verdict_of(found, missing, verdict)),
+        Err(ended) => Err(NoFile::ended(alloc, ended)),
     }
 }
 
@@ -58,24 +99,21 @@ fn tables_reported(
     asked: &Check,
     tables: &FileTables,
     list: &PortList,
-) -> Result<CheckVerdict, Ended> {
+    lines: Vec<Line>,
+) -> Result<CheckVerdict, NoFile> {
     let alloc = rt.alloc();
     let Ok(switch) = switch_of_config::<Lookups>(alloc, &tables.config, &list.ports) else {
-        return Err(Ended::NoMemory);
+        return Err(NoFile::ended(alloc, Ended::NoMemory));
     };
-    let missing = say_missing(rt, asked.output == CheckOutput::Json, &list.missing)?;
-    let (steps, form) = (asked.steps as usize, form_of(asked.output));
-    let mut writer = WriterSink::new(rt.stdout());
-    let found = write_report(
-        alloc,
+    reported(
+        rt,
+        asked,
         &switch,
         &tables.config,
         &tables.origins,
-        steps,
-        form,
-        &mut writer,
-    )?;
-    Ok(verdict_of(found, missing))
+        lines,
+        &list.missing,
+    )
 }
 
 // The report on the switch of an event file.
@@ -83,40 +121,57 @@ fn switch_reported(
     rt: &HostRuntime,
     asked: &Check,
     switch: &Switch<Lookups>,
-) -> Result<CheckVerdict, Ended> {
-    let Ok(config) = switch.config() else {
-        return Err(Ended::NoMemory);
+    lines: Vec<Line>,
+) -> Result<CheckVerdict, NoFile> {
+    let alloc = rt.alloc();
+    let (Ok(config), Ok(missing)) = (switch.config(), missing_on(alloc, switch, &lines)) else {
+        return Err(NoFile::ended(alloc, Ended::NoMemory));
     };
-    let (steps, form) = (asked.steps as usize, form_of(asked.output));
-    let mut writer = WriterSink::new(rt.stdout());
-    let found = write_report(rt.alloc(), switch, &config, &[], steps, form, &mut writer)?;
-    Ok(verdict_of(found, false))
+    reported(rt, asked, switch, &config, &[], lines, &missing)
+}
+
+// The ports of the switch of a file, and those that are named and that it does not have.
+fn named_list(
+    alloc: Global,
+    asked: &Check,
+    contents: &Contents,
+    lines: &[Line],
+) -> Result<PortList, AllocError> {
+    let mut named = Vec::new(alloc);
+    push_named(&mut named, contents)?;
+    push_required(&mut named, lines)?;
+    port_list(alloc, &asked.of.ports, &named)
 }
 
 fn contents_reported(
     rt: &HostRuntime,
     asked: &Check,
     read: &FileRead,
-) -> Result<CheckVerdict, Ended> {
+    lines: Vec<Line>,
+) -> Result<CheckVerdict, NoFile> {
+    let alloc = rt.alloc();
     match &read.contents {
-        Contents::Tables { tables, named } => {
+        Contents::Tables { tables, .. } => {
             if asked.output != CheckOutput::Json {
-                print_part(rt, &read.bytes)?;
+                if let Err(ended) = print_part(rt, &read.bytes) {
+                    return Err(NoFile::ended(alloc, ended));
+                }
             }
-            match port_list(rt.alloc(), &asked.of.ports, named) {
-                Ok(list) => tables_reported(rt, asked, tables, &list),
-                Err(_) => Err(Ended::NoMemory),
+            match named_list(alloc, asked, &read.contents, &lines) {
+                Ok(list) => tables_reported(rt, asked, tables, &list, lines),
+                Err(_) => Err(NoFile::ended(alloc, Ended::NoMemory)),
             }
         }
-        Contents::Events(switch) => switch_reported(rt, asked, switch),
+        Contents::Events(switch) => switch_reported(rt, asked, switch, lines),
     }
 }
 
-/// Prints the report on the switch of a file.
+/// Prints the report on the switch of a file, and on its requirements.
 pub fn checked(rt: &HostRuntime, asked: &Check) -> Result<CheckVerdict, NoFile> {
+    let lines = match &asked.require {
+        Some(path) => read_required(rt, path.as_str())?,
+        None => no_requirements(rt),
+    };
     let read = read_contents(rt, asked.of.path.as_str(), asked.of.kind, None, false)?;
-    match contents_reported(rt, asked, &read) {
-        Ok(verdict) => Ok(verdict),
-        Err(ended) => Err(NoFile::ended(rt.alloc(), ended)),
-    }
+    contents_reported(rt, asked, &read, lines)
 }

@@ -12,6 +12,7 @@ mod importing;
 mod live;
 mod lookups;
 mod paths;
+mod requiring;
 mod say;
 mod seed;
 mod serving;
@@ -225,7 +226,7 @@ fn run_check(rt: &HostRuntime, asked: &Check) -> ExitCode {
     match checked(rt, asked) {
         Ok(CheckVerdict::Nothing) => ExitCode::SUCCESS,
         Ok(CheckVerdict::Found) => ExitCode::from(FOUND),
-        Ok(CheckVerdict::MissingPorts) => ExitCode::from(UNDECIDED),
+        Ok(CheckVerdict::Undecided) => ExitCode::from(UNDECIDED),
         Err(why) => end_unread(rt, asked.of.path.as_str(), why),
     }
 }

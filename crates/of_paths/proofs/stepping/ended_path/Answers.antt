@@ -1,8 +1,8 @@
 use Rattle.std.proofs.Common.{refl}
 use Rattle.of_datapath.specs.Datapath.{world_of}
 use Rattle.of_datapath.specs.Numbers.{forwarding_of}
-use Rattle.of_paths.proofs.SoFarLemmas.{ended_lines}
+use Rattle.of_paths.proofs.SoFarLemmas.{ended_runs}
 use Rattle.of_paths.proofs.stepping.ended_path.Goals as goal
 
 pub returns : goal.returns
-returns g c = (refl, c.requires, ended_lines (world_of (forwarding_of c.args.datapath.now)) c.args.case c.ended_states_give_runs.ensures.lines c.known_world.ensures c.requires)
+returns g c = (refl, c.requires, ended_runs (world_of (forwarding_of c.args.datapath.now)) c.args.case c.ended_states_give_runs.ensures.lines c.ended_states_give_runs.ensures.items c.known_world.ensures c.requires)

@@ -1,0 +1,23 @@
+-- For contracts inside this crate: classes of frames that decide a requirement.
+use Rattle.std.specs.Prelude.{◌≡◌, Bool, true, false, List, [], ◌∷◌}
+use Rattle.of_machine.specs.declared.data.Item.{Item}
+use Rattle.of_paths.specs.declared.path.Path.{Path}
+use Rattle.of_paths.specs.declared.path.PathClass.{PathClass}
+use Rattle.of_require.specs.declared.deciding.Shown.{Shown}
+use Rattle.of_require.specs.declared.requirement.Requirement.{Requirement}
+use Rattle.of_require.specs.Decisions.{decides}
+
+abbrev pub first_decides : Requirement → List Path → List Item → Bool
+first_decides r [] items = false
+first_decides r (p ∷ rest) items = decides r p.steps.items items
+
+-- the frame of the class decides it, by the steps of its first path
+abbrev pub class_decides : Requirement → PathClass → Bool
+class_decides r c = first_decides r c.paths.items c.items.items
+
+-- it is the frame of the class, which decides
+pub record IsShownOf (r : Requirement) (c : PathClass) (shown : Shown) : Type 0 where
+  pub decides : class_decides r c ≡ true
+  pub frame : shown.frame ≡ c.frame
+  pub in_port : shown.in_port ≡ c.in_port
+  pub items : shown.items ≡ c.items

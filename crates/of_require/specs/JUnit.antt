@@ -1,0 +1,38 @@
+-- THE REPORT ON REQUIREMENTS AS XML, as JUnit writes the results of tests: a test case for each requirement, which fails if the requirement does not hold.
+use Rattle.std.specs.Prelude.{ℕ, ◌==◌, List, [], ◌∷◌, ◌++◌, length, codes, decimal, if◌then◌else◌}
+use Rattle.std.specs.List.{flat_map}
+use Rattle.of_values.specs.Origins.{printable}
+use Rattle.of_require.specs.declared.answers.Answer.{Answer}
+use Rattle.of_require.specs.declared.deciding.Verdict.{Verdict}
+use Rattle.of_require.specs.declared.deciding.Verdict.TheVariants.{Fails, Holds, Undecided}
+use Rattle.of_require.specs.Answers.{count_verdicts, verdict_of}
+use Rattle.of_require.specs.Words.{decision_words}
+
+-- a character of an attribute's value, which is between apostrophes
+abbrev pub xml_character : ℕ → List ℕ
+xml_character b =
+    if b == 38 then codes "&amp;"
+    else if b == 60 then codes "&lt;"
+    else if b == 62 then codes "&gt;"
+    else if b == 39 then codes "&apos;"
+    else printable b ∷ []
+
+-- one that fails, with why; one that is undecided is an error
+abbrev pub outcome_element : Verdict → List ℕ → List ℕ
+outcome_element Holds why = []
+outcome_element Fails why = codes "<failure>" ++ why ++ codes "</failure>"
+outcome_element Undecided why = codes "<error>" ++ why ++ codes "</error>"
+
+unfoldable pub test_case : Answer → List ℕ
+test_case a =
+    codes "<testcase classname='requirements' name='line " ++ decimal a.line.number ++ codes ": " ++ flat_map xml_character a.line.text.items ++ codes "'>"
+    ++ outcome_element (verdict_of a) (decision_words a.decision) ++ codes "</testcase>" ++ 10 ∷ []
+
+unfoldable pub suite_head : List Answer → List ℕ
+suite_head answers =
+    codes "<testsuite name='ofswitch requirements' tests='" ++ decimal (length answers) ++ codes "' failures='" ++ decimal (count_verdicts Fails answers)
+    ++ codes "' errors='" ++ decimal (count_verdicts Undecided answers) ++ codes "'>" ++ 10 ∷ []
+
+unfoldable pub requirements_junit : List Answer → List ℕ
+requirements_junit answers =
+    codes "<?xml version='1.0' encoding='UTF-8'?>" ++ 10 ∷ [] ++ suite_head answers ++ flat_map test_case answers ++ codes "</testsuite>" ++ 10 ∷ []

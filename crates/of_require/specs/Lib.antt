@@ -1,0 +1,11 @@
+pub mod OneProof
+pub mod Requirements
+pub mod Decisions
+pub mod Deciding
+pub mod Refusals
+pub mod Reading
+pub mod RequirementFiles
+pub mod Answers
+pub mod Words
+pub mod RequirementsJson
+pub mod JUnit

@@ -1,0 +1,22 @@
+-- Why a line is no requirement: memory ran out, or a word is refused.
+use Rattle.std.specs.Prelude.{◌≡◌, ℕ, List, Result, Err}
+use Rattle.of_require.specs.declared.refusal.NoRequirement.{NoRequirement}
+use Rattle.of_require.specs.declared.refusal.NoRequirement.TheVariants.{NoMemory, Refused}
+use Rattle.of_require.specs.declared.refusal.Why.{Why}
+
+-- a word that is refused, and why
+pub record LineRefusal : Type 0 where
+  pub word : List ℕ
+  pub why : Why
+
+abbrev pub refused : {A : Type 0} → List ℕ → Why → Result A LineRefusal
+refused word why = Err (record { word = word; why = why })
+
+-- it is the refusal of this outcome, unless memory ran out
+abbrev pub LineStops : {A : Type 0} → Result A LineRefusal → NoRequirement → Type 0
+LineStops outcome NoMemory = Unit {0}
+LineStops outcome (Refused r) = outcome ≡ refused r.word.items r.why
+
+abbrev pub IsLineRefusal : List ℕ → Why → NoRequirement → Type 0
+IsLineRefusal word why NoMemory = Unit {0}
+IsLineRefusal word why (Refused r) = (r.word.items ≡ word) × (r.why ≡ why)

@@ -1,0 +1,67 @@
+//! What is found about requirements.
+ghost use Rattle.std.specs.Prelude.{◌≡◌, IfOk, map};
+ghost use Rattle.std.specs.List.{AllByRecursion};
+ghost use Rattle.of_datapath.specs.Datapath.{world_of};
+ghost use Rattle.of_datapath.specs.Numbers.{forwarding_of};
+ghost use Rattle.of_require.specs.Answers.{IsAnswer, verdict_of, worst_of, worse_of};
+
+use crate::deciding::{Decision, Verdict, decide};
+use crate::line::Line;
+use of_classifier::Lookup;
+use of_datapath::Datapath;
+use std::alloc::{AllocError, Global};
+
+/// A requirement, and what is found about it.
+#[derive(Drop)]
+pub struct Answer {
+    pub line: Line,
+    pub decision: Decision,
+}
+
+impl Answer {
+    pub fn verdict(&self) -> Verdict
+        ensures { result ≡ verdict_of self.now }
+    {
+        self.decision.verdict(self.line.requirement.quantifier)
+    }
+}
+
+/// What is found about each requirement. For each of them and each port the runs of all frames take at most so many steps together, and each search for
+/// a frame as many (OpenFlow 1.3.5, 5.1).
+pub fn answers<L: Lookup>(
+    alloc: Global,
+    datapath: &Datapath<L>,
+    lines: Vec<Line>,
+    steps: usize,
+) -> Result<Vec<Answer>, AllocError>
+    ensures lines { IfOk result (λ answers. map (λ answer. answer.line) answers.items ≡ lines.items) }
+    ensures right { IfOk result (λ answers. AllByRecursion (IsAnswer (world_of (forwarding_of datapath.now)) steps) answers.items) }
+{
+    let mut answers = Vec::new(alloc);
+    for line in lines {
+        let decision = decide(alloc, datapath, &line.requirement, steps)?;
+        answers.push(Answer { line, decision })?;
+    }
+    Ok(answers)
+}
+
+fn worse(one: Verdict, other: Verdict) -> Verdict
+    ensures { result ≡ worse_of one other }
+{
+    match (one, other) {
+        (Verdict::Fails, _) | (_, Verdict::Fails) => Verdict::Fails,
+        (Verdict::Undecided, _) | (_, Verdict::Undecided) => Verdict::Undecided,
+        (Verdict::Holds, Verdict::Holds) => Verdict::Holds,
+    }
+}
+
+/// The worst verdict: one fails, or else one is undecided, or else all hold.
+pub fn worst(answers: &[Answer]) -> Verdict
+    ensures { result ≡ worst_of answers.now }
+{
+    let mut verdict = Verdict::Holds;
+    for answer in answers {
+        verdict = worse(verdict, answer.verdict());
+    }
+    verdict
+}

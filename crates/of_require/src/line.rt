@@ -1,0 +1,164 @@
+//! Requirements of a file.
+ghost use Rattle.std.specs.Prelude.{◌≡◌, ◌++◌, map, IfErr, IfOk, OnOk, Ok};
+ghost use Rattle.of_regions.specs.Conditions.{AreConditions};
+ghost use Rattle.of_frame_words.specs.Conditions.{conditions_in_words};
+ghost use Rattle.of_require.specs.Reading.{is_demand_word as is_demand_name, match_refused, match_said, quantifier_named, requirement_said, view_requirement};
+ghost use Rattle.of_require.specs.RequirementFiles.{at_line, is_left_out as is_no_requirement, FileStops, requirements_in, view_line, with_line};
+ghost use Rattle.of_require.specs.Refusals.{LineStops};
+
+use crate::reading::{behind_expected, first_word, is_blank, read_demand, read_ending};
+use crate::refusal::{NoRequirement, NoRequirements, Refusal, Why, refuse};
+use crate::requirement::{Quantifier, Requirement};
+use of_frame_words::{NoFrame, read_conditions};
+use of_lines::{cut, is, is_passed_over};
+use of_oxm::MatchField;
+use std::alloc::Global;
+
+/// A requirement of a file.
+#[derive(Drop)]
+pub struct Line {
+    /// The number of its line, from 1.
+    pub number: usize,
+    pub text: Vec<u8>,
+    pub requirement: Requirement,
+}
+
+fn is_demand_word(word: &[u8]) -> bool
+    ensures { result ≡ is_demand_name word.now }
+{
+    is(word, b"leaves") || is(word, b"passes")
+}
+
+fn read_match(alloc: Global, word: &[u8]) -> Result<Vec<MatchField>, NoRequirement>
+    ensures is { IfOk result (λ fields. match_refused (conditions_in_words word.now) ≡ Ok fields.items) }
+    ensures conditions { IfOk result (λ fields. AreConditions fields.items) }
+    ensures stopped { IfErr result (LineStops (match_refused (conditions_in_words word.now))) }
+{
+    match read_conditions(alloc, word) {
+        Ok(fields) => Ok(fields),
+        Err(NoFrame::NoMemory) => Err(NoRequirement::NoMemory),
+        Err(NoFrame::Refused(refusal)) => Err(NoRequirement::Refused(Refusal {
+            word: refusal.word,
+            why: Why::Match(refusal.why),
+        })),
+    }
+}
+
+// The frames that a requirement is about, and the text behind them.
+fn read_frames<'a>(
+    alloc: Global,
+    text: &'a [u8],
+) -> Result<(Vec<MatchField>, &'a [u8]), NoRequirement>
+    ensures is { IfOk result (λ read. match_said text.now ≡ Ok (read.0.items, read.1.now)) }
+    ensures conditions { IfOk result (λ read. AreConditions read.0.items) }
+    ensures stopped { IfErr result (LineStops (match_said text.now)) }
+{
+    let (word, rest) = first_word(text);
+    if is_demand_word(word) {
+        return Ok((Vec::new(alloc), text));
+    }
+    match read_match(alloc, word) {
+        Ok(fields) => Ok((fields, rest)),
+        Err(stop) => Err(stop),
+    }
+}
+
+fn read_quantifier(alloc: Global, word: &[u8]) -> Result<Quantifier, NoRequirement>
+    ensures is { IfOk result (λ quantifier. quantifier_named word.now ≡ Ok quantifier) }
+    ensures stopped { IfErr result (LineStops (quantifier_named word.now)) }
+{
+    if is(word, b"no") {
+        Ok(Quantifier::No)
+    } else if is(word, b"each") {
+        Ok(Quantifier::Each)
+    } else if is(word, b"some") {
+        Ok(Quantifier::AtLeastOne)
+    } else {
+        Err(refuse(alloc, word, Why::Beginning))
+    }
+}
+
+/// The requirement of a line, such as `no frame ip,nw_src=10.0.9.0/24 leaves by 2,3,4` (docs/REQUIRE.md). Refused is the first word without a meaning.
+#[tactic(auto, unfolding(crate::specs::Reading::requirement_said))]
+pub fn read_requirement(alloc: Global, line: &[u8]) -> Result<Requirement, NoRequirement>
+    ensures is { IfOk result (λ requirement. requirement_said line.now ≡ Ok (view_requirement requirement)) }
+    ensures stopped { IfErr result (LineStops (requirement_said line.now)) }
+{
+    let (word, rest) = first_word(line);
+    let quantifier = read_quantifier(alloc, word)?;
+    let rest = behind_expected(alloc, rest, b"frame", Why::Beginning)?;
+    let (within, rest) = read_frames(alloc, rest)?;
+    let (demand, rest) = read_demand(alloc, rest)?;
+    let except_expired = read_ending(alloc, rest)?;
+    Ok(Requirement {
+        quantifier,
+        within,
+        except_expired,
+        demand,
+    })
+}
+
+fn is_left_out(line: &[u8]) -> bool
+    ensures { result ≡ is_no_requirement line.now }
+{
+    is_passed_over(line) || is_blank(line)
+}
+
+// The requirement of the line with a number.
+fn read_at(alloc: Global, number: usize, text: &[u8]) -> Result<Requirement, NoRequirements>
+    ensures is { IfOk result (λ requirement. at_line number (requirement_said text.now) ≡ Ok (view_requirement requirement)) }
+    ensures stopped { IfErr result (FileStops (at_line number (requirement_said text.now))) }
+{
+    match read_requirement(alloc, text) {
+        Ok(requirement) => Ok(requirement),
+        Err(NoRequirement::NoMemory) => Err(NoRequirements::NoMemory),
+        Err(NoRequirement::Refused(refusal)) => Err(NoRequirements::Refused {
+            line: number,
+            refusal,
+        }),
+    }
+}
+
+// Appends the requirement of the line with a number, unless the line is empty or a comment.
+fn push_line(
+    alloc: Global,
+    lines: &mut Vec<Line>,
+    number: usize,
+    line: &[u8],
+) -> Result<(), NoRequirements>
+    ensures is { OnOk result (with_line (map view_line lines.old.items) number line.now ≡ Ok (map view_line lines.new.items)) }
+    ensures stopped { IfErr result (FileStops (with_line (map view_line lines.old.items) number line.now)) }
+{
+    let (text, _) = cut(line, b'\r');
+    if is_left_out(text) {
+        return Ok(());
+    }
+    let requirement = read_at(alloc, number, text)?;
+    let text = text.to_vec(alloc)?;
+    let line = Line {
+        number,
+        text,
+        requirement,
+    };
+    match lines.push(line) {
+        Ok(_) => Ok(()),
+        Err(_) => Err(NoRequirements::NoMemory),
+    }
+}
+
+/// The requirements of a file, one a line; empty lines and comments, which begin with `#`, are passed over. Refused is the first line that is none.
+pub fn read_requirements(alloc: Global, file: &[u8]) -> Result<Vec<Line>, NoRequirements>
+    ensures is { IfOk result (λ lines. requirements_in file.now ≡ Ok (map view_line lines.items)) }
+    ensures stopped { IfErr result (FileStops (requirements_in file.now)) }
+{
+    let mut lines = Vec::new(alloc);
+    let mut number: usize = 0;
+    let mut rest = file;
+    while !rest.is_empty() {
+        let (line, after) = cut(rest, b'\n');
+        rest = after;
+        number += 1;
+        push_line(alloc, &mut lines, number, line)?;
+    }
+    Ok(lines)
+}

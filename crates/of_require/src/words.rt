@@ -1,0 +1,180 @@
+//! The report on requirements in words.
+ghost use Rattle.std.specs.Prelude.{◌≡◌, ◌++◌, option_map, IfOk, OnOk};
+ghost use Rattle.std.specs.List.{flat_map};
+ghost use Rattle.of_require.specs.Answers.{count_verdicts, is_verdict, verdict_of};
+ghost use Rattle.of_require.specs.Words.{answer_words, counted, decision_words, in_words, is_told as is_told_by, is_told_always as is_told_in_short, requirements_summary, requirements_words, shown_words, verdict_line, verdict_said};
+
+use crate::answers::Answer;
+use crate::deciding::{Decision, Shown, Verdict};
+use of_frame_words::frame_words;
+use of_json::{push_frame_line, push_side};
+use of_values::{push_decimal, push_printable};
+use std::alloc::{AllocError, Global};
+
+fn verdict_in_words(verdict: Verdict) -> &'static [u8]
+    ensures { result.now ≡ verdict_said verdict }
+{
+    match verdict {
+        Verdict::Holds => b"requirement holds",
+        Verdict::Fails => b"requirement fails",
+        Verdict::Undecided => b"requirement undecided",
+    }
+}
+
+#[tactic(auto, unfolding(crate::specs::Words::verdict_line))]
+fn push_verdict_line(out: &mut Vec<u8>, answer: &Answer) -> Result<(), AllocError>
+    ensures { OnOk result (out.new.items ≡ out.old.items ++ verdict_line answer.now) }
+{
+    out.extend_from_slice(verdict_in_words(answer.verdict()))?;
+    out.extend_from_slice(b": line ")?;
+    push_decimal(out, answer.line.number as u128)?;
+    out.extend_from_slice(b": ")?;
+    push_printable(out, &answer.line.text)?;
+    out.push(b'\n')?;
+    Ok(())
+}
+
+fn push_in_words(out: &mut Vec<u8>, words: &Option<Vec<u8>>) -> Result<(), AllocError>
+    ensures { OnOk result (out.new.items ≡ out.old.items ++ in_words (option_map (λ w. w.items) words.now)) }
+{
+    let Some(words) = words else {
+        return Ok(());
+    };
+    out.extend_from_slice(b"    in words: ")?;
+    out.extend_from_slice(words)?;
+    out.push(b'\n')?;
+    Ok(())
+}
+
+// Appends the frame that decides, and what leaves.
+#[tactic(auto, unfolding(crate::specs::Words::shown_words))]
+fn push_shown(alloc: Global, out: &mut Vec<u8>, shown: &Shown) -> Result<(), AllocError>
+    ensures { OnOk result (out.new.items ≡ out.old.items ++ shown_words shown.now) }
+{
+    push_frame_line(alloc, out, shown.in_port, &shown.frame)?;
+    let words = frame_words(alloc, shown.in_port, &shown.frame)?;
+    push_in_words(out, &words)?;
+    push_side(alloc, out, b"    ", &shown.items)
+}
+
+/// Appends why a requirement is met or not.
+#[tactic(auto, unfolding(crate::specs::Words::decision_words))]
+pub fn push_decision(
+    alloc: Global,
+    out: &mut Vec<u8>,
+    decision: &Decision,
+) -> Result<(), AllocError>
+    ensures { OnOk result (out.new.items ≡ out.old.items ++ decision_words decision.now) }
+{
+    match decision {
+        Decision::Frame(shown) => push_shown(alloc, out, shown),
+        Decision::NoFrame => Ok(()),
+        Decision::NoneMatches => {
+            out.extend_from_slice(b"    the switch receives no frame that matches\n")
+        }
+        Decision::Undecided => out.extend_from_slice(
+            b"    it is not known of all frames that match; --steps takes more steps\n",
+        ),
+    }
+}
+
+fn is_told_always(verdict: Verdict, decision: &Decision) -> bool
+    ensures { result ≡ is_told_in_short verdict decision.now }
+{
+    match (verdict, decision) {
+        (Verdict::Holds, Decision::NoneMatches) => true,
+        (Verdict::Holds, _) => false,
+        _ => true,
+    }
+}
+
+fn is_told(all: bool, answer: &Answer) -> bool
+    ensures { result ≡ is_told_by all answer.now }
+{
+    all || is_told_always(answer.verdict(), &answer.decision)
+}
+
+#[tactic(auto, unfolding(crate::specs::Words::answer_words))]
+fn push_answer(
+    alloc: Global,
+    out: &mut Vec<u8>,
+    all: bool,
+    answer: &Answer,
+) -> Result<(), AllocError>
+    ensures { OnOk result (out.new.items ≡ out.old.items ++ answer_words all answer.now) }
+{
+    if is_told(all, answer) {
+        push_verdict_line(out, answer)?;
+        push_decision(alloc, out, &answer.decision)?;
+    }
+    Ok(())
+}
+
+fn push_answers(
+    alloc: Global,
+    out: &mut Vec<u8>,
+    all: bool,
+    answers: &[Answer],
+) -> Result<(), AllocError>
+    ensures { OnOk result (out.new.items ≡ out.old.items ++ flat_map (answer_words all) answers.now) }
+{
+    for answer in answers {
+        push_answer(alloc, out, all, answer)?;
+    }
+    Ok(())
+}
+
+fn is_verdict_on(verdict: Verdict, answer: &Answer) -> bool
+    ensures { result ≡ is_verdict verdict (verdict_of answer.now) }
+{
+    verdict == answer.verdict()
+}
+
+/// How many requirements have a verdict.
+pub fn count(verdict: Verdict, answers: &[Answer]) -> usize
+    ensures { result ≡ count_verdicts verdict answers.now }
+{
+    answers
+        .iter()
+        .filter(|answer| is_verdict_on(verdict, answer))
+        .count()
+}
+
+fn push_counted(out: &mut Vec<u8>, number: usize, one: &[u8], more: &[u8]) -> Result<(), AllocError>
+    ensures { OnOk result (out.new.items ≡ out.old.items ++ counted number one.now more.now) }
+{
+    push_decimal(out, number as u128)?;
+    out.extend_from_slice(if number == 1 { one } else { more })
+}
+
+#[tactic(auto, unfolding(crate::specs::Words::requirements_summary))]
+fn push_summary(out: &mut Vec<u8>, answers: &[Answer]) -> Result<(), AllocError>
+    ensures { OnOk result (out.new.items ≡ out.old.items ++ requirements_summary answers.now) }
+{
+    push_counted(out, answers.len(), b" requirement: ", b" requirements: ")?;
+    push_counted(out, count(Verdict::Holds, answers), b" holds, ", b" hold, ")?;
+    push_counted(out, count(Verdict::Fails, answers), b" fails, ", b" fail, ")?;
+    push_counted(
+        out,
+        count(Verdict::Undecided, answers),
+        b" undecided",
+        b" undecided",
+    )?;
+    out.push(b'\n')?;
+    Ok(())
+}
+
+/// The report on requirements in words: those that do not hold or match no frame, each with the frame that decides it, or all of them; and a summary.
+#[tactic(auto, unfolding(crate::specs::Words::requirements_words))]
+pub fn requirements_in_words(
+    alloc: Global,
+    all: bool,
+    answers: &[Answer],
+) -> Result<Vec<u8>, AllocError>
+    ensures { IfOk result (λ text. text.items ≡ requirements_words all answers.now) }
+{
+    let mut out = Vec::new(alloc);
+    push_answers(alloc, &mut out, all, answers)?;
+    push_summary(&mut out, answers)?;
+    Ok(out)
+}

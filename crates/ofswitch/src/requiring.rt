@@ -1,0 +1,152 @@
+//! Requirements of the switch of a file.
+use crate::files::{NoFile, bytes_of};
+use crate::lookups::Lookups;
+use of_check::required_port;
+use of_command_line::{Check, CheckOutput};
+use of_files::missing_ports;
+use of_paths_report::Destination;
+use of_replay::Ended;
+use of_require::{
+    Answer, Demand, Line, NoRequirements, Verdict, answers, read_requirements,
+    requirements_as_json, requirements_as_junit, requirements_in_words, worst,
+};
+use of_sockets::ended_unopened;
+use of_switch::Switch;
+use std::alloc::{AllocError, Global};
+use std::fs::File;
+use std::io::{self, Write};
+
+/// What is found about requirements: the text of the report, and the worst verdict.
+#[derive(Drop)]
+pub struct Required {
+    pub text: Vec<u8>,
+    pub verdict: Verdict,
+}
+
+/// None.
+pub fn no_requirements(rt: &HostRuntime) -> Vec<Line> {
+    Vec::new(rt.alloc())
+}
+
+/// The requirements of a file; if it has none, standard error says which line is at fault.
+pub fn read_required(rt: &HostRuntime, path: &str) -> Result<Vec<Line>, NoFile> {
+    let bytes = match bytes_of(rt, path) {
+        Ok(bytes) => bytes,
+        Err(NoFile::Unopened(error)) => {
+            let _ = eprintln!(rt; "cannot open {path}: {error}");
+            return Err(NoFile::ended(rt.alloc(), ended_unopened(error.kind())));
+        }
+        Err(why) => return Err(why),
+    };
+    match read_requirements(rt.alloc(), &bytes) {
+        Ok(lines) => Ok(lines),
+        Err(NoRequirements::NoMemory) => Err(NoFile::ended(rt.alloc(), Ended::NoMemory)),
+        Err(NoRequirements::Refused { line, refusal }) => {
+            let word = std::str::from_utf8(&refusal.word).unwrap_or("?");
+            let _ = eprintln!(rt; "{path}: line {line}: {word}: {}", refusal.why);
+            Err(NoFile::Faults)
+        }
+    }
+}
+
+fn push_places(ports: &mut Vec<u32>, places: &[Destination]) -> Result<(), AllocError> {
+    for place in places {
+        if let Destination::Port(port) = place {
+            ports.push(*port)?;
+        }
+    }
+    Ok(())
+}
+
+fn push_line_ports(ports: &mut Vec<u32>, line: &Line) -> Result<(), AllocError> {
+    for field in &line.requirement.within {
+        if let Some(port) = required_port(field) {
+            ports.push(port)?;
+        }
+    }
+    match &line.requirement.demand {
+        Demand::LeavesBy(places) | Demand::LeavesOnlyBy(places) => push_places(ports, places),
+        Demand::PassesTable(_) => Ok(()),
+    }
+}
+
+/// Appends the ports that requirements name.
+pub fn push_required(ports: &mut Vec<u32>, lines: &[Line]) -> Result<(), AllocError> {
+    for line in lines {
+        push_line_ports(ports, line)?;
+    }
+    Ok(())
+}
+
+/// The ports that requirements name and that a switch does not have.
+pub fn missing_on(
+    alloc: Global,
+    switch: &Switch<Lookups>,
+    lines: &[Line],
+) -> Result<Vec<u32>, AllocError> {
+    let (mut named, mut ports) = (Vec::new(alloc), Vec::new(alloc));
+    push_required(&mut named, lines)?;
+    for port in switch.datapath().ports.as_slice() {
+        ports.push(port.number)?;
+    }
+    missing_ports(alloc, &named, &ports)
+}
+
+// The report in words or as a member of the JSON object; empty if there are no requirements.
+fn text_of(
+    alloc: Global,
+    output: CheckOutput,
+    asked: bool,
+    found: &[Answer],
+) -> Result<Vec<u8>, AllocError> {
+    match output {
+        _ if !asked => Ok(Vec::new(alloc)),
+        CheckOutput::Json => requirements_as_json(alloc, found),
+        CheckOutput::Report => requirements_in_words(alloc, false, found),
+        CheckOutput::All | CheckOutput::AllInWords => requirements_in_words(alloc, true, found),
+    }
+}
+
+// Says that a file is not written.
+fn unwritten(rt: &HostRuntime, path: &str, error: &io::Error) -> NoFile {
+    let _ = eprintln!(rt; "cannot write {path}: {error}");
+    NoFile::ended(rt.alloc(), Ended::WriteFault)
+}
+
+// Writes the report as XML.
+fn write_junit(rt: &HostRuntime, path: &str, found: &[Answer]) -> Result<(), NoFile> {
+    let Ok(text) = requirements_as_junit(rt.alloc(), found) else {
+        return Err(NoFile::ended(rt.alloc(), Ended::NoMemory));
+    };
+    let mut file = match File::create(rt, path) {
+        Ok(file) => file,
+        Err(error) => return Err(unwritten(rt, path, &error)),
+    };
+    match file.write_all(&text) {
+        Ok(()) => Ok(()),
+        Err(error) => Err(unwritten(rt, path, &error)),
+    }
+}
+
+/// What is found about requirements of a switch, which is also written as XML if that is asked for.
+pub fn required(
+    rt: &HostRuntime,
+    asked: &Check,
+    switch: &Switch<Lookups>,
+    lines: Vec<Line>,
+) -> Result<Required, NoFile> {
+    let (alloc, steps) = (rt.alloc(), asked.steps as usize);
+    let Ok(found) = answers(alloc, switch.datapath(), lines, steps) else {
+        return Err(NoFile::ended(alloc, Ended::NoMemory));
+    };
+    if let Some(path) = &asked.junit {
+        write_junit(rt, path.as_str(), &found)?;
+    }
+    match text_of(alloc, asked.output, asked.require.is_some(), &found) {
+        Ok(text) => Ok(Required {
+            text,
+            verdict: worst(&found),
+        }),
+        Err(_) => Err(NoFile::ended(alloc, Ended::NoMemory)),
+    }
+}
