@@ -1,5 +1,5 @@
 -- A path is put to what was found.
-use Rattle.std.proofs.Common.{◌≡◌, ◌<◌, ℕ, zero, suc, List, [], ◌∷◌, ◌++◌, length, get_or, set, map, refl, sym, ap, subst, ◌∙◌, arith, inl, inr, ◌⊎◌}
+use Rattle.std.proofs.Common.{◌≡◌, ◌<◌, ◌^◌, ℕ, zero, suc, List, [], ◌∷◌, ◌++◌, length, get_or, set, map, refl, sym, ap, subst, ◌∙◌, arith, inl, inr, ◌⊎◌}
 use Rattle.std.specs.Global.{Vec}
 use Rattle.std.specs.List.{Contains}
 use Rattle.std.proofs.lemmas.List.{map-append}
@@ -73,13 +73,14 @@ module _ (w : TheWorld) (steps : ℕ) (p : Path) where
       by_place (inl before) = absurd (none_contained q before)
       by_place (inr same) = same
 
-  class_is : (within : List MatchField) (c : PathClass) → c.paths.items ≡ p ∷ [] → IsReceivedAt w c.frame.items c.in_port → InFrames p.frames c.frame.items c.in_port → c.items.items ≡ items_at w c.frame.items c.in_port → IsPath w within p → IsPathClass w within c
-  class_is within c paths received inside items is = record {
+  class_is : (within : List MatchField) (c : PathClass) → c.paths.items ≡ p ∷ [] → IsReceivedAt w c.frame.items c.in_port → InFrames p.frames c.frame.items c.in_port → c.items.items ≡ items_at w c.frame.items c.in_port → c.in_port < 2 ^ 32 → IsPath w within p → IsPathClass w within c
+  class_is within c paths received inside items fits is = record {
     paths = λ q there. subst (IsPath w within) (one_path q (subst (λ (l : List Path). Contains l q) paths there)) is;
     way = λ q there. ap (λ (x : Path). way_of x.steps.items) (sym (one_path q (subst (λ (l : List Path). Contains l q) paths there))) ∙ sym (ap paths_way paths);
     received = received;
     shown = subst (λ (l : List Path). InFirstPath l c.frame.items c.in_port) (sym paths) inside;
     items = items;
+    fits = fits;
   }
 
   merged_more : (m : Merging) (old : Paths) (c : PathClass) → c.paths.items ≡ p ∷ [] → IsOtherWay m old p → AreMerged m old.classes.items → AreMerged m (old.classes.items ++ c ∷ [])
@@ -91,12 +92,12 @@ module _ (w : TheWorld) (steps : ℕ) (p : Path) where
   ]
 
   pub puts_class : (old new : Paths) (c : PathClass) → new.classes.items ≡ old.classes.items ++ c ∷ [] → new.undecided.items ≡ old.undecided.items → c.paths.items ≡ p ∷ [] → IsReceivedAt w c.frame.items c.in_port → InFrames p.frames c.frame.items c.in_port →
-      c.items.items ≡ items_at w c.frame.items c.in_port → PutsAlone w steps p old new
-  puts_class old new c classes undecided paths received inside items m other = record {
+      c.items.items ≡ items_at w c.frame.items c.in_port → c.in_port < 2 ^ 32 → PutsAlone w steps p old new
+  puts_class old new c classes undecided paths received inside items fits m other = record {
     found = λ within is reason h. record {
       classes = λ d there. elim (Contains-push_cases old.classes.items c d (subst (λ (l : List PathClass). Contains l d) classes there)) as (λ x. IsPathClass w within d) [
         | inl before ↦ h.classes d before
-        | inr same ↦ subst (IsPathClass w within) same (class_is within c paths received inside items is)
+        | inr same ↦ subst (IsPathClass w within) same (class_is within c paths received inside items fits is)
       ];
       merged = subst (AreMerged m) (sym classes) (merged_more m old c paths other h.merged);
       undecided = λ u there. h.undecided u (subst (λ (l : List UndecidedFrames). Contains l u) undecided there);
@@ -174,6 +175,7 @@ module _ (w : TheWorld) (steps : ℕ) (p : Path) (old new : Paths) (i : ℕ) (x 
     received = rw (frame, in_port) h.received;
     shown = subst (λ (l : List Path). InFirstPath l c.frame.items c.in_port) (sym paths) (first_stays x.paths.items p c.frame.items c.in_port (rw (frame, in_port) h.shown));
     items = rw (frame, in_port, items) h.items;
+    fits = rw in_port h.fits;
   }
 
   there_is : Contains old.classes.items x

@@ -3,3 +3,4 @@ pub mod Ways
 pub mod Reasons
 pub mod Paths
 pub mod SoFar
+pub mod Places

@@ -1,5 +1,5 @@
 -- THE PATHS OF ALL FRAMES THAT A SWITCH RECEIVES, in classes: those of one way together, or each alone (OpenFlow 1.3.5, 5.1).
-use Rattle.std.specs.Prelude.{◌≡◌, ℕ, ◌⊎◌, List, [], ◌∷◌, length, map, true}
+use Rattle.std.specs.Prelude.{◌≡◌, ◌<◌, ◌^◌, ℕ, ◌⊎◌, List, [], ◌∷◌, length, map, true}
 use Rattle.std.specs.List.{Contains}
 use Rattle.of_oxm.specs.declared.match_field.MatchField.{MatchField}
 use Rattle.of_oxm.specs.Relations.{matches_map}
@@ -38,13 +38,14 @@ abbrev pub InFirstPath : List Path → List ℕ → ℕ → Type 0
 InFirstPath [] frame port = ⊥
 InFirstPath (p ∷ rest) frame port = InFrames p.frames frame port
 
--- each of its paths is one, and has the way of the class; its frame is received and is one of the first path, and it was run
+-- each of its paths is one, and has the way of the class; its frame is received and is one of the first path, and it was run; a port's number has 32 bits
 pub record IsPathClass (w : TheWorld) (within : List MatchField) (c : PathClass) : Type 0 where
   pub paths : (p : Path) → Contains c.paths.items p → IsPath w within p
   pub way : (p : Path) → Contains c.paths.items p → way_of p.steps.items ≡ class_way c
   pub received : IsReceivedAt w c.frame.items c.in_port
   pub shown : InFirstPath c.paths.items c.frame.items c.in_port
   pub items : c.items.items ≡ items_at w c.frame.items c.in_port
+  pub fits : c.in_port < 2 ^ 32
 
 -- no two classes have the same way; or each class has one path
 abbrev pub AreMerged : Merging → List PathClass → Type 0

@@ -3,7 +3,7 @@ use Rattle.std.proofs.Common.{◌≡◌, ℕ, ◌≤◌, Bool, true, false, List
 use Rattle.std.proofs.lemmas.List.{append-nil}
 use Rattle.std.specs.Prelude.{Option}
 use Rattle.of_paths.specs.declared.path.PathClass.{PathClass}
-use Rattle.of_paths_report.specs.declared.destination.Destination.{Destination}
+use Rattle.of_paths.specs.declared.destination.Destination.{Destination}
 use Rattle.of_paths_report.specs.PathsJson.{listed_behind, shown_classes}
 
 none_behind : (begun : Bool) (text : PathClass → List ℕ) → listed_behind begun text [] ≡ []

@@ -35,9 +35,10 @@ use Rattle.of_paths.specs.declared.path.PathClass.{PathClass}
 use Rattle.of_paths.specs.declared.path.Paths.{Paths}
 use Rattle.of_paths.specs.Paths.{ArePaths, InUndecidedFrames}
 use Rattle.of_paths.specs.Ways.{line_but_entry, paths_way, way_of}
-use Rattle.of_paths_report.specs.Destinations.{InClassLeadingTo, has_destination, is_class_leading, is_led_by, is_leading_to, leads_by_steps, leaves_to}
-use Rattle.of_paths_report.specs.declared.destination.Destination.{Destination}
-use Rattle.of_paths_report.specs.declared.destination.Destination.TheVariants as places
+use Rattle.of_paths_report.specs.Destinations.{InClassLeadingTo, has_destination, is_class_leading, is_led_by, is_leading_to, leads_by_steps}
+use Rattle.of_paths.specs.Places.{leaves_to}
+use Rattle.of_paths.specs.declared.destination.Destination.{Destination}
+use Rattle.of_paths.specs.declared.destination.Destination.TheVariants as places
 
 -- ---- of one row
 

@@ -10,8 +10,8 @@ use Rattle.of_machine.specs.declared.data.Step.TheVariants.{Act, TtlExpired}
 use Rattle.of_paths.specs.declared.path.Path.{Path}
 use Rattle.of_paths.specs.declared.path.PathClass.{PathClass}
 use Rattle.of_paths.specs.Paths.{InPaths}
-use Rattle.of_paths_report.specs.declared.destination.Destination.{Destination}
-use Rattle.of_paths_report.specs.declared.destination.Destination.TheVariants.{Controller, Nothing, Port}
+use Rattle.of_paths.specs.declared.destination.Destination.{Destination}
+use Rattle.of_paths.specs.declared.destination.Destination.TheVariants.{Controller, Nothing, Port}
 
 -- an OUTPUT to this port may send out of the port
 abbrev pub is_led_by : ℕ → ℕ → Bool
@@ -50,16 +50,6 @@ is_class_leading Controller c = has_destination Controller c.paths.items
 abbrev pub is_class_shown : Option Destination → PathClass → Bool
 is_class_shown None c = true
 is_class_shown (Some to) c = is_class_leading to c
-
--- ---- what leaves
-
--- the item leaves by the port, or goes to the controller
-abbrev pub leaves_to : Destination → Item → Bool
-leaves_to (Port port) (Sent number frame) = number == port
-leaves_to (Port port) (PacketIn p) = false
-leaves_to Controller (Sent number frame) = false
-leaves_to Controller (PacketIn p) = true
-leaves_to Nothing item = false
 
 -- the frame is one of those of a class that leads there
 abbrev pub InClassLeadingTo : Destination → List PathClass → List ℕ → ℕ → Type 0

@@ -7,7 +7,7 @@ use Rattle.of_replay.specs.declared.event_file.Ended.TheVariants.{Done}
 use Rattle.of_paths.specs.Paths.{ArePaths}
 use Rattle.of_paths.specs.declared.path.Merging.{Merging}
 use Rattle.of_paths.specs.declared.path.Paths.{Paths}
-use Rattle.of_paths_report.specs.declared.destination.Destination.{Destination}
+use Rattle.of_paths.specs.declared.destination.Destination.{Destination}
 use Rattle.of_paths_report.specs.declared.writing.PathsForm.{PathsForm}
 use Rattle.of_paths_report.specs.declared.writing.PathsForm.TheVariants.{Json, Words}
 use Rattle.of_paths_report.specs.declared.writing.PathsVerdict.{PathsVerdict}

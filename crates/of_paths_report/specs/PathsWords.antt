@@ -17,7 +17,7 @@ use Rattle.of_paths.specs.declared.path.Paths.{Paths}
 use Rattle.of_paths.specs.declared.path.UndecidedFrames.{UndecidedFrames}
 use Rattle.of_paths.specs.declared.path.WhyUndecided.{WhyUndecided}
 use Rattle.of_paths.specs.declared.path.WhyUndecided.TheVariants.{Search, Steps, UnknownTag}
-use Rattle.of_paths_report.specs.declared.destination.Destination.{Destination}
+use Rattle.of_paths.specs.declared.destination.Destination.{Destination}
 use Rattle.of_paths_report.specs.Destinations.{is_class_leading, is_class_shown}
 
 -- ---- the entries that a path hits: ` 0:3 1:4`

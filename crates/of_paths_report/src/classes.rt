@@ -5,12 +5,12 @@ ghost use Rattle.of_datapath.specs.DryRun.{steps_in};
 ghost use Rattle.of_tracing.specs.Encoded.{are_encoded, is_encoded};
 ghost use Rattle.of_paths_report.specs.PathsWords.{class_words, indented_line, shown_words};
 
-use crate::destination::{Destination, is_shown};
+use crate::destination::is_shown;
 use crate::hits::push_further;
 use of_classifier::Lookup;
 use of_json::{push_frame_line, push_side};
 use of_machine::Step;
-use of_paths::PathClass;
+use of_paths::{Destination, PathClass};
 use of_switch::{Switch, SwitchError};
 use of_trace::{push_heading, push_step};
 use of_tracing::{Trace, trace};

@@ -4,19 +4,8 @@ ghost use Rattle.of_paths_report.specs.Destinations.{has_destination, is_class_l
 
 use of_actions::Action;
 use of_machine::Step;
-use of_paths::{Path, PathClass};
+use of_paths::{Destination, Path, PathClass};
 use of_wire::limits::{OFPP_ALL, OFPP_CONTROLLER, OFPP_FLOOD, OFPP_IN_PORT};
-
-/// Where a path leads.
-#[derive(Clone, Copy, PartialEq, Eq)]
-pub enum Destination {
-    /// Out of a port, for some ingress port: an OUTPUT names it, or is to FLOOD, ALL or IN_PORT (OpenFlow 1.3.5, 5.12).
-    Port(u32),
-    /// To the controller: by an OUTPUT, or since a TTL expired.
-    Controller,
-    /// Nothing leaves for the frame that was run.
-    Nothing,
-}
 
 // Whether an OUTPUT to this port may send out of the port, for some ingress port.
 fn may_send_by(output: u32, port: u32) -> bool

@@ -7,7 +7,7 @@ ghost use Rattle.of_paths.specs.declared.path.PathClass.{PathClass as APathClass
 ghost use Rattle.of_paths_report.specs.PathsJson.{class_members, class_object, classes_member, listed_behind, paths_head, paths_json, shown_classes, step_string, steps_member, undecided_frames_member, undecided_frames_string, why_in_json};
 
 use crate::classes::traced;
-use crate::destination::{Destination, is_shown};
+use crate::destination::is_shown;
 use crate::json_hits::push_hits_member;
 use of_classifier::Lookup;
 use of_json::{
@@ -15,7 +15,7 @@ use of_json::{
     push_number_member, push_quoted,
 };
 use of_machine::Step;
-use of_paths::{PathClass, Paths, UndecidedFrames, WhyUndecided};
+use of_paths::{Destination, PathClass, Paths, UndecidedFrames, WhyUndecided};
 use of_switch::Switch;
 use of_trace::push_step;
 use of_values::push_decimal;

@@ -9,8 +9,9 @@ ghost use Rattle.of_symbolic_run.specs.Received.{IsReceivedAt, items_at};
 ghost use Rattle.of_paths.specs.declared.path.Merging.{Merging};
 ghost use Rattle.of_paths.specs.declared.path.Paths.{Paths};
 ghost use Rattle.of_paths.specs.Paths.{ArePaths, InUndecidedFrames};
-ghost use Rattle.of_paths_report.specs.Destinations.{InClassLeadingTo, leaves_to};
-ghost use Rattle.of_paths_report.specs.declared.destination.Destination.{Destination as Place};
+ghost use Rattle.of_paths_report.specs.Destinations.{InClassLeadingTo};
+ghost use Rattle.of_paths.specs.Places.{leaves_to};
+ghost use Rattle.of_paths.specs.declared.destination.Destination.{Destination as Place};
 
 /// Each frame of which something leaves by a port, or goes to the controller, is in a class that leads there, or is undecided: the classes that are left
 /// out if that place is asked for have no such frame (OpenFlow 1.3.5, 5.1 and 5.12).

@@ -12,6 +12,6 @@ mod undecided;
 mod writing;
 
 pub use asked::asked_conditions;
-pub use destination::Destination;
 pub use laws::what_leaves_is_in_leading_classes;
+pub use of_paths::Destination;
 pub use writing::{PathsForm, PathsVerdict, write_paths};

@@ -2,9 +2,9 @@
 ghost use Rattle.std.specs.Prelude.{◌≡◌, ◌++◌, OnOk};
 ghost use Rattle.of_paths_report.specs.PathsWords.{count_frames, frames_line, is_why_undecided, path_count, path_summary, shown_count, undecided_frames_words, why_said};
 
-use crate::destination::{Destination, count_leading};
+use crate::destination::count_leading;
 use of_json::{push_undecided_count, push_undecided_sets};
-use of_paths::{PathClass, Paths, UndecidedFrames, WhyUndecided};
+use of_paths::{Destination, PathClass, Paths, UndecidedFrames, WhyUndecided};
 use of_values::push_decimal;
 use std::alloc::AllocError;
 

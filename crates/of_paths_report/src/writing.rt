@@ -8,12 +8,11 @@ ghost use Rattle.of_paths_report.specs.PathsFiles.{IsPathsReport, paths_text, pa
 ghost use Rattle.of_paths_report.specs.PathsWords.{paths_words};
 
 use crate::classes::push_classes;
-use crate::destination::Destination;
 use crate::json::paths_as_json;
 use crate::undecided::{push_path_summary, push_undecided_frames};
 use of_classifier::Lookup;
 use of_oxm::MatchField;
-use of_paths::{Merging, Paths, paths};
+use of_paths::{Destination, Merging, Paths, paths};
 use of_replay::{Ended, Sink, write_all};
 use of_switch::Switch;
 use std::alloc::{AllocError, Global};

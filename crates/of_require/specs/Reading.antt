@@ -13,8 +13,8 @@ use Rattle.of_ovs_words.specs.Ports.{port_in}
 use Rattle.of_ovs_words.specs.Words.{words_from}
 use Rattle.of_frame_words.specs.Conditions.{conditions_in_words}
 use Rattle.of_frame_words.specs.Said.{WordRefusal}
-use Rattle.of_paths_report.specs.declared.destination.Destination.{Destination}
-use Rattle.of_paths_report.specs.declared.destination.Destination.TheVariants.{Controller, Nothing, Port}
+use Rattle.of_paths.specs.declared.destination.Destination.{Destination}
+use Rattle.of_paths.specs.declared.destination.Destination.TheVariants.{Controller, Nothing, Port}
 use Rattle.of_require.specs.declared.refusal.Why.TheVariants as whys
 use Rattle.of_require.specs.declared.requirement.Demand.{Demand}
 use Rattle.of_require.specs.declared.requirement.Demand.TheVariants as demands

@@ -9,9 +9,9 @@ use Rattle.of_machine.specs.TheWorld.{TheWorld}
 use Rattle.of_symbolic.specs.Parts.{received_fields}
 use Rattle.of_symbolic_run.specs.Received.{IsReceivedAt, items_at}
 use Rattle.of_paths.specs.Ways.{lines_at}
-use Rattle.of_paths_report.specs.declared.destination.Destination.{Destination}
-use Rattle.of_paths_report.specs.declared.destination.Destination.TheVariants.{Nothing}
-use Rattle.of_paths_report.specs.Destinations.{leaves_to}
+use Rattle.of_paths.specs.declared.destination.Destination.{Destination}
+use Rattle.of_paths.specs.declared.destination.Destination.TheVariants.{Nothing}
+use Rattle.of_paths.specs.Places.{leaves_to}
 use Rattle.of_require.specs.declared.requirement.Demand.{Demand}
 use Rattle.of_require.specs.declared.requirement.Demand.TheVariants.{LeavesBy, LeavesOnlyBy, PassesTable}
 use Rattle.of_require.specs.declared.requirement.Quantifier.{Quantifier}

@@ -1,12 +1,12 @@
 //! What a frame does, by the steps and the items of its run.
 ghost use Rattle.std.specs.Prelude.{◌≡◌};
-ghost use Rattle.of_paths_report.specs.Destinations.{leaves_to};
+ghost use Rattle.of_paths.specs.Places.{leaves_to};
 ghost use Rattle.of_require.specs.Decisions.{decides as decides_by};
 ghost use Rattle.of_require.specs.Requirements.{does as does_by, goes_among, is_counted as is_counted_by, is_dropped as is_dropped_by, is_expiry, is_lookup_in, is_nothing};
 
 use crate::requirement::{Demand, Quantifier, Requirement};
 use of_machine::{Item, Step};
-use of_paths_report::Destination;
+use of_paths::Destination;
 
 fn leaves(item: &Item, to: Destination) -> bool
     ensures { result ≡ leaves_to to item.now }

@@ -11,7 +11,7 @@ use of_frame_words::{NoFrame, read_conditions};
 use of_lines::{cut, is};
 use of_ovs_words::{cut_word, numbered, port_in};
 use of_oxm::MatchField;
-use of_paths_report::Destination;
+use of_paths::Destination;
 use of_wire::limits::{OFPP_CONTROLLER, TABLES};
 use std::alloc::{AllocError, Global};
 

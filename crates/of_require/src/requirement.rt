@@ -3,7 +3,7 @@ ghost use Rattle.of_regions.specs.Conditions.{AreConditions};
 ghost use Rattle.of_require.specs.OneProof.{are_conditions_prop};
 
 use of_oxm::MatchField;
-use of_paths_report::Destination;
+use of_paths::Destination;
 
 /// How many of the frames a requirement is about.
 #[derive(Clone, Copy, PartialEq, Eq)]

@@ -21,4 +21,4 @@ returns g c steps =
     let w = (world_of (forwarding_of c.args.datapath.now)) in
     let receives = rw c.port_list.ensures at (c.receiving_port.ensures.0 c.if-not-receiving_port.false) in
     puts_class w steps c.args.path c.args.found.now _ _ c.in_ok-push-2.ensures.items refl (c.in_ok-push.ensures.items ∙ ap (λ (l : List Path). l ++ c.args.path ∷ []) c.new-paths.ensures.items)
-    (is_received w c.args.frame.items c.args.in_port c.requires.frame_is c.requires.short receives) c.requires.within (rw c.deref.ensures.value at c.in_ok-items.ensures.items)
+    (is_received w c.args.frame.items c.args.in_port c.requires.frame_is c.requires.short receives) c.requires.within (rw c.deref.ensures.value at c.in_ok-items.ensures.items) c.ranges.in_port.fits

@@ -1,0 +1,14 @@
+-- WHERE FRAMES GO: out of a port, or to the controller (OpenFlow 1.3.5, 5.12).
+use Rattle.std.specs.Prelude.{◌==◌, Bool, true, false}
+use Rattle.of_machine.specs.declared.data.Item.{Item}
+use Rattle.of_machine.specs.declared.data.Item.TheVariants.{PacketIn, Sent}
+use Rattle.of_paths.specs.declared.destination.Destination.{Destination}
+use Rattle.of_paths.specs.declared.destination.Destination.TheVariants.{Controller, Nothing, Port}
+
+-- the item leaves by the port, or goes to the controller
+abbrev pub leaves_to : Destination → Item → Bool
+leaves_to (Port port) (Sent number frame) = number == port
+leaves_to (Port port) (PacketIn p) = false
+leaves_to Controller (Sent number frame) = false
+leaves_to Controller (PacketIn p) = true
+leaves_to Nothing item = false

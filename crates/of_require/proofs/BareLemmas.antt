@@ -1,0 +1,108 @@
+-- What frames with the same emissions do is the same if they come in by one port.
+use Rattle.std.proofs.Common.{◌≡◌, ℕ, eqb, Bool, true, false, cond, List, [], ◌∷◌, ◌++◌, length, map, Option, Some, None, refl, sym, ap, ◌∙◌}
+use Rattle.std.specs.Prelude.{◌||◌, ◌&&◌}
+use Rattle.std.specs.List.{list_all, list_any}
+use Rattle.std.proofs.lemmas.List.{map-append}
+use Rattle.of_wire.specs.declared.limits.TheConstants.{OFPP_ALL, OFPP_CONTROLLER, OFPP_FLOOD, OFPP_IN_PORT}
+use Rattle.of_ports.specs.declared.port.Port.{Port}
+use Rattle.of_ports.specs.Ports.{may_send, port_at, other_ports}
+use Rattle.of_machine.specs.declared.data.Packet.{Packet}
+use Rattle.of_machine.specs.declared.data.Item.{Item}
+use Rattle.of_machine.specs.declared.data.Item.TheVariants.{PacketIn, Sent}
+use Rattle.of_machine.specs.declared.data.Step.{Step}
+use Rattle.of_machine.specs.Rows.{Emitted, emission, empty_emitted, flooded, output_reason, packet_in_emitted, to_port}
+use Rattle.of_symbolic_run.specs.declared.state.Emission.{Emission}
+use Rattle.of_symbolic_run.specs.declared.state.Emission.TheVariants.{InvalidTtl, Output}
+use Rattle.of_symbolic_run.specs.States.{items_for, items_of_emission, packet_for}
+use Rattle.of_paths.specs.declared.destination.Destination.{Destination}
+use Rattle.of_paths.specs.declared.destination.Destination.TheVariants as places
+use Rattle.of_paths.specs.Places.{leaves_to}
+use Rattle.of_require.specs.declared.requirement.Demand.{Demand}
+use Rattle.of_require.specs.declared.requirement.Demand.TheVariants.{LeavesBy, LeavesOnlyBy, PassesTable}
+use Rattle.of_require.specs.Requirements.{does, goes_among, is_dropped, is_nothing}
+
+-- an item without its frame
+abbrev pub bare : Item → Item
+bare (Sent port frame) = Sent port []
+bare (PacketIn p) = PacketIn (record p { frame = [] })
+
+-- ---- what is emitted
+
+module _ (p : Packet) where
+  abbrev blank : Packet
+  blank = record p { frame = [] }
+
+  bare_port : (o : Option Port) → map bare (to_port o p).items ≡ (to_port o blank).items
+  bare_port None = refl
+  bare_port (Some q) = by_test (may_send q) refl
+    where
+      by_test : (t : Bool) → may_send q ≡ t → map bare (to_port (Some q) p).items ≡ (to_port (Some q) blank).items
+      by_test true e = rw e refl
+      by_test false e = rw e refl
+
+  bare_flood : (qs : List Port) → map bare (map (λ (q : Port). Sent q.number p.frame) qs) ≡ map (λ (q : Port). Sent q.number []) qs
+  bare_flood [] = refl
+  bare_flood (q ∷ qs) = ap (λ (l : List Item). Sent q.number [] ∷ l) (bare_flood qs)
+
+  module _ (ports : List Port) (n max_len : ℕ) where
+    -- what an OUTPUT emits, by the tests on its port
+    abbrev emitted_by : Packet → Bool → Bool → Bool → Bool → Emitted
+    emitted_by r a b c d = cond a (to_port (port_at ports r.ingress) r) (cond b (flooded ports r) (cond c (packet_in_emitted (output_reason r) (Some max_len) r) (cond d empty_emitted (to_port (port_at ports n) r))))
+
+    bare_by : (a b c d : Bool) → map bare (emitted_by p a b c d).items ≡ (emitted_by blank a b c d).items
+    bare_by true b c d = bare_port (port_at ports p.ingress)
+    bare_by false true c d = bare_flood (other_ports ports p.ingress)
+    bare_by false false true d = refl
+    bare_by false false false true = refl
+    bare_by false false false false = bare_port (port_at ports n)
+
+    bare_emission : map bare (emission ports p n max_len).items ≡ (emission ports blank n max_len).items
+    bare_emission = bare_by (eqb n OFPP_IN_PORT) (eqb n OFPP_FLOOD || eqb n OFPP_ALL) (eqb n OFPP_CONTROLLER) (eqb n p.ingress)
+
+module _ (ports : List Port) (f g : List ℕ) (port : ℕ) where
+  bare_one : (e : Emission) → map bare (items_of_emission ports e f port) ≡ map bare (items_of_emission ports e g port)
+  bare_one (Output packet n max_len) = bare_emission (packet_for packet f port) ports n max_len ∙ sym (bare_emission (packet_for packet g port) ports n max_len)
+  bare_one (InvalidTtl packet) = refl
+
+  -- two frames that come in by one port emit the same, except for the frames
+  pub bare_all : (es : List Emission) → map bare (items_for ports es f port) ≡ map bare (items_for ports es g port)
+  bare_all [] = refl
+  bare_all (e ∷ es) =
+      map-append bare (items_of_emission ports e f port) (items_for ports es f port)
+      ∙ ap (λ (l : List Item). l ++ map bare (items_for ports es f port)) (bare_one e)
+      ∙ ap (λ (l : List Item). map bare (items_of_emission ports e g port) ++ l) (bare_all es)
+      ∙ sym (map-append bare (items_of_emission ports e g port) (items_for ports es g port))
+
+-- ---- what a frame does
+
+leaves_bare : (to : Destination) (item : Item) → leaves_to to (bare item) ≡ leaves_to to item
+leaves_bare (places.Port n) (Sent port frame) = refl
+leaves_bare (places.Port n) (PacketIn p) = refl
+leaves_bare places.Controller (Sent port frame) = refl
+leaves_bare places.Controller (PacketIn p) = refl
+leaves_bare places.Nothing item = refl
+
+goes_bare : (tos : List Destination) (item : Item) → goes_among tos (bare item) ≡ goes_among tos item
+goes_bare [] item = refl
+goes_bare (to ∷ tos) item = rw (leaves_bare to item, goes_bare tos item) refl
+
+module _ (tos : List Destination) where
+  any_bare : (items : List Item) → list_any (goes_among tos) (map bare items) ≡ list_any (goes_among tos) items
+  any_bare [] = refl
+  any_bare (item ∷ items) = rw (goes_bare tos item, any_bare items) refl
+
+  all_bare : (items : List Item) → list_all (goes_among tos) (map bare items) ≡ list_all (goes_among tos) items
+  all_bare [] = refl
+  all_bare (item ∷ items) = rw (goes_bare tos item, all_bare items) refl
+
+  dropped_bare : (items : List Item) → is_dropped tos (map bare items) ≡ is_dropped tos items
+  dropped_bare [] = refl
+  dropped_bare (item ∷ items) = refl
+
+does_bare : (d : Demand) (lines : List Step) (items : List Item) → does d lines (map bare items) ≡ does d lines items
+does_bare (LeavesBy tos) lines items = rw (any_bare tos.items items, dropped_bare tos.items items) refl
+does_bare (LeavesOnlyBy tos) lines items = all_bare tos.items items
+does_bare (PassesTable table) lines items = refl
+
+pub same_does : (d : Demand) (lines : List Step) (xs ys : List Item) → map bare xs ≡ map bare ys → does d lines xs ≡ does d lines ys
+same_does d lines xs ys same = sym (does_bare d lines xs) ∙ ap (does d lines) same ∙ does_bare d lines ys

@@ -1,0 +1,146 @@
+-- What the class of a set of frames says about all of them, if they come in by one port.
+use Rattle.std.proofs.Common.{◌≡◌, ◌<◌, ◌^◌, ℕ, zero, suc, Bool, true, false, List, [], ◌∷◌, length, map, refl, sym, subst, ap, ◌∙◌, arith, inl, inr, ◌⊎◌}
+use Rattle.std.specs.Prelude.{◌&&◌, ⊤, bit_and}
+use Rattle.std.specs.List.{Contains}
+use Rattle.std.proofs.lemmas.Bool.{eq-eqb, eqb-true}
+use Rattle.of_layers.specs.Fields.{ones_of}
+use Rattle.of_layers.specs.declared.field.Field.TheVariants.{InPort}
+use Rattle.of_oxm.specs.Relations.{matches_map}
+use Rattle.of_machine.specs.declared.data.Item.{Item}
+use Rattle.of_machine.specs.declared.data.Step.{Step}
+use Rattle.of_machine.specs.TheWorld.{TheWorld}
+use Rattle.of_symbolic.specs.Parts.{received_fields}
+use Rattle.of_symbolic_run.specs.FrameSets.{InFrames}
+use Rattle.of_symbolic_run.specs.PortNumbers.{came_in_by}
+use Rattle.of_symbolic_run.specs.Received.{IsReceivedAt, items_at}
+use Rattle.of_symbolic_run.specs.States.{items_for}
+use Rattle.of_symbolic_run.proofs.ConditionLemmas.{within_port}
+use Rattle.of_paths.specs.declared.path.Merging.TheVariants.{Each}
+use Rattle.of_paths.specs.declared.path.Path.{Path}
+use Rattle.of_paths.specs.declared.path.PathClass.{PathClass}
+use Rattle.of_paths.specs.declared.path.Paths.{Paths}
+use Rattle.of_paths.specs.declared.path.UndecidedFrames.{UndecidedFrames}
+use Rattle.of_paths.specs.Paths.{ArePaths, InClasses, InFirstPath, InPaths, InUndecidedFrames, IsPath}
+use Rattle.of_paths.specs.Ways.{lines_at}
+use Rattle.of_require.specs.declared.deciding.Decision.{Decision}
+use Rattle.of_require.specs.declared.deciding.Decision.TheVariants.{Frame, NoFrame, NoneMatches, Undecided}
+use Rattle.of_require.specs.declared.requirement.Quantifier.{Quantifier}
+use Rattle.of_require.specs.declared.requirement.Quantifier.TheVariants as quantifiers
+use Rattle.of_require.specs.declared.requirement.Requirement.{Requirement}
+use Rattle.of_require.specs.Deciding.{class_decides}
+use Rattle.of_require.specs.Decisions.{IsDeciding, IsDecision, IsDecisionFor, IsRight, NoneDecides, NoneMatch, decides, decides_so, verdict_by}
+use Rattle.of_require.specs.Requirements.{IsAbout, IsMet, IsMetBy, does, does_at, is_counted}
+use Rattle.of_require.proofs.BareLemmas.{bare, bare_all, same_does}
+
+both : (a b : Bool) → (a && b) ≡ true → (a ≡ true) × (b ≡ true)
+both true true h = (refl, refl)
+both true false h = absurd cc
+both false b h = absurd cc
+
+and_true : (a b : Bool) → a ≡ true → b ≡ true → (a && b) ≡ true
+and_true true true h k = refl
+and_true true false h k = absurd cc
+and_true false b h k = absurd cc
+
+never_both : (b : Bool) → b ≡ true → b ≡ false → ⊥
+never_both true h k = cc
+never_both false h k = cc
+
+none_in : {A : Type 0} (x : A) → Contains {X = A} [] x → ⊥
+none_in x h = absurd (omega (arith, h.1))
+
+one_path : (ps : List Path) → length ps ≡ 1 → (p : Path) × (ps ≡ p ∷ [])
+one_path [] h = absurd (omega (arith, h))
+one_path (p ∷ []) h = (p, refl)
+one_path (p ∷ q ∷ ps) h = absurd (omega (arith, h))
+
+first_in : (p : Path) → Contains (p ∷ []) p
+first_in p = (0, omega arith, refl)
+
+only_in : (p q : Path) → Contains (p ∷ []) q → q ≡ p
+only_in p q (0, lt, is) = sym is
+only_in p q (suc k, lt, is) = absurd (omega (arith, lt))
+
+module _ (w : TheWorld) (r : Requirement) (steps port : ℕ) (found : Paths) (fits : port < 2 ^ 32) (are : ArePaths Each w (came_in_by port ∷ r.within.items) steps found) where
+  -- a frame that came in by the port is matched, and one that is matched came in by the port
+  matched_there : (frame : List ℕ) (q : ℕ) → q ≡ port → matches_map r.within.items (received_fields frame q) ≡ true → matches_map (came_in_by port ∷ r.within.items) (received_fields frame q) ≡ true
+  matched_there frame q same h = and_true _ _ (eq-eqb (bit_and q (ones_of InPort)) port (ap (λ (n : ℕ). bit_and n (ones_of InPort)) same ∙ within_port port fits)) h
+
+  matched_from : (frame : List ℕ) (q : ℕ) → q < 2 ^ 32 → matches_map (came_in_by port ∷ r.within.items) (received_fields frame q) ≡ true → (q ≡ port) × (matches_map r.within.items (received_fields frame q) ≡ true)
+  matched_from frame q small h =
+      let parts = both _ _ h in
+      (sym (within_port q small) ∙ eqb-true (bit_and q (ones_of InPort)) port parts.0, parts.1)
+
+  module _ (c : PathClass) (there : Contains found.classes.items c) where
+    class = are.classes c there
+
+    path : Path
+    path = (one_path c.paths.items (are.merged c there)).0
+
+    alone : c.paths.items ≡ path ∷ []
+    alone = (one_path c.paths.items (are.merged c there)).1
+
+    is_path : IsPath w (came_in_by port ∷ r.within.items) path
+    is_path = class.paths path (subst (λ (l : List Path). Contains l path) (sym alone) (first_in path))
+
+    inside : InFrames path.frames c.frame.items c.in_port
+    inside = subst (λ (l : List Path). InFirstPath l c.frame.items c.in_port) alone class.shown
+
+    own_match : (c.in_port ≡ port) × (matches_map r.within.items (received_fields c.frame.items c.in_port) ≡ true)
+    own_match = matched_from c.frame.items c.in_port class.fits (is_path.matched c.frame.items c.in_port inside)
+
+    decided_by : class_decides r c ≡ decides r path.steps.items c.items.items
+    decided_by = rw alone refl
+
+    -- by the run of its frame
+    own_run : class_decides r c ≡ decides r (lines_at w c.frame.items c.in_port) (items_at w c.frame.items c.in_port)
+    own_run = decided_by ∙ rw (sym (is_path.takes c.frame.items c.in_port class.received inside), class.items) refl
+
+    pub shows : class_decides r c ≡ true → IsDeciding w r c.frame.items c.in_port
+    shows h =
+        let parts = both _ _ (sym own_run ∙ h) in
+        record { about = record { received = class.received; matched = own_match.1; counted = parts.0 }; decides = parts.1 }
+
+    -- each frame of it does the same
+    same_for : (frame : List ℕ) (q : ℕ) → q ≡ port → IsReceivedAt w frame q → InPaths c.paths.items frame q → decides r (lines_at w frame q) (items_at w frame q) ≡ class_decides r c
+    same_for frame q is received (p, listed, within) =
+        let own : p ≡ path = only_in path p (subst (λ (l : List Path). Contains l p) alone listed) in
+        let in_it : InFrames path.frames frame q = subst (λ (x : Path). InFrames x.frames frame q) own within in
+        let lines : lines_at w frame q ≡ lines_at w c.frame.items c.in_port = is_path.takes frame q received in_it ∙ sym (is_path.takes c.frame.items c.in_port class.received inside) in
+        let at : q ≡ c.in_port = is ∙ sym own_match.0 in
+        let mine : items_at w frame q ≡ items_for w.ports path.emitted.items frame c.in_port = is_path.emits frame q received in_it ∙ ap (items_for w.ports path.emitted.items frame) at in
+        let items : does r.demand (lines_at w c.frame.items c.in_port) (items_at w frame q) ≡ does r.demand (lines_at w c.frame.items c.in_port) (items_at w c.frame.items c.in_port) =
+        same_does r.demand (lines_at w c.frame.items c.in_port) _ _
+        (ap (map bare) mine ∙ bare_all w.ports frame c.frame.items c.in_port path.emitted.items ∙ ap (map bare) (sym (is_path.emits c.frame.items c.in_port class.received inside))) in
+        rw (lines, items) refl ∙ sym own_run
+
+  -- no class decides, so no frame does
+  pub none_shows : ((c : PathClass) → Contains found.classes.items c → class_decides r c ≡ false) → found.undecided.items ≡ [] → NoneDecides w r (λ q. q ≡ port)
+  none_shows none undecided frame q at deciding = elim (are.all frame q deciding.about.received (matched_there frame q at deciding.about.matched)) as (λ x. ⊥) [
+    | inl in_class ↦ never_both _ (sym (same_for in_class.0 in_class.1 frame q at deciding.about.received in_class.2) ∙ and_true _ _ deciding.about.counted deciding.decides) (none in_class.0 in_class.1)
+    | inr u ↦ none_in u.0 (subst (λ (l : List UndecidedFrames). Contains l u.0) undecided u.1)
+  ]
+
+  -- there is no class, so no frame matches
+  pub none_matched : found.classes.items ≡ [] → found.undecided.items ≡ [] → NoneMatch w r (λ q. q ≡ port)
+  none_matched classes undecided frame q at received matched = elim (are.all frame q received (matched_there frame q at matched)) as (λ x. ⊥) [
+    | inl in_class ↦ none_in in_class.0 (subst (λ (l : List PathClass). Contains l in_class.0) classes in_class.1)
+    | inr u ↦ none_in u.0 (subst (λ (l : List UndecidedFrames). Contains l u.0) undecided u.1)
+  ]
+
+-- ---- of several ports
+
+module _ (w : TheWorld) (r : Requirement) (steps : ℕ) where
+  none_more : (by also : ℕ → Type 0) → NoneDecides w r by → NoneDecides w r also → NoneDecides w r (λ q. by q ⊎ also q)
+  none_more by also h k frame q (inl x) d = h frame q x d
+  none_more by also h k frame q (inr x) d = k frame q x d
+
+  pub no_match : (by : ℕ → Type 0) → NoneMatch w r by → NoneDecides w r by
+  no_match by h frame q x d = h frame q x d.about.received d.about.matched
+
+  pub no_frame_both : (by also : ℕ → Type 0) → NoneDecides w r by → NoneDecides w r also → IsDecisionFor (λ q. by q ⊎ also q) w r steps NoFrame
+  no_frame_both by also h k = none_more by also h k
+
+  pub none_match_both : (by also : ℕ → Type 0) → NoneMatch w r by → NoneMatch w r also → IsDecisionFor (λ q. by q ⊎ also q) w r steps NoneMatches
+  none_match_both by also h k frame q (inl x) = h frame q x
+  none_match_both by also h k frame q (inr x) = k frame q x

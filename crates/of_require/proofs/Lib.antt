@@ -1,0 +1,3 @@
+mod BareLemmas
+mod DecidingLemmas
+mod RightLemmas
