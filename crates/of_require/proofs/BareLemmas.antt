@@ -1,8 +1,8 @@
 -- What frames with the same emissions do is the same if they come in by one port.
-use Rattle.std.proofs.Common.{◌≡◌, ℕ, eqb, Bool, true, false, cond, List, [], ◌∷◌, ◌++◌, length, map, Option, Some, None, refl, sym, ap, ◌∙◌}
+use Rattle.std.proofs.Common.{◌≡◌, ℕ, eqb, Bool, true, false, cond, List, [], ◌∷◌, ◌++◌, map, Option, Some, None, refl, sym, ap, ◌∙◌}
 use Rattle.std.specs.Prelude.{◌||◌, ◌&&◌}
 use Rattle.std.specs.List.{list_all, list_any}
-use Rattle.std.proofs.lemmas.List.{map-append}
+use Rattle.std.proofs.lemmas.List.{length-map, map-append}
 use Rattle.of_wire.specs.declared.limits.TheConstants.{OFPP_ALL, OFPP_CONTROLLER, OFPP_FLOOD, OFPP_IN_PORT}
 use Rattle.of_ports.specs.declared.port.Port.{Port}
 use Rattle.of_ports.specs.Ports.{may_send, port_at, other_ports}
@@ -96,8 +96,7 @@ module _ (tos : List Destination) where
   all_bare (item ∷ items) = rw (goes_bare tos item, all_bare items) refl
 
   dropped_bare : (items : List Item) → is_dropped tos (map bare items) ≡ is_dropped tos items
-  dropped_bare [] = refl
-  dropped_bare (item ∷ items) = refl
+  dropped_bare items = ap (λ (n : ℕ). (eqb n 0) && list_any is_nothing tos) (length-map items bare)
 
 does_bare : (d : Demand) (lines : List Step) (items : List Item) → does d lines (map bare items) ≡ does d lines items
 does_bare (LeavesBy tos) lines items = rw (any_bare tos.items items, dropped_bare tos.items items) refl

@@ -1,13 +1,13 @@
 -- What the class of a set of frames says about all of them, if they come in by one port.
-use Rattle.std.proofs.Common.{◌≡◌, ◌<◌, ◌^◌, ℕ, zero, suc, Bool, true, false, List, [], ◌∷◌, length, map, refl, sym, subst, ap, ◌∙◌, arith, inl, inr, ◌⊎◌}
-use Rattle.std.specs.Prelude.{◌&&◌, ⊤, bit_and}
+use Rattle.std.proofs.Common.{◌≡◌, ◌<◌, ◌^◌, ℕ, zero, suc, eqb, Bool, true, false, List, [], ◌∷◌, ◌++◌, length, map, refl, sym, subst, ap, ◌∙◌, arith, inl, inr}
+use Rattle.std.specs.Prelude.{◌&&◌, bit_and}
 use Rattle.std.specs.List.{Contains}
-use Rattle.std.proofs.lemmas.Bool.{eq-eqb, eqb-true}
+use Rattle.std.proofs.lemmas.Bool.{eq-eqb, eqb-true, ne_eqb}
+use Rattle.std.proofs.lemmas.List.Elements.{Contains-append_cases, Contains-append_right, Contains-push_cases}
+use Rattle.std.proofs.lemmas.List.{append_assoc}
 use Rattle.of_layers.specs.Fields.{ones_of}
 use Rattle.of_layers.specs.declared.field.Field.TheVariants.{InPort}
 use Rattle.of_oxm.specs.Relations.{matches_map}
-use Rattle.of_machine.specs.declared.data.Item.{Item}
-use Rattle.of_machine.specs.declared.data.Step.{Step}
 use Rattle.of_machine.specs.TheWorld.{TheWorld}
 use Rattle.of_symbolic.specs.Parts.{received_fields}
 use Rattle.of_symbolic_run.specs.FrameSets.{InFrames}
@@ -20,16 +20,13 @@ use Rattle.of_paths.specs.declared.path.Path.{Path}
 use Rattle.of_paths.specs.declared.path.PathClass.{PathClass}
 use Rattle.of_paths.specs.declared.path.Paths.{Paths}
 use Rattle.of_paths.specs.declared.path.UndecidedFrames.{UndecidedFrames}
-use Rattle.of_paths.specs.Paths.{ArePaths, InClasses, InFirstPath, InPaths, InUndecidedFrames, IsPath}
+use Rattle.of_paths.specs.Paths.{ArePaths, InFirstPath, InPaths, IsPath, IsPathClass}
 use Rattle.of_paths.specs.Ways.{lines_at}
-use Rattle.of_require.specs.declared.deciding.Decision.{Decision}
-use Rattle.of_require.specs.declared.deciding.Decision.TheVariants.{Frame, NoFrame, NoneMatches, Undecided}
-use Rattle.of_require.specs.declared.requirement.Quantifier.{Quantifier}
-use Rattle.of_require.specs.declared.requirement.Quantifier.TheVariants as quantifiers
 use Rattle.of_require.specs.declared.requirement.Requirement.{Requirement}
-use Rattle.of_require.specs.Deciding.{class_decides}
-use Rattle.of_require.specs.Decisions.{IsDeciding, IsDecision, IsDecisionFor, IsRight, NoneDecides, NoneMatch, decides, decides_so, verdict_by}
-use Rattle.of_require.specs.Requirements.{IsAbout, IsMet, IsMetBy, does, does_at, is_counted}
+use Rattle.of_require.specs.declared.deciding.Shown.{Shown}
+use Rattle.of_require.specs.Deciding.{IsShownOf, class_decides, first_decides}
+use Rattle.of_require.specs.Decisions.{IsDeciding, NoneDecides, NoneMatch, decides}
+use Rattle.of_require.specs.Requirements.{does}
 use Rattle.of_require.proofs.BareLemmas.{bare, bare_all, same_does}
 
 both : (a b : Bool) → (a && b) ≡ true → (a ≡ true) × (b ≡ true)
@@ -49,6 +46,19 @@ never_both false h k = cc
 none_in : {A : Type 0} (x : A) → Contains {X = A} [] x → ⊥
 none_in x h = absurd (omega (arith, h.1))
 
+pub in_middle : {A : Type 0} (xs : List A) (x : A) (ys : List A) → Contains (xs ++ x ∷ ys) x
+in_middle xs x ys = Contains-append_right xs (x ∷ ys) x (0, omega arith, refl)
+
+pub one_more : {A : Type 0} (xs : List A) (x : A) (ys : List A) → (xs ++ x ∷ []) ++ ys ≡ xs ++ x ∷ ys
+one_more xs x ys = append_assoc xs (x ∷ []) ys
+
+-- one more class that does not decide
+pub more_none : (r : Requirement) (xs : List PathClass) (x : PathClass) → ((c : PathClass) → Contains xs c → class_decides r c ≡ false) → class_decides r x ≡ false → (c : PathClass) → Contains (xs ++ x ∷ []) c → class_decides r c ≡ false
+more_none r xs x none own c there = elim (Contains-push_cases xs x c there) as (λ y. class_decides r c ≡ false) [
+  | inl before ↦ none c before
+  | inr same ↦ subst (λ (y : PathClass). class_decides r y ≡ false) same own
+]
+
 one_path : (ps : List Path) → length ps ≡ 1 → (p : Path) × (ps ≡ p ∷ [])
 one_path [] h = absurd (omega (arith, h))
 one_path (p ∷ []) h = (p, refl)
@@ -57,8 +67,8 @@ one_path (p ∷ q ∷ ps) h = absurd (omega (arith, h))
 first_in : (p : Path) → Contains (p ∷ []) p
 first_in p = (0, omega arith, refl)
 
-only_in : (p q : Path) → Contains (p ∷ []) q → q ≡ p
-only_in p q (0, lt, is) = sym is
+only_in : {A : Type 0} (p q : A) → Contains (p ∷ []) q → q ≡ p
+only_in p q (zero, lt, is) = sym is
 only_in p q (suc k, lt, is) = absurd (omega (arith, lt))
 
 module _ (w : TheWorld) (r : Requirement) (steps port : ℕ) (found : Paths) (fits : port < 2 ^ 32) (are : ArePaths Each w (came_in_by port ∷ r.within.items) steps found) where
@@ -72,12 +82,14 @@ module _ (w : TheWorld) (r : Requirement) (steps port : ℕ) (found : Paths) (fi
       (sym (within_port q small) ∙ eqb-true (bit_and q (ones_of InPort)) port parts.0, parts.1)
 
   module _ (c : PathClass) (there : Contains found.classes.items c) where
+    class : IsPathClass w (came_in_by port ∷ r.within.items) c
     class = are.classes c there
 
     path : Path
     path = (one_path c.paths.items (are.merged c there)).0
 
     alone : c.paths.items ≡ path ∷ []
+    unfolding path one_path
     alone = (one_path c.paths.items (are.merged c there)).1
 
     is_path : IsPath w (came_in_by port ∷ r.within.items) path
@@ -90,7 +102,7 @@ module _ (w : TheWorld) (r : Requirement) (steps port : ℕ) (found : Paths) (fi
     own_match = matched_from c.frame.items c.in_port class.fits (is_path.matched c.frame.items c.in_port inside)
 
     decided_by : class_decides r c ≡ decides r path.steps.items c.items.items
-    decided_by = rw alone refl
+    decided_by = ap (λ (l : List Path). first_decides r l c.items.items) alone
 
     -- by the run of its frame
     own_run : class_decides r c ≡ decides r (lines_at w c.frame.items c.in_port) (items_at w c.frame.items c.in_port)
@@ -114,33 +126,46 @@ module _ (w : TheWorld) (r : Requirement) (steps port : ℕ) (found : Paths) (fi
         (ap (map bare) mine ∙ bare_all w.ports frame c.frame.items c.in_port path.emitted.items ∙ ap (map bare) (sym (is_path.emits c.frame.items c.in_port class.received inside))) in
         rw (lines, items) refl ∙ sym own_run
 
+  pub frame_shown : (shown : Shown) → ((c : PathClass) × Contains found.classes.items c × IsShownOf r c shown) → IsDeciding w r shown.frame.items shown.in_port × (shown.items.items ≡ items_at w shown.frame.items shown.in_port)
+  frame_shown shown (c, there, is) = rw (is.frame, is.in_port, is.items) (shows c there is.decides, (are.classes c there).items)
+
   -- no class decides, so no frame does
-  pub none_shows : ((c : PathClass) → Contains found.classes.items c → class_decides r c ≡ false) → found.undecided.items ≡ [] → NoneDecides w r (λ q. q ≡ port)
-  none_shows none undecided frame q at deciding = elim (are.all frame q deciding.about.received (matched_there frame q at deciding.about.matched)) as (λ x. ⊥) [
+  pub none_shows : ((c : PathClass) → Contains found.classes.items c → class_decides r c ≡ false) → found.undecided.items ≡ [] → NoneDecides w r (λ q. Contains (port ∷ []) q)
+  none_shows none undecided frame q there deciding = let at = only_in port q there in elim (are.all frame q deciding.about.received (matched_there frame q at deciding.about.matched)) as (λ x. ⊥) [
     | inl in_class ↦ never_both _ (sym (same_for in_class.0 in_class.1 frame q at deciding.about.received in_class.2) ∙ and_true _ _ deciding.about.counted deciding.decides) (none in_class.0 in_class.1)
     | inr u ↦ none_in u.0 (subst (λ (l : List UndecidedFrames). Contains l u.0) undecided u.1)
   ]
 
   -- there is no class, so no frame matches
-  pub none_matched : found.classes.items ≡ [] → found.undecided.items ≡ [] → NoneMatch w r (λ q. q ≡ port)
-  none_matched classes undecided frame q at received matched = elim (are.all frame q received (matched_there frame q at matched)) as (λ x. ⊥) [
+  pub none_matched : found.classes.items ≡ [] → found.undecided.items ≡ [] → NoneMatch w r (λ q. Contains (port ∷ []) q)
+  none_matched classes undecided frame q there received matched = let at = only_in port q there in elim (are.all frame q received (matched_there frame q at matched)) as (λ x. ⊥) [
     | inl in_class ↦ none_in in_class.0 (subst (λ (l : List PathClass). Contains l in_class.0) classes in_class.1)
     | inr u ↦ none_in u.0 (subst (λ (l : List UndecidedFrames). Contains l u.0) undecided u.1)
   ]
 
+pub some_items : {A : Type 0} (xs : List A) (t : Bool) → t ≡ eqb (length xs) 0 → t ≡ false → 0 < length xs
+some_items [] t e f = absurd cc
+some_items (x ∷ xs) t e f = omega arith
+
+pub no_items : {A : Type 0} (xs : List A) (t : Bool) → t ≡ eqb (length xs) 0 → t ≡ true → xs ≡ []
+no_items [] t e f = refl
+no_items (x ∷ xs) t e f = (let fails : eqb (length (x ∷ xs)) 0 ≡ false = ne_eqb (length (x ∷ xs)) 0 (λ i. omega (arith, i)) in absurd cc)
+
 -- ---- of several ports
 
-module _ (w : TheWorld) (r : Requirement) (steps : ℕ) where
-  none_more : (by also : ℕ → Type 0) → NoneDecides w r by → NoneDecides w r also → NoneDecides w r (λ q. by q ⊎ also q)
-  none_more by also h k frame q (inl x) d = h frame q x d
-  none_more by also h k frame q (inr x) d = k frame q x d
+module _ (w : TheWorld) (r : Requirement) where
+  pub no_match : (among : ℕ → Type 0) → NoneMatch w r among → NoneDecides w r among
+  no_match among h frame q x d = h frame q x d.about.received d.about.matched
 
-  pub no_match : (by : ℕ → Type 0) → NoneMatch w r by → NoneDecides w r by
-  no_match by h frame q x d = h frame q x d.about.received d.about.matched
+  module _ (ports others : List ℕ) where
+    pub none_more : NoneDecides w r (λ q. Contains ports q) → NoneDecides w r (λ q. Contains others q) → NoneDecides w r (λ q. Contains (ports ++ others) q)
+    none_more h k frame q x d = elim (Contains-append_cases ports others q x) as (λ y. ⊥) [
+      | inl first ↦ h frame q first d
+      | inr second ↦ k frame q second d
+    ]
 
-  pub no_frame_both : (by also : ℕ → Type 0) → NoneDecides w r by → NoneDecides w r also → IsDecisionFor (λ q. by q ⊎ also q) w r steps NoFrame
-  no_frame_both by also h k = none_more by also h k
-
-  pub none_match_both : (by also : ℕ → Type 0) → NoneMatch w r by → NoneMatch w r also → IsDecisionFor (λ q. by q ⊎ also q) w r steps NoneMatches
-  none_match_both by also h k frame q (inl x) = h frame q x
-  none_match_both by also h k frame q (inr x) = k frame q x
+    pub none_match_more : NoneMatch w r (λ q. Contains ports q) → NoneMatch w r (λ q. Contains others q) → NoneMatch w r (λ q. Contains (ports ++ others) q)
+    none_match_more h k frame q x received matched = elim (Contains-append_cases ports others q x) as (λ y. ⊥) [
+      | inl first ↦ h frame q first received matched
+      | inr second ↦ k frame q second received matched
+    ]

@@ -1,3 +1,6 @@
 mod BareLemmas
 mod DecidingLemmas
+mod FileLemmas
+mod PortLemmas
+mod ReadingLemmas
 mod RightLemmas

@@ -1,5 +1,5 @@
 -- The verdict on a requirement is right.
-use Rattle.std.proofs.Common.{◌≡◌, ℕ, Bool, true, false, List, refl, sym, subst, ap, ◌∙◌}
+use Rattle.std.proofs.Common.{◌≡◌, ℕ, Bool, true, false, List, refl, sym, subst, ap}
 use Rattle.std.specs.Prelude.{⊤}
 use Rattle.of_machine.specs.TheWorld.{TheWorld}
 use Rattle.of_require.specs.declared.deciding.Decision.{Decision}
@@ -7,7 +7,7 @@ use Rattle.of_require.specs.declared.deciding.Decision.TheVariants.{Frame, NoFra
 use Rattle.of_require.specs.declared.requirement.Quantifier.{Quantifier}
 use Rattle.of_require.specs.declared.requirement.Quantifier.TheVariants.{AtLeastOne, Each, No}
 use Rattle.of_require.specs.declared.requirement.Requirement.{Requirement}
-use Rattle.of_require.specs.Decisions.{IsDeciding, IsDecision, IsRight, NoneDecides, NoneMatch, decides_so, verdict_by, verdict_by_frame, verdict_by_none}
+use Rattle.of_require.specs.Decisions.{IsDeciding, IsDecision, IsRight, NoneDecides, decides_so, verdict_by, verdict_by_frame, verdict_by_none}
 use Rattle.of_require.specs.Requirements.{IsAbout, IsMet, IsMetBy, does_at}
 use Rattle.of_require.proofs.DecidingLemmas.{no_match}
 
@@ -38,7 +38,7 @@ module _ (w : TheWorld) (r : Requirement) (steps : ℕ) where
   by_frame Each is frame port d = λ met. both_ways _ (met_as Each is met frame port d.about) (not_true _ (decided Each is frame port d))
 
   by_none : (q : Quantifier) → r.quantifier ≡ q → NoneDecides w r (λ port. ⊤) → IsRight w r (verdict_by_none q)
-  by_none AtLeastOne is none = λ met. (let h = met_as AtLeastOne is met in none h.0 h.1 tt (deciding AtLeastOne is h.0 h.1 h.2.0 h.2.1))
+  by_none AtLeastOne is none = λ met. (let h = met_as AtLeastOne is met in none h.0 h.1 tt (deciding AtLeastOne is h.0 h.1 h.2 h.3))
   by_none No is none = met_by No is (λ frame port about. by_test frame port about (does_at w r frame port) refl)
     where
       by_test : (frame : List ℕ) (port : ℕ) → IsAbout w r frame port → (b : Bool) → does_at w r frame port ≡ b → does_at w r frame port ≡ false
@@ -53,5 +53,5 @@ module _ (w : TheWorld) (r : Requirement) (steps : ℕ) where
   pub right : (d : Decision) → IsDecision w r steps d → IsRight w r (verdict_by r.quantifier d)
   right (Frame shown) h = by_frame r.quantifier refl shown.frame.items shown.in_port h.0
   right NoFrame h = by_none r.quantifier refl h
-  right NoneMatches h = by_none r.quantifier refl (no_match w r steps (λ port. ⊤) h)
+  right NoneMatches h = by_none r.quantifier refl (no_match w r (λ port. ⊤) h)
   right Undecided h = tt

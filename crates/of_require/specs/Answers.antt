@@ -1,6 +1,5 @@
 -- WHAT IS FOUND about requirements: for each a decision, and the verdict that follows from it.
-use Rattle.std.specs.Prelude.{◌≡◌, ℕ, ◌==◌, Bool, true, false, List, [], ◌∷◌, filter, length}
-use Rattle.std.specs.List.{list_any}
+use Rattle.std.specs.Prelude.{ℕ, Bool, true, false, List, [], ◌∷◌, filter, length}
 use Rattle.of_machine.specs.TheWorld.{TheWorld}
 use Rattle.of_require.specs.declared.answers.Answer.{Answer}
 use Rattle.of_require.specs.declared.deciding.Verdict.{Verdict}

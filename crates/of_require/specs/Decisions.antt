@@ -1,5 +1,5 @@
 -- WHETHER A REQUIREMENT IS MET, as it is decided: by a frame, or since no frame decides it (OpenFlow 1.3.5, 5.1).
-use Rattle.std.specs.Prelude.{◌≡◌, ◌<◌, ℕ, ◌&&◌, Bool, true, false, not, List, ◌∷◌, length, ⊤}
+use Rattle.std.specs.Prelude.{◌≡◌, ◌<◌, ℕ, ◌&&◌, Bool, true, not, List, ◌∷◌, length, ⊤}
 use Rattle.of_oxm.specs.Relations.{matches_map}
 use Rattle.of_machine.specs.declared.data.Item.{Item}
 use Rattle.of_machine.specs.declared.data.Step.{Step}
@@ -8,7 +8,6 @@ use Rattle.of_symbolic.specs.Parts.{received_fields}
 use Rattle.of_symbolic_run.specs.PortNumbers.{came_in_by}
 use Rattle.of_symbolic_run.specs.Received.{IsReceivedAt, items_at}
 use Rattle.of_paths.specs.Paths.{ArePaths}
-use Rattle.of_paths.specs.Ways.{lines_at}
 use Rattle.of_paths.specs.declared.path.Merging.TheVariants as merging
 use Rattle.of_paths.specs.declared.path.Paths.{Paths}
 use Rattle.of_require.specs.declared.deciding.Decision.{Decision}
@@ -35,13 +34,13 @@ pub record IsDeciding (w : TheWorld) (r : Requirement) (frame : List ℕ) (port 
   pub about : IsAbout w r frame port
   pub decides : decides_so r.quantifier (does_at w r frame port) ≡ true
 
--- no frame decides it that comes in by one of some ports
+-- no frame decides it that comes in by one of these ports
 abbrev pub NoneDecides : TheWorld → Requirement → (ℕ → Type 0) → Type 0
-NoneDecides w r by = (frame : List ℕ) (port : ℕ) → by port → IsDeciding w r frame port → ⊥
+NoneDecides w r among = (frame : List ℕ) (port : ℕ) → among port → IsDeciding w r frame port → ⊥
 
--- no frame is received that comes in by one of some ports, and that its conditions match
+-- no frame is received that comes in by one of these ports, and that its conditions match
 abbrev pub NoneMatch : TheWorld → Requirement → (ℕ → Type 0) → Type 0
-NoneMatch w r by = (frame : List ℕ) (port : ℕ) → by port → IsReceivedAt w frame port → matches_map r.within.items (received_fields frame port) ≡ true → ⊥
+NoneMatch w r among = (frame : List ℕ) (port : ℕ) → among port → IsReceivedAt w frame port → matches_map r.within.items (received_fields frame port) ≡ true → ⊥
 
 -- of the frames that come in by some port, it is not known of all what they do
 pub record IsUndecided (w : TheWorld) (r : Requirement) (steps : ℕ) : Type 0 where
@@ -51,15 +50,15 @@ pub record IsUndecided (w : TheWorld) (r : Requirement) (steps : ℕ) : Type 0 w
   pub some : 0 < length found.undecided.items
 
 -- WHAT IS DECIDED for the frames that come in by some ports: a frame, which was run; or no frame decides it, and none may match
-abbrev pub IsDecisionFor : (ℕ → Type 0) → TheWorld → Requirement → ℕ → Decision → Type 0
-IsDecisionFor by w r steps (Frame shown) = IsDeciding w r shown.frame.items shown.in_port × (shown.items.items ≡ items_at w shown.frame.items shown.in_port)
-IsDecisionFor by w r steps NoFrame = NoneDecides w r by
-IsDecisionFor by w r steps NoneMatches = NoneMatch w r by
-IsDecisionFor by w r steps Undecided = IsUndecided w r steps
+abbrev pub IsDecisionAmong : (ℕ → Type 0) → TheWorld → Requirement → ℕ → Decision → Type 0
+IsDecisionAmong among w r steps (Frame shown) = IsDeciding w r shown.frame.items shown.in_port × (shown.items.items ≡ items_at w shown.frame.items shown.in_port)
+IsDecisionAmong among w r steps NoFrame = NoneDecides w r among
+IsDecisionAmong among w r steps NoneMatches = NoneMatch w r among
+IsDecisionAmong among w r steps Undecided = IsUndecided w r steps
 
 -- for all frames
 abbrev pub IsDecision : TheWorld → Requirement → ℕ → Decision → Type 0
-IsDecision w r steps decision = IsDecisionFor (λ port. ⊤) w r steps decision
+IsDecision w r steps decision = IsDecisionAmong (λ port. ⊤) w r steps decision
 
 -- ---- THE VERDICT: a frame shows that `some` is met, and that `no` or `each` is not
 

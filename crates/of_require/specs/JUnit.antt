@@ -23,16 +23,19 @@ outcome_element Holds why = []
 outcome_element Fails why = codes "<failure>" ++ why ++ codes "</failure>"
 outcome_element Undecided why = codes "<error>" ++ why ++ codes "</error>"
 
+unfoldable pub numbered_text : List ℕ → ℕ → List ℕ
+numbered_text text n = text ++ decimal n
+
 unfoldable pub test_case : Answer → List ℕ
 test_case a =
-    codes "<testcase classname='requirements' name='line " ++ decimal a.line.number ++ codes ": " ++ flat_map xml_character a.line.text.items ++ codes "'>"
+    numbered_text (codes "<testcase classname='requirements' name='line ") a.line.number ++ codes ": " ++ flat_map xml_character a.line.text.items ++ codes "'>"
     ++ outcome_element (verdict_of a) (decision_words a.decision) ++ codes "</testcase>" ++ 10 ∷ []
 
-unfoldable pub suite_head : List Answer → List ℕ
-suite_head answers =
-    codes "<testsuite name='ofswitch requirements' tests='" ++ decimal (length answers) ++ codes "' failures='" ++ decimal (count_verdicts Fails answers)
-    ++ codes "' errors='" ++ decimal (count_verdicts Undecided answers) ++ codes "'>" ++ 10 ∷ []
+unfoldable pub suite_head : ℕ → ℕ → ℕ → List ℕ
+suite_head tests failures errors =
+    numbered_text (codes "<testsuite name='ofswitch requirements' tests='") tests ++ numbered_text (codes "' failures='") failures
+    ++ numbered_text (codes "' errors='") errors ++ codes "'>" ++ 10 ∷ []
 
 unfoldable pub requirements_junit : List Answer → List ℕ
 requirements_junit answers =
-    codes "<?xml version='1.0' encoding='UTF-8'?>" ++ 10 ∷ [] ++ suite_head answers ++ flat_map test_case answers ++ codes "</testsuite>" ++ 10 ∷ []
+    codes "<?xml version='1.0' encoding='UTF-8'?>" ++ 10 ∷ [] ++ suite_head (length answers) (count_verdicts Fails answers) (count_verdicts Undecided answers) ++ flat_map test_case answers ++ codes "</testsuite>" ++ 10 ∷ []

@@ -1,10 +1,10 @@
 -- REQUIREMENTS IN WORDS, one a line: `no frame ip,nw_src=10.0.9.0/24 leaves by 2,3,4`. Words are separated by spaces. A match has the words of
 -- ovs-fields(7), with commas between them.
-use Rattle.std.specs.Prelude.{ℕ, ◌+◌, ◌==◌, ◌||◌, Bool, true, false, List, [], ◌∷◌, ◌++◌, length, codes, Result, Ok, Err, if◌then◌else◌}
+use Rattle.std.specs.Prelude.{ℕ, ◌==◌, ◌||◌, Bool, true, false, List, [], ◌∷◌, ◌++◌, length, codes, Result, Ok, Err, if◌then◌else◌}
 use Rattle.std.specs.Str.{bytes_eq}
 use Rattle.of_wire.specs.declared.limits.TheConstants.{OFPP_CONTROLLER, TABLES}
-use Rattle.of_actions.specs.Supported.{is_port_number}
-use Rattle.of_lines.specs.Lines.{before, behind, is_passed}
+use Rattle.of_actions.specs.PortNumbers.{is_number as is_port_number}
+use Rattle.of_lines.specs.Lines.{before, behind}
 use Rattle.of_oxm.specs.declared.match_field.MatchField.{MatchField}
 use Rattle.of_ovs_words.specs.declared.why.Why.{Why as WordWhy}
 use Rattle.of_ovs_words.specs.declared.why.Why.TheVariants.{Unknown}
@@ -15,6 +15,7 @@ use Rattle.of_frame_words.specs.Conditions.{conditions_in_words}
 use Rattle.of_frame_words.specs.Said.{WordRefusal}
 use Rattle.of_paths.specs.declared.destination.Destination.{Destination}
 use Rattle.of_paths.specs.declared.destination.Destination.TheVariants.{Controller, Nothing, Port}
+use Rattle.of_require.specs.declared.refusal.Why.{Why}
 use Rattle.of_require.specs.declared.refusal.Why.TheVariants as whys
 use Rattle.of_require.specs.declared.requirement.Demand.{Demand}
 use Rattle.of_require.specs.declared.requirement.Demand.TheVariants as demands
@@ -38,7 +39,7 @@ abbrev pub behind_word : List ℕ → List ℕ
 behind_word text = behind 32 (unspaced text)
 
 -- the text behind a word that has to be the first one
-abbrev pub behind_expected : List ℕ → whys.Why → List ℕ → Result (List ℕ) LineRefusal
+abbrev pub behind_expected : List ℕ → Why → List ℕ → Result (List ℕ) LineRefusal
 behind_expected name why text = if bytes_eq (word_of text) name then Ok (behind_word text) else refused (word_of text) why
 
 -- ---- places: `2,3,controller`

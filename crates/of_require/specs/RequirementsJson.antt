@@ -25,10 +25,14 @@ unfoldable pub shown_members : Decision → List ℕ
 shown_members (Frame shown) = number_member (codes "in_port") shown.in_port ++ text_member (codes "frame") (encode_lower shown.frame.items) ++ items_member (codes "items") shown.items.items
 shown_members other = []
 
+unfoldable pub line_members : Answer → List ℕ
+line_members a = key (codes "line") ++ decimal a.line.number ++ string_member (codes "requirement") a.line.text.items
+
+unfoldable pub verdict_members : Answer → List ℕ
+verdict_members a = text_member (codes "verdict") (verdict_name (verdict_of a)) ++ truth_member (codes "matches") (may_match a.decision) ++ shown_members a.decision
+
 unfoldable pub answer_object : Answer → List ℕ
-answer_object a =
-    123 ∷ key (codes "line") ++ decimal a.line.number ++ string_member (codes "requirement") a.line.text.items ++ text_member (codes "verdict") (verdict_name (verdict_of a))
-    ++ truth_member (codes "matches") (may_match a.decision) ++ shown_members a.decision ++ 125 ∷ []
+answer_object a = 123 ∷ line_members a ++ verdict_members a ++ 125 ∷ []
 
 unfoldable pub requirements_member : List Answer → List ℕ
 requirements_member answers = array_member (codes "requirements") (listed answer_object answers)

@@ -28,7 +28,7 @@ impl Answer {
 
 /// What is found about each requirement. For each of them and each port the runs of all frames take at most so many steps together, and each search for
 /// a frame as many (OpenFlow 1.3.5, 5.1).
-pub fn answers<L: Lookup>(
+pub fn answer_all<L: Lookup>(
     alloc: Global,
     datapath: &Datapath<L>,
     lines: Vec<Line>,

@@ -1,5 +1,5 @@
 //! Whether a switch meets a requirement.
-ghost use Rattle.std.specs.Prelude.{◌≡◌, ◌∷◌, ◌⊎◌, ℕ, IfNone, IfOk, IfSome, false, true};
+ghost use Rattle.std.specs.Prelude.{◌≡◌, ◌∷◌, ◌++◌, [], ℕ, List, IfNone, IfOk, IfSome, false, true};
 ghost use Rattle.std.specs.List.{Contains};
 ghost use Rattle.of_regions.specs.Conditions.{AreConditions};
 ghost use Rattle.of_datapath.specs.Datapath.{world_of};
@@ -7,8 +7,8 @@ ghost use Rattle.of_datapath.specs.Numbers.{forwarding_of};
 ghost use Rattle.of_machine.specs.TheWorld.{TheWorld};
 ghost use Rattle.of_symbolic_run.specs.PortNumbers.{came_in_by};
 ghost use Rattle.of_paths.specs.declared.path.PathClass.{PathClass as APathClass};
-ghost use Rattle.of_require.specs.Deciding.{IsShownOf, class_decides as decided_by_class};
-ghost use Rattle.of_require.specs.Decisions.{IsDecision, IsDecisionFor, verdict_by};
+ghost use Rattle.of_require.specs.Deciding.{IsDecisionFor, IsShownOf, class_decides as decided_by_class};
+ghost use Rattle.of_require.specs.Decisions.{IsDecision, verdict_by};
 ghost use Rattle.of_require.specs.declared.requirement.Requirement.{Requirement as ARequirement};
 
 use crate::doing::decides;
@@ -105,29 +105,36 @@ fn decide_at<L: Lookup>(
     port: u32,
     steps: usize,
 ) -> Result<Decision, AllocError>
-    ensures { IfOk result (IsDecisionFor (λ other. other ≡ port) (world_of (forwarding_of datapath.now)) requirement.now steps) }
+    ensures { IfOk result (IsDecisionFor (port ∷ []) (world_of (forwarding_of datapath.now)) requirement.now steps) }
 {
     let within = conditions_at(alloc, requirement, port)?;
     let Paths { classes, undecided } = paths(alloc, datapath, &within, Merging::Each, steps)?;
     let none_matches = classes.is_empty();
-    Ok(match deciding_frame(requirement, classes) {
-        Some(shown) => Decision::Frame(shown),
-        None if !undecided.is_empty() => Decision::Undecided,
-        None if none_matches => Decision::NoneMatches,
-        None => Decision::NoFrame,
-    })
+    if let Some(shown) = deciding_frame(requirement, classes) {
+        return Ok(Decision::Frame(shown));
+    }
+    if !undecided.is_empty() {
+        return Ok(Decision::Undecided);
+    }
+    if none_matches {
+        Ok(Decision::NoneMatches)
+    } else {
+        Ok(Decision::NoFrame)
+    }
 }
 
 // What is found of the frames that come in by the ports of the one or of the other.
 fn joined(so_far: Decision, next: Decision) -> Decision
-    ensures { (by also : ℕ → Type 0) (w : TheWorld) (r : ARequirement) (steps : ℕ) → IsDecisionFor by w r steps so_far → IsDecisionFor also w r steps next →
-        IsDecisionFor (λ port. by port ⊎ also port) w r steps result }
+    ensures { (ports others : List ℕ) (w : TheWorld) (r : ARequirement) (steps : ℕ) → IsDecisionFor ports w r steps so_far → IsDecisionFor others w r steps next →
+        IsDecisionFor (ports ++ others) w r steps result }
 {
     match (so_far, next) {
         (Decision::Frame(shown), _) | (_, Decision::Frame(shown)) => Decision::Frame(shown),
         (Decision::Undecided, _) | (_, Decision::Undecided) => Decision::Undecided,
         (Decision::NoneMatches, Decision::NoneMatches) => Decision::NoneMatches,
-        _ => Decision::NoFrame,
+        (Decision::NoFrame, Decision::NoFrame)
+        | (Decision::NoFrame, Decision::NoneMatches)
+        | (Decision::NoneMatches, Decision::NoFrame) => Decision::NoFrame,
     }
 }
 

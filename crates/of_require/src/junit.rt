@@ -1,7 +1,7 @@
 //! The report on requirements as XML, as JUnit writes the results of tests.
 ghost use Rattle.std.specs.Prelude.{◌≡◌, ◌++◌, IfOk, OnOk};
 ghost use Rattle.std.specs.List.{flat_map};
-ghost use Rattle.of_require.specs.JUnit.{outcome_element, requirements_junit, suite_head, test_case, xml_character};
+ghost use Rattle.of_require.specs.JUnit.{numbered_text, outcome_element, requirements_junit, suite_head, test_case, xml_character};
 ghost use Rattle.of_require.specs.Words.{decision_words};
 
 use crate::answers::Answer;
@@ -57,12 +57,23 @@ fn push_outcome(
     }
 }
 
+#[tactic(auto, unfolding(crate::specs::JUnit::numbered_text))]
+fn push_numbered(out: &mut Vec<u8>, text: &[u8], number: usize) -> Result<(), AllocError>
+    ensures { OnOk result (out.new.items ≡ out.old.items ++ numbered_text text.now number) }
+{
+    out.extend_from_slice(text)?;
+    push_decimal(out, number as u128)
+}
+
 #[tactic(auto, unfolding(crate::specs::JUnit::test_case))]
 fn push_test_case(alloc: Global, out: &mut Vec<u8>, answer: &Answer) -> Result<(), AllocError>
     ensures { OnOk result (out.new.items ≡ out.old.items ++ test_case answer.now) }
 {
-    out.extend_from_slice(b"<testcase classname='requirements' name='line ")?;
-    push_decimal(out, answer.line.number as u128)?;
+    push_numbered(
+        out,
+        b"<testcase classname='requirements' name='line ",
+        answer.line.number,
+    )?;
     out.extend_from_slice(b": ")?;
     push_characters(out, &answer.line.text)?;
     out.extend_from_slice(b"'>")?;
@@ -80,16 +91,23 @@ fn push_test_cases(alloc: Global, out: &mut Vec<u8>, answers: &[Answer]) -> Resu
 }
 
 #[tactic(auto, unfolding(crate::specs::JUnit::suite_head))]
-fn push_suite_head(out: &mut Vec<u8>, answers: &[Answer]) -> Result<(), AllocError>
-    ensures { OnOk result (out.new.items ≡ out.old.items ++ suite_head answers.now) }
+fn push_suite_head(
+    out: &mut Vec<u8>,
+    tests: usize,
+    failures: usize,
+    errors: usize,
+) -> Result<(), AllocError>
+    ensures { OnOk result (out.new.items ≡ out.old.items ++ suite_head tests failures errors) }
 {
-    out.extend_from_slice(b"<testsuite name='ofswitch requirements' tests='")?;
-    push_decimal(out, answers.len() as u128)?;
-    out.extend_from_slice(b"' failures='")?;
-    push_decimal(out, count(Verdict::Fails, answers) as u128)?;
-    out.extend_from_slice(b"' errors='")?;
-    push_decimal(out, count(Verdict::Undecided, answers) as u128)?;
-    out.extend_from_slice(b"'>\n")
+    push_numbered(
+        out,
+        b"<testsuite name='ofswitch requirements' tests='",
+        tests,
+    )?;
+    push_numbered(out, b"' failures='", failures)?;
+    push_numbered(out, b"' errors='", errors)?;
+    out.extend_from_slice(b"'>\n")?;
+    Ok(())
 }
 
 /// The report on requirements as XML: a test case for each requirement, which has a failure if the requirement fails, and an error if it is undecided.
@@ -99,7 +117,11 @@ pub fn requirements_as_junit(alloc: Global, answers: &[Answer]) -> Result<Vec<u8
 {
     let mut out = Vec::new(alloc);
     out.extend_from_slice(b"<?xml version='1.0' encoding='UTF-8'?>\n")?;
-    push_suite_head(&mut out, answers)?;
+    let (failures, errors) = (
+        count(Verdict::Fails, answers),
+        count(Verdict::Undecided, answers),
+    );
+    push_suite_head(&mut out, answers.len(), failures, errors)?;
     push_test_cases(alloc, &mut out, answers)?;
     out.extend_from_slice(b"</testsuite>\n")?;
     Ok(out)

@@ -13,7 +13,7 @@ mod refusal;
 mod requirement;
 mod words;
 
-pub use answers::{Answer, answers, worst};
+pub use answers::{Answer, answer_all, worst};
 pub use deciding::{Decision, Shown, Verdict, decide};
 pub use json::requirements_as_json;
 pub use junit::requirements_as_junit;

@@ -158,7 +158,10 @@ pub fn read_requirements(alloc: Global, file: &[u8]) -> Result<Vec<Line>, NoRequ
         let (line, after) = cut(rest, b'\n');
         rest = after;
         number += 1;
-        push_line(alloc, &mut lines, number, line)?;
+        match push_line(alloc, &mut lines, number, line) {
+            Ok(()) => {}
+            Err(stop) => return Err(stop),
+        }
     }
     Ok(lines)
 }

@@ -2,6 +2,7 @@
 ghost use Rattle.std.specs.Prelude.{◌≡◌, ◌≤◌, ◌<◌, length, codes, IfErr, IfOk, Ok};
 ghost use Rattle.of_require.specs.Reading.{behind_expected as behind_expected_word, behind_word, by_said, demand_said, end_said, ending_said, frames_said, is_blank as is_blank_text, is_demand_word, leaving_said, match_said, passing_said, place_named, places_in as places_in_words, quantifier_named, requirement_said, table_at, unspaced as unspaced_text, view_demand, view_requirement, word_of};
 ghost use Rattle.of_require.specs.Reading.SaidDemand.{LeavesBy, LeavesOnlyBy};
+ghost use Rattle.of_ovs_words.specs.Outcomes.{numbered as numbered_in};
 ghost use Rattle.of_require.specs.Refusals.{LineStops};
 
 use crate::refusal::{NoRequirement, Why, refuse};
@@ -19,11 +20,12 @@ use std::alloc::{AllocError, Global};
 fn unspaced(text: &[u8]) -> &[u8]
     ensures { result.now ≡ unspaced_text text.now }
 {
-    let mut rest = text;
-    while let [b' ', after @ ..] = rest {
-        rest = after;
+    for (i, b) in text.iter().enumerate() {
+        if *b != b' ' {
+            return &text[i..];
+        }
     }
-    rest
+    &[]
 }
 
 // The first word, and the text behind it.
@@ -80,9 +82,13 @@ fn places_in(alloc: Global, text: &[u8]) -> Result<Vec<Destination>, NoRequireme
     while !rest.is_empty() {
         let (word, after) = cut_word(rest);
         rest = after;
-        let to = place_in(alloc, word)?;
-        if places.push(to).is_err() {
-            return Err(NoRequirement::NoMemory);
+        match place_in(alloc, word) {
+            Ok(to) => {
+                if places.push(to).is_err() {
+                    return Err(NoRequirement::NoMemory);
+                }
+            }
+            Err(stop) => return Err(stop),
         }
     }
     Ok(places)

@@ -2,7 +2,7 @@
 ghost use Rattle.std.specs.Prelude.{◌≡◌, ◌++◌, option_map, IfOk, OnOk};
 ghost use Rattle.std.specs.List.{flat_map};
 ghost use Rattle.of_require.specs.Answers.{count_verdicts, is_verdict, verdict_of};
-ghost use Rattle.of_require.specs.Words.{answer_words, counted, decision_words, in_words, is_told as is_told_by, is_told_always as is_told_in_short, requirements_summary, requirements_words, shown_words, verdict_line, verdict_said};
+ghost use Rattle.of_require.specs.Words.{answer_words, counted, decision_words, in_words, is_told as is_told_by, is_told_always as is_told_in_short, requirements_summary, requirements_words, shown_words, verdict_counts, verdict_line, verdict_said, words_line};
 
 use crate::answers::Answer;
 use crate::deciding::{Decision, Shown, Verdict};
@@ -34,16 +34,23 @@ fn push_verdict_line(out: &mut Vec<u8>, answer: &Answer) -> Result<(), AllocErro
     Ok(())
 }
 
-fn push_in_words(out: &mut Vec<u8>, words: &Option<Vec<u8>>) -> Result<(), AllocError>
-    ensures { OnOk result (out.new.items ≡ out.old.items ++ in_words (option_map (λ w. w.items) words.now)) }
+#[tactic(auto, unfolding(crate::specs::Words::words_line))]
+fn push_words(out: &mut Vec<u8>, words: &[u8]) -> Result<(), AllocError>
+    ensures { OnOk result (out.new.items ≡ out.old.items ++ words_line words.now) }
 {
-    let Some(words) = words else {
-        return Ok(());
-    };
     out.extend_from_slice(b"    in words: ")?;
     out.extend_from_slice(words)?;
     out.push(b'\n')?;
     Ok(())
+}
+
+fn push_in_words(out: &mut Vec<u8>, words: Option<Vec<u8>>) -> Result<(), AllocError>
+    ensures { OnOk result (out.new.items ≡ out.old.items ++ in_words (option_map (λ w. w.items) words)) }
+{
+    match words {
+        None => Ok(()),
+        Some(words) => push_words(out, &words),
+    }
 }
 
 // Appends the frame that decides, and what leaves.
@@ -53,7 +60,7 @@ fn push_shown(alloc: Global, out: &mut Vec<u8>, shown: &Shown) -> Result<(), All
 {
     push_frame_line(alloc, out, shown.in_port, &shown.frame)?;
     let words = frame_words(alloc, shown.in_port, &shown.frame)?;
-    push_in_words(out, &words)?;
+    push_in_words(out, words)?;
     push_side(alloc, out, b"    ", &shown.items)
 }
 
@@ -140,6 +147,7 @@ pub fn count(verdict: Verdict, answers: &[Answer]) -> usize
         .count()
 }
 
+#[tactic(auto, unfolding(crate::specs::Words::counted))]
 fn push_counted(out: &mut Vec<u8>, number: usize, one: &[u8], more: &[u8]) -> Result<(), AllocError>
     ensures { OnOk result (out.new.items ≡ out.old.items ++ counted number one.now more.now) }
 {
@@ -147,19 +155,32 @@ fn push_counted(out: &mut Vec<u8>, number: usize, one: &[u8], more: &[u8]) -> Re
     out.extend_from_slice(if number == 1 { one } else { more })
 }
 
+#[tactic(auto, unfolding(crate::specs::Words::verdict_counts))]
+fn push_verdict_counts(
+    out: &mut Vec<u8>,
+    hold: usize,
+    fail: usize,
+    undecided: usize,
+) -> Result<(), AllocError>
+    ensures { OnOk result (out.new.items ≡ out.old.items ++ verdict_counts hold fail undecided) }
+{
+    push_counted(out, hold, b" holds, ", b" hold, ")?;
+    push_counted(out, fail, b" fails, ", b" fail, ")?;
+    push_decimal(out, undecided as u128)?;
+    out.extend_from_slice(b" undecided")
+}
+
 #[tactic(auto, unfolding(crate::specs::Words::requirements_summary))]
 fn push_summary(out: &mut Vec<u8>, answers: &[Answer]) -> Result<(), AllocError>
     ensures { OnOk result (out.new.items ≡ out.old.items ++ requirements_summary answers.now) }
 {
+    let (hold, fail) = (
+        count(Verdict::Holds, answers),
+        count(Verdict::Fails, answers),
+    );
+    let undecided = count(Verdict::Undecided, answers);
     push_counted(out, answers.len(), b" requirement: ", b" requirements: ")?;
-    push_counted(out, count(Verdict::Holds, answers), b" holds, ", b" hold, ")?;
-    push_counted(out, count(Verdict::Fails, answers), b" fails, ", b" fail, ")?;
-    push_counted(
-        out,
-        count(Verdict::Undecided, answers),
-        b" undecided",
-        b" undecided",
-    )?;
+    push_verdict_counts(out, hold, fail, undecided)?;
     out.push(b'\n')?;
     Ok(())
 }

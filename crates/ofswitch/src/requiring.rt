@@ -7,7 +7,7 @@ use of_files::missing_ports;
 use of_paths_report::Destination;
 use of_replay::Ended;
 use of_require::{
-    Answer, Demand, Line, NoRequirements, Verdict, answers, read_requirements,
+    Answer, Demand, Line, NoRequirements, Verdict, answer_all, read_requirements,
     requirements_as_json, requirements_as_junit, requirements_in_words, worst,
 };
 use of_sockets::ended_unopened;
@@ -136,7 +136,7 @@ pub fn required(
     lines: Vec<Line>,
 ) -> Result<Required, NoFile> {
     let (alloc, steps) = (rt.alloc(), asked.steps as usize);
-    let Ok(found) = answers(alloc, switch.datapath(), lines, steps) else {
+    let Ok(found) = answer_all(alloc, switch.datapath(), lines, steps) else {
         return Err(NoFile::ended(alloc, Ended::NoMemory));
     };
     if let Some(path) = &asked.junit {
