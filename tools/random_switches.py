@@ -1,4 +1,7 @@
-"""Random pairs of switches, for tools/check-differences and tools/try-differences: one to three tables, up to two groups, and a change."""
+"""Random switches, for tools/check-requirements, and pairs of them, for tools/check-differences and tools/try-differences: one to three tables,
+up to two groups, and a change.
+"""
+import os
 import subprocess
 from typing import NamedTuple
 
@@ -285,3 +288,10 @@ def write_file(program, folder, name, switch, events):
     with open(f"{folder}/{name}.events", "w", encoding="utf-8") as file:
         file.write("".join(rows) + made.stdout)
     return f"{folder}/{name}.events"
+
+
+def keep(kept, number, folder):
+    """Copies the files of a pair or of a switch."""
+    os.makedirs(kept, exist_ok=True)
+    for name in os.listdir(folder):
+        os.replace(f"{folder}/{name}", f"{kept}/{number}-{name}")

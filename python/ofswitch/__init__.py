@@ -11,8 +11,8 @@
 
 `Bridge` connects a real controller in its own process. `Network` has several switches with links between them. `check` finds flows
 that never win, `diff` the frames that two switches treat differently, and `paths` the steps that the frames take that a switch
-receives. `history` finds where in a log the fate of a frame changes, and `shrink` the fewest rows that show a fault. The manuals are
-docs/TESTING.md and docs/LAB.md of the repository.
+receives. `require` proves requirements of a switch, or finds a frame that shows that one fails. `history` finds where in a log the fate
+of a frame changes, and `shrink` the fewest rows that show a fault. The manuals are docs/TESTING.md and docs/LAB.md of the repository.
 """
 
 from .bridge import Bridge
@@ -27,6 +27,7 @@ from .message_types import MessageType
 from .network import Looped, Network
 from .pcap import CaptureError
 from .program import ProgramError
+from .requiring import require
 from .shrinking import NotShown, Shrunk, shrink
 from .switch import Switch
 
@@ -59,5 +60,6 @@ __all__ = [
     "diff",
     "history",
     "paths",
+    "require",
     "shrink",
 ]

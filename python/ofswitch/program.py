@@ -61,6 +61,11 @@ def find(program: StrPath | None) -> str:
 
 def run_to_end(command: list[str], text: bytes, timeout: float, good: tuple[int, ...] = (0,)) -> str:
     """The output of a command that reads this text from standard input, and ends with one of these statuses."""
+    return ended_well(command, text, timeout, good)[0]
+
+
+def ended_well(command: list[str], text: bytes, timeout: float, good: tuple[int, ...]) -> tuple[str, str]:
+    """What a command that ends with one of these statuses writes to standard output and to standard error."""
     try:
         done = subprocess.run(command, input=text, capture_output=True, timeout=timeout)
     except OSError as error:
@@ -69,7 +74,7 @@ def run_to_end(command: list[str], text: bytes, timeout: float, good: tuple[int,
         raise ProgramError(f"{' '.join(command)} did not end within {timeout:g} s") from error
     if done.returncode not in good:
         raise _ended(command, done.returncode, done.stderr)
-    return done.stdout.decode()
+    return done.stdout.decode(), done.stderr.decode(errors="replace")
 
 
 def document_of(command: list[str], timeout: float, good: tuple[int, ...], bad: tuple[int, ...]) -> dict[str, Any]:

@@ -7,6 +7,7 @@ import functools
 import os
 import tempfile
 import threading
+import warnings
 import weakref
 from collections.abc import Callable, Iterable, Iterator
 from types import TracebackType
@@ -19,6 +20,7 @@ from .dividing import paths
 from .effects import Answer, Closed, Effect, Refused, effect_of
 from .histories import history
 from .program import MARK_ROW, MOST_READS, ProgramError, Run, StrPath, file_of, find, reads_of, received, run_to_end
+from .requiring import require, unmet
 from .rows import Octets
 from .run_pcap import write_pcap
 from .view import write_page
@@ -73,7 +75,7 @@ class Switch:
         """Starts the program: the given one, the one that OFSWITCH names, or the one on the PATH.
 
         `dpid` is the datapath_id. If `log` is a path, the rows are also written to that file, as they are played. With
-        `log=False` no row is kept, and `log`, `check`, `explain` and `pcap` are not available.
+        `log=False` no row is kept, and `log`, `check`, `require`, `explain` and `pcap` are not available.
         Raises ProgramError if an answer takes longer than `timeout` seconds.
         """
         self._program = find(program)
@@ -203,6 +205,22 @@ class Switch:
     ) -> dict[str, Any]:
         """The steps that the frames take that this switch receives, as it is now (docs/PATHS.md), as `ofswitch.paths` returns them."""
         return paths(self._events(), port=port, match=match, each=each, to=to, steps=steps, program=self._program)
+
+    def require(self, requirements: str | os.PathLike[str], *, steps: int | None = None) -> list[dict[str, Any]]:
+        """Asserts for all frames that this switch, as it is now, meets requirements (docs/REQUIRE.md): lines of a text, or of a file.
+
+        AssertionError if one fails or is undecided, with the frame that shows it and its trace. A warning says which of the others
+        hold only because the switch receives no frame that matches. Returns what `ofswitch.require` returns.
+        """
+        # a failure shows the line of the test
+        __tracebackhide__ = True
+        found = require(self._events(), requirements, steps=steps, program=self._program)
+        if reasons := unmet(found, self.trace):
+            raise AssertionError(reasons.rstrip())
+        for it in found:
+            if not it["matches"]:
+                warnings.warn(f"{it['requirement']}: the switch receives no frame that matches", stacklevel=2)
+        return found
 
     def history(self, port: int, frame: Octets | str) -> list[dict[str, Any]]:
         """Since when a frame goes where it goes, and who did it: the changes of its fate (docs/HISTORY.md), as `ofswitch.history` returns them."""
