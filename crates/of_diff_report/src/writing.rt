@@ -53,11 +53,7 @@ fn find_differences<L: Lookup>(
 }
 
 // That the ports differ.
-fn other_ports_in(
-    alloc: Global,
-    form: DiffForm,
-    missing: &[u32],
-) -> Result<Vec<u8>, AllocError>
+fn other_ports_in(alloc: Global, form: DiffForm, missing: &[u32]) -> Result<Vec<u8>, AllocError>
     ensures { (f : Forwarding) → IfOk result (λ text. text.items ≡ diff_text form missing.now f None) }
 {
     match form {
