@@ -176,15 +176,15 @@ abbrev pub and_match : Result (List MatchField × ℕ) Code → List ℕ
 and_match (Ok found) = flat_map spaced_field found.0
 and_match (Err code) = []
 
-unfoldable pub packet_in_words : List ℕ → List ℕ
-packet_in_words m = fields_words packet_in_fields m ++ and_match (match_of (drop (8 + size tables.packet_in) m))
+unfoldable pub packet_in_and_match : List ℕ → List ℕ
+packet_in_and_match m = fields_words packet_in_fields m ++ and_match (match_of (drop (8 + size tables.packet_in) m))
 
 -- ---- by the type (7.1)
 
 unfoldable pub fields_of_message : ℕ → List ℕ → List ℕ
 fields_of_message type m =
     if type == ERROR then error_fields m
-    else if type == PACKET_IN then packet_in_words m
+    else if type == PACKET_IN then packet_in_and_match m
     else if type == MULTIPART_REQUEST then multipart_fields m
     else if type == MULTIPART_REPLY then multipart_reply_fields m
     else fields_words (told_of type) m

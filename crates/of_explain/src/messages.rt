@@ -3,7 +3,7 @@ ghost use Rattle.std.specs.Prelude.{◌≡◌, ◌++◌, OnOk};
 ghost use Rattle.std.specs.List.{flat_map};
 ghost use Rattle.of_oxm.specs.MatchReading.{match_of};
 ghost use Rattle.of_explain.specs.Fields.{big_number_at as a_number_at};
-ghost use Rattle.of_explain.specs.Messages.{and_code, and_match, error_fields, fields_of_message, spaced_field, message_words, multipart_fields, multipart_reply_fields, packet_in_words, type_and_fields};
+ghost use Rattle.of_explain.specs.Messages.{and_code, and_match, error_fields, fields_of_message, spaced_field, message_words, multipart_fields, multipart_reply_fields, packet_in_and_match, type_and_fields};
 
 use crate::fields::{behind, half_at, number_at, push_fields};
 use crate::names::{Names, push_name, push_named};
@@ -88,9 +88,9 @@ fn push_match(alloc: Global, out: &mut Vec<u8>, bytes: &[u8]) -> Result<(), Allo
 }
 
 // PACKET_IN (7.4.1): its fields, and those of its match.
-#[tactic(auto, unfolding(crate::specs::Messages::packet_in_words))]
+#[tactic(auto, unfolding(crate::specs::Messages::packet_in_and_match))]
 fn push_packet_in(alloc: Global, out: &mut Vec<u8>, message: &[u8]) -> Result<(), AllocError>
-    ensures { OnOk result (out.new.items ≡ out.old.items ++ packet_in_words message.now) }
+    ensures { OnOk result (out.new.items ≡ out.old.items ++ packet_in_and_match message.now) }
 {
     push_fields(alloc, out, message, PACKET_IN)?;
     push_match(alloc, out, behind(message, 24))
