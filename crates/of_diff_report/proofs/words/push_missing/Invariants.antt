@@ -4,5 +4,5 @@ use Rattle.of_diff_report.specs.DiffWords.{missing_line}
 use Rattle.of_diff_report.proofs.words.push_missing.Given as goal
 
 abbrev pub invariant-loop-port : goal.invariant-loop-port
-invariant-loop-port g l =
+invariant-loop-port l =
     l.out.items ++ flat_map missing_line (drop l.port-index l.missing) ≡ l.fn.out.items ++ flat_map missing_line l.missing
