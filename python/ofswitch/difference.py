@@ -7,7 +7,7 @@ from typing import Any
 
 from .program import StrPath, document_of, file_of, find
 
-# Exit statuses: a file has a fault; the switches differ, or their ports do; frames are undecided.
+# Exit statuses: a file has a fault; the switches differ, or their ports do; frames are undecided, or a port is missing.
 _BAD_FILE = 2
 _DIFFERS = 4
 _UNDECIDED = 5
@@ -22,7 +22,8 @@ def diff(
     program: StrPath | None = None,
     timeout: float = 600.0,
 ) -> dict[str, Any]:
-    """The differences of two switches, as docs/JSON.md describes them: `same` is True, False, or None if frames are undecided.
+    """The differences of two switches, as docs/JSON.md describes them: `same` is True, False, or None if frames are undecided or a
+    port is named that the switches do not have.
 
     Each switch is a text, or the path of a file (a `pathlib.Path`): flow text, an event file, or what `ovs-ofctl` prints. With
     `frames` only frames that leave by ports are compared, and not packets to the controller; `steps` is that of `--steps`.

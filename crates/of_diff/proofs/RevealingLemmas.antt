@@ -1,12 +1,13 @@
 -- Conditions under some bits of a field.
-use Rattle.std.proofs.Common.{◌≡◌, ◌∙◌, ap, ℕ, [], ◌∷◌, Some}
+use Rattle.std.proofs.Common.{◌≡◌, ◌∙◌, ap, ℕ, List, [], ◌∷◌, ◌++◌, Some}
 use Rattle.std.specs.Int.Bits.{bit_and, and_self}
 use Rattle.std.proofs.lemmas.Nat.{and_assoc}
 use Rattle.of_layers.specs.declared.field.Field.{Field}
 use Rattle.of_layers.specs.declared.field.FieldRow.{FieldRow}
 use Rattle.of_layers.specs.Fields.{ones_of, row_of}
 use Rattle.of_oxm.specs.declared.match_field.MatchField.{MatchField}
-use Rattle.of_regions.specs.Conditions.{AreConditions}
+use Rattle.of_regions.specs.Conditions.{AreConditions, IsCondition}
+use Rattle.of_alike.proofs.Agreeing.{all_both}
 
 pub bits_are_condition : (f : Field) (bits wanted ones : ℕ) → ones ≡ ones_of f → AreConditions (record { field = f; value = bit_and wanted (bit_and bits ones); mask = Some (bit_and bits ones) } ∷ [])
 bits_are_condition f bits wanted ones is =
@@ -21,3 +22,6 @@ bits_are_condition f bits wanted ones is =
 
 pub of_row : (f : Field) (row : FieldRow) → row ≡ row_of f → (bits wanted : ℕ) → AreConditions (record { field = f; value = bit_and wanted (bit_and bits row.ones); mask = Some (bit_and bits row.ones) } ∷ [])
 of_row f row is bits wanted = bits_are_condition f bits wanted row.ones (ap (λ (r : FieldRow). r.ones) is)
+
+pub conditions_more : (old new : List MatchField) (e : MatchField) → new ≡ old ++ e ∷ [] → AreConditions (e ∷ []) → AreConditions old → AreConditions new
+conditions_more old new e is own kept = rw is (all_both IsCondition old (e ∷ []) kept own)

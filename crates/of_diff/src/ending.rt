@@ -15,13 +15,12 @@ ghost use Rattle.of_diff.specs.SoFar.{NextIs};
 use crate::difference::{Difference, EmittedByBoth, Undecided, Why};
 use crate::pair::{Next, Pair};
 use crate::revealing::revealing;
-use of_actions::Action;
-use of_alike::{Compared, Where, first_difference, rewrites};
+use of_alike::{Compared, Where, first_difference};
 use of_classifier::Lookup;
 use of_datapath::Datapath;
 use of_machine::{Items, NoLog};
 use of_oxm::MatchField;
-use of_symbolic_run::{Emission, FrameFound, FrameSet, ingress_condition, receiving_port};
+use of_symbolic_run::{FrameFound, FrameSet, receiving_port};
 use std::alloc::{AllocError, Global};
 
 /// A frame for which something else leaves, and where.
@@ -171,100 +170,27 @@ fn try_frame_with<L: Lookup>(
     }
 }
 
-// A frame of the set that this action changes.
-fn try_action<L: Lookup>(
+// A frame of the set that one of these conditions matches.
+fn try_conditions<L: Lookup>(
     alloc: Global,
     first: &Datapath<L>,
     second: &Datapath<L>,
     compared: Compared,
     frames: &FrameSet,
-    action: &Action,
+    conditions: &[MatchField],
     steps: usize,
 ) -> Result<Tried, AllocError>
-    requires { SomeIsAlike compared (world_of (forwarding_of first.now)) (world_of (forwarding_of second.now)) frames.now }
+    requires alike { SomeIsAlike compared (world_of (forwarding_of first.now)) (world_of (forwarding_of second.now)) frames.now }
+    requires conditions { AreConditions conditions.now }
     ensures { IfOk result (TriedIs compared (world_of (forwarding_of first.now)) (world_of (forwarding_of second.now)) steps frames.now) }
 {
-    for is_second in [false, true] {
-        if let Some(condition) = revealing(action, is_second) {
-            let tried = try_frame_with(alloc, first, second, compared, frames, condition, steps)?;
-            if let Tried::Shown(shown) = tried {
-                return Ok(Tried::Shown(shown));
-            }
-        }
-    }
-    Ok(Tried::Undecided(Why::OtherActions))
-}
-
-// A frame of the set that one of these actions changes.
-fn try_actions<L: Lookup>(
-    alloc: Global,
-    first: &Datapath<L>,
-    second: &Datapath<L>,
-    compared: Compared,
-    frames: &FrameSet,
-    actions: &[Action],
-    steps: usize,
-) -> Result<Tried, AllocError>
-    requires { SomeIsAlike compared (world_of (forwarding_of first.now)) (world_of (forwarding_of second.now)) frames.now }
-    ensures { IfOk result (TriedIs compared (world_of (forwarding_of first.now)) (world_of (forwarding_of second.now)) steps frames.now) }
-{
-    for action in actions {
-        let tried = try_action(alloc, first, second, compared, frames, action, steps)?;
+    for condition in conditions {
+        let tried = try_frame_with(alloc, first, second, compared, frames, *condition, steps)?;
         if let Tried::Shown(shown) = tried {
             return Ok(Tried::Shown(shown));
         }
     }
     Ok(Tried::Undecided(Why::OtherActions))
-}
-
-// A frame of the set that the actions change which a run took before it emitted something.
-fn try_emitted<L: Lookup>(
-    alloc: Global,
-    first: &Datapath<L>,
-    second: &Datapath<L>,
-    compared: Compared,
-    frames: &FrameSet,
-    emitted: &[Emission],
-    steps: usize,
-) -> Result<Tried, AllocError>
-    requires { SomeIsAlike compared (world_of (forwarding_of first.now)) (world_of (forwarding_of second.now)) frames.now }
-    ensures { IfOk result (TriedIs compared (world_of (forwarding_of first.now)) (world_of (forwarding_of second.now)) steps frames.now) }
-{
-    for emission in emitted {
-        let actions = rewrites(emission);
-        let tried = try_actions(alloc, first, second, compared, frames, actions, steps)?;
-        if let Tried::Shown(shown) = tried {
-            return Ok(Tried::Shown(shown));
-        }
-    }
-    Ok(Tried::Undecided(Why::OtherActions))
-}
-
-// A frame that came in by the ingress port, and then frames that the actions of the first run change.
-fn try_others<L: Lookup>(
-    alloc: Global,
-    first: &Datapath<L>,
-    second: &Datapath<L>,
-    compared: Compared,
-    pair: &Pair<'_>,
-    ingress: u32,
-    steps: usize,
-) -> Result<Tried, AllocError>
-    requires { SomeIsAlike compared (world_of (forwarding_of first.now)) (world_of (forwarding_of second.now)) pair.now.frames }
-    ensures { IfOk result (TriedIs compared (world_of (forwarding_of first.now)) (world_of (forwarding_of second.now)) steps pair.now.frames) }
-{
-    let from = ingress_condition(ingress);
-    let tried = try_frame_with(alloc, first, second, compared, &pair.frames, from, steps)?;
-    if let Tried::Shown(shown) = tried {
-        return Ok(Tried::Shown(shown));
-    }
-    let sent = pair.first.emitted.as_slice();
-    let tried = try_emitted(alloc, first, second, compared, &pair.frames, sent, steps)?;
-    if let Tried::Shown(shown) = tried {
-        return Ok(Tried::Shown(shown));
-    }
-    let sent = pair.second.emitted.as_slice();
-    try_emitted(alloc, first, second, compared, &pair.frames, sent, steps)
 }
 
 // Any frame of the set, and if nothing else leaves for it, one that came in by this port, or one that the actions of the two runs change.
@@ -281,7 +207,9 @@ fn try_frames<L: Lookup>(
 {
     match try_frame(alloc, first, second, compared, &pair.frames, steps)? {
         Tried::Undecided(Why::OtherActions) => {
-            try_others(alloc, first, second, compared, pair, ingress, steps)
+            let conditions = revealing(alloc, pair, ingress)?;
+            let frames = &pair.frames;
+            try_conditions(alloc, first, second, compared, frames, &conditions, steps)
         }
         tried => Ok(tried),
     }

@@ -1,10 +1,14 @@
 //! Conditions on frames for which a rewriting action makes a difference.
-ghost use Rattle.std.specs.Prelude.{◌∷◌, [], IfSome};
+ghost use Rattle.std.specs.Prelude.{◌∷◌, [], IfOk, OnOk};
 ghost use Rattle.of_regions.specs.Conditions.{AreConditions};
 
+use crate::pair::Pair;
 use of_actions::Action;
+use of_alike::rewrites;
 use of_layers::Field;
 use of_oxm::MatchField;
+use of_symbolic_run::{Emission, ingress_condition};
+use std::alloc::{AllocError, Global};
 
 /// The bit OFPVID_PRESENT of VLAN_VID: there is a tag (OpenFlow 1.3.5, 7.2.3.7).
 const PRESENT: u128 = 0x1000;
@@ -31,21 +35,66 @@ fn with_other_value(field: Field, value: u128) -> MatchField
     }
 }
 
-/// Two conditions on frames that the action changes (OpenFlow 1.3.5, 5.12), if there are such: the field that is set is there and has another value; the
-/// frame is one of IPv4, or of IPv6, and so has a TTL; it has a VLAN tag, or none.
-pub fn revealing(action: &Action, second: bool) -> Option<MatchField>
-    ensures { IfSome result (λ e. AreConditions (e ∷ [])) }
+fn push_condition(conditions: &mut Vec<MatchField>, condition: MatchField) -> Result<(), AllocError>
+    requires { AreConditions (condition ∷ []) }
+    ensures { OnOk result (AreConditions conditions.old.items → AreConditions conditions.new.items) }
+{
+    conditions.push(condition)?;
+    Ok(())
+}
+
+// Appends conditions on frames that the action changes (OpenFlow 1.3.5, 5.12): the field that is set is there and has another value; the frame is one of
+// IPv4, or of IPv6, and so has a TTL; it has a VLAN tag, or none.
+fn push_action(conditions: &mut Vec<MatchField>, action: &Action) -> Result<(), AllocError>
+    ensures { OnOk result (AreConditions conditions.old.items → AreConditions conditions.new.items) }
 {
     match action {
-        Action::SetField { field, value } if !second => Some(with_other_value(*field, *value)),
-        Action::SetNwTtl(_) | Action::DecNwTtl if second => Some(with_bits(Field::Ipv6Dst, 0, 0)),
-        Action::SetNwTtl(_) | Action::DecNwTtl => Some(with_bits(Field::Ipv4Dst, 0, 0)),
-        Action::PushVlan(_) | Action::PopVlan if second => Some(with_bits(
-            Field::VlanVid,
-            PRESENT,
-            0,
-        )),
-        Action::PushVlan(_) | Action::PopVlan => Some(with_bits(Field::VlanVid, PRESENT, PRESENT)),
-        Action::SetField { .. } | Action::Output { .. } | Action::Group(_) => None,
+        Action::SetField { field, value } => {
+            push_condition(conditions, with_other_value(*field, *value))
+        }
+        Action::SetNwTtl(_) | Action::DecNwTtl => {
+            push_condition(conditions, with_bits(Field::Ipv4Dst, 0, 0))?;
+            push_condition(conditions, with_bits(Field::Ipv6Dst, 0, 0))
+        }
+        Action::PushVlan(_) | Action::PopVlan => {
+            push_condition(conditions, with_bits(Field::VlanVid, PRESENT, PRESENT))?;
+            push_condition(conditions, with_bits(Field::VlanVid, PRESENT, 0))
+        }
+        Action::Output { .. } | Action::Group(_) => Ok(()),
     }
+}
+
+fn push_actions(conditions: &mut Vec<MatchField>, actions: &[Action]) -> Result<(), AllocError>
+    ensures { OnOk result (AreConditions conditions.old.items → AreConditions conditions.new.items) }
+{
+    for action in actions {
+        push_action(conditions, action)?;
+    }
+    Ok(())
+}
+
+// Appends those of the actions that a run took before it emitted something.
+fn push_emitted(conditions: &mut Vec<MatchField>, emitted: &[Emission]) -> Result<(), AllocError>
+    ensures { OnOk result (AreConditions conditions.old.items → AreConditions conditions.new.items) }
+{
+    for emission in emitted {
+        push_actions(conditions, rewrites(emission))?;
+    }
+    Ok(())
+}
+
+/// Conditions, each on frames for which something else may leave: they came in by the ingress port, or an action changes them that the first or the
+/// second run took.
+pub fn revealing(
+    alloc: Global,
+    pair: &Pair<'_>,
+    ingress: u32,
+) -> Result<Vec<MatchField>, AllocError>
+    ensures { IfOk result (λ conditions. AreConditions conditions.items) }
+{
+    let mut conditions = Vec::new(alloc);
+    push_condition(&mut conditions, ingress_condition(ingress))?;
+    push_emitted(&mut conditions, &pair.first.emitted)?;
+    push_emitted(&mut conditions, &pair.second.emitted)?;
+    Ok(conditions)
 }

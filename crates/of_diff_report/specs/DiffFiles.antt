@@ -14,7 +14,7 @@ use Rattle.of_diff_report.specs.declared.writing.DiffForm.{DiffForm}
 use Rattle.of_diff_report.specs.declared.writing.DiffForm.TheVariants.{Json, Words}
 use Rattle.of_diff_report.specs.declared.writing.DiffVerdict.{DiffVerdict}
 use Rattle.of_diff_report.specs.declared.writing.DiffVerdict.TheVariants.{Differs, OtherPorts, Same, Undecided}
-use Rattle.of_diff_report.specs.DiffWords.{are_same, diff_words, other_ports_words}
+use Rattle.of_diff_report.specs.DiffWords.{are_same_with, diff_words, other_ports_words}
 use Rattle.of_diff_report.specs.DiffJson.{diff_json, other_ports_json}
 
 -- what is found about two switches: nothing if their ports differ, else the differences, and for all other frames that they are treated alike or undecided
@@ -22,19 +22,19 @@ abbrev pub AreFoundBetween : Compared → ℕ → Forwarding → Forwarding → 
 AreFoundBetween c steps f g None = SamePorts f.ports g.ports → ⊥
 AreFoundBetween c steps f g (Some ds) = AreDifferences c (world_of f) (world_of g) steps ds
 
--- in words or as JSON
-abbrev pub diff_text : DiffForm → Forwarding → Option Differences → List ℕ
-diff_text Words f None = other_ports_words
-diff_text Words f (Some ds) = diff_words f ds
-diff_text Json f None = other_ports_json
-diff_text Json f (Some ds) = diff_json ds
+-- in words or as JSON, with the ports that are named and missing
+abbrev pub diff_text : DiffForm → List ℕ → Forwarding → Option Differences → List ℕ
+diff_text Words missing f None = other_ports_words missing
+diff_text Words missing f (Some ds) = diff_words missing f ds
+diff_text Json missing f None = other_ports_json missing
+diff_text Json missing f (Some ds) = diff_json missing ds
 
-abbrev pub verdict_on : Differences → DiffVerdict
-verdict_on ds = if are_same ds then Same else if length ds.found.items == 0 then Undecided else Differs
+abbrev pub verdict_on : List ℕ → Differences → DiffVerdict
+verdict_on missing ds = if are_same_with missing ds then Same else if length ds.found.items == 0 then Undecided else Differs
 
-abbrev pub diff_verdict : Option Differences → DiffVerdict
-diff_verdict None = OtherPorts
-diff_verdict (Some ds) = verdict_on ds
+abbrev pub diff_verdict : List ℕ → Option Differences → DiffVerdict
+diff_verdict missing None = OtherPorts
+diff_verdict missing (Some ds) = verdict_on missing ds
 
 -- the verdict, if all was written
 abbrev pub IsVerdictResult : Result DiffVerdict Ended → DiffVerdict → Type 0
@@ -42,8 +42,9 @@ IsVerdictResult (Ok verdict) is = verdict ≡ is
 IsVerdictResult (Err ended) is = ended ≢ Done
 
 -- THE TEXT of what is found about two switches. The runs of all frames take at most so many steps together, and each search for a frame as many.
-abbrev pub IsDiffReport : Result DiffVerdict Ended → DiffForm → Compared → ℕ → Forwarding → Forwarding → List ℕ → Type 0
-IsDiffReport result form c steps f g text = (found : Option Differences) × AreFoundBetween c steps f g found × (text ≡ diff_text form f found) × IsVerdictResult result (diff_verdict found)
+abbrev pub IsDiffReport : Result DiffVerdict Ended → DiffForm → List ℕ → Compared → ℕ → Forwarding → Forwarding → List ℕ → Type 0
+IsDiffReport result form missing c steps f g text =
+    (found : Option Differences) × AreFoundBetween c steps f g found × (text ≡ diff_text form missing f found) × IsVerdictResult result (diff_verdict missing found)
 
 -- WHAT THE VERDICT MEANS: each frame that is received is treated alike; or some frame is not, which both ran; or the ports differ
 abbrev pub IsVerdict : Compared → Forwarding → Forwarding → DiffVerdict → Type 0

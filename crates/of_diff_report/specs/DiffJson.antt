@@ -11,7 +11,7 @@ use Rattle.of_diff.specs.declared.difference.Undecided.{Undecided}
 use Rattle.of_diff.specs.declared.difference.Why.{Why}
 use Rattle.of_diff.specs.declared.difference.Why.TheVariants.{OtherActions, Search, Steps, UnknownTag}
 use Rattle.of_json.specs.LeavingJson.{items_member, place_member}
-use Rattle.of_diff_report.specs.DiffWords.{are_same}
+use Rattle.of_diff_report.specs.DiffWords.{are_same_with}
 
 -- ---- a difference
 
@@ -38,14 +38,17 @@ why_name OtherActions = codes "other actions"
 unfoldable pub undecided_string : Undecided → List ℕ
 undecided_string u = quoted (why_name u.why)
 
--- ---- THE DOCUMENT: whether all frames are treated alike, which is null if that is not known, whether the ports differ, each difference, and why frames
--- are undecided
+-- ---- THE DOCUMENT: whether all frames are treated alike, which is null if that is not known or a port is missing, whether the ports differ, the ports that
+-- are named and missing, each difference, and why frames are undecided
 
-abbrev pub same_in_json : Differences → List ℕ
-same_in_json ds = if are_same ds then codes "true" else if length ds.found.items == 0 then codes "null" else codes "false"
+abbrev pub same_in_json : List ℕ → Differences → List ℕ
+same_in_json missing ds = if are_same_with missing ds then codes "true" else if length ds.found.items == 0 then codes "null" else codes "false"
 
 unfoldable pub diff_head : List ℕ → Bool → List ℕ
 diff_head same ports = key (codes "command") ++ quoted (codes "diff") ++ 44 ∷ key (codes "same") ++ same ++ 44 ∷ key (codes "ports_differ") ++ truth ports
+
+unfoldable pub missing_member : List ℕ → List ℕ
+missing_member missing = array_member (codes "missing_ports") (listed decimal missing)
 
 unfoldable pub found_member : List Difference → List ℕ
 found_member found = array_member (codes "differences") (listed difference_object found)
@@ -53,12 +56,13 @@ found_member found = array_member (codes "differences") (listed difference_objec
 unfoldable pub undecided_member : List Undecided → List ℕ
 undecided_member undecided = array_member (codes "undecided") (listed undecided_string undecided)
 
-unfoldable pub diff_document : List ℕ → Bool → List Difference → List Undecided → List ℕ
-diff_document same ports found undecided = 123 ∷ diff_head same ports ++ found_member found ++ undecided_member undecided ++ 125 ∷ 10 ∷ []
+unfoldable pub diff_document : List ℕ → Bool → List ℕ → List Difference → List Undecided → List ℕ
+diff_document same ports missing found undecided =
+    123 ∷ diff_head same ports ++ missing_member missing ++ found_member found ++ undecided_member undecided ++ 125 ∷ 10 ∷ []
 
-abbrev pub diff_json : Differences → List ℕ
-diff_json ds = diff_document (same_in_json ds) false ds.found.items ds.undecided.items
+abbrev pub diff_json : List ℕ → Differences → List ℕ
+diff_json missing ds = diff_document (same_in_json missing ds) false missing ds.found.items ds.undecided.items
 
 -- of switches whose ports differ
-abbrev pub other_ports_json : List ℕ
-other_ports_json = diff_document (codes "false") true [] []
+abbrev pub other_ports_json : List ℕ → List ℕ
+other_ports_json missing = diff_document (codes "false") true missing [] []

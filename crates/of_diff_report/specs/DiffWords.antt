@@ -1,4 +1,5 @@
--- THE REPORT OF `diff` IN WORDS: a block for each difference, a line for each reason why frames are undecided, and a summary.
+-- THE REPORT OF `diff` IN WORDS: a line for each port that is named and missing, a block for each difference, a line for each reason why frames are
+-- undecided, and a summary.
 use Rattle.std.specs.Prelude.{ℕ, ◌==◌, Bool, true, false, List, [], ◌∷◌, ◌++◌, length, filter, codes, decimal, if◌then◌else◌}
 use Rattle.std.specs.List.{flat_map}
 use Rattle.of_text.specs.Lines.{ended}
@@ -13,6 +14,14 @@ use Rattle.of_diff.specs.declared.difference.Differences.{Differences}
 use Rattle.of_diff.specs.declared.difference.Undecided.{Undecided}
 use Rattle.of_diff.specs.declared.difference.Why.{Why}
 use Rattle.of_diff.specs.declared.difference.Why.TheVariants.{OtherActions, Search, Steps, UnknownTag}
+
+-- ---- ports that groups or flows of the files name, and that the switches do not have
+
+unfoldable pub missing_line : ℕ → List ℕ
+missing_line port = codes "port " ++ decimal port ++ codes " is named, and the switch does not have it" ++ 10 ∷ []
+
+abbrev pub missing_lines : List ℕ → List ℕ
+missing_lines ports = flat_map missing_line ports
 
 -- ---- a difference: where something else leaves, the frame, its port and bytes as `trace` takes them, what leaves each switch, and how many sets of frames
 -- it has, if more than one
@@ -67,15 +76,24 @@ difference_count n = decimal n ++ (if n == 1 then codes " difference" else codes
 abbrev pub are_same : Differences → Bool
 are_same ds = if length ds.found.items == 0 then length ds.undecided.items == 0 else false
 
-unfoldable pub diff_summary : Differences → List ℕ
-diff_summary ds =
-    if are_same ds then codes "same: all frames are treated alike" ++ 10 ∷ []
+-- and no port is missing
+abbrev pub are_same_with : List ℕ → Differences → Bool
+are_same_with missing ds = if length missing == 0 then are_same ds else false
+
+-- the switches with these ports treat all frames alike
+abbrev pub same_words : List ℕ → List ℕ
+same_words [] = codes "same: all frames are treated alike"
+same_words (port ∷ ports) = codes "no difference, as long as the switches do not have these ports"
+
+unfoldable pub diff_summary : List ℕ → Differences → List ℕ
+diff_summary missing ds =
+    if are_same ds then same_words missing ++ 10 ∷ []
     else difference_count (length ds.found.items) ++ undecided_count (length ds.undecided.items) ++ 10 ∷ []
 
 -- THE REPORT, for the first switch
-unfoldable pub diff_words : Forwarding → Differences → List ℕ
-diff_words f ds = flat_map (difference_words f) ds.found.items ++ undecided_words ds.undecided.items ++ diff_summary ds
+unfoldable pub diff_words : List ℕ → Forwarding → Differences → List ℕ
+diff_words missing f ds = missing_lines missing ++ flat_map (difference_words f) ds.found.items ++ undecided_words ds.undecided.items ++ diff_summary missing ds
 
 -- of switches whose ports differ
-abbrev pub other_ports_words : List ℕ
-other_ports_words = codes "the switches have different ports" ++ 10 ∷ []
+abbrev pub other_ports_words : List ℕ → List ℕ
+other_ports_words missing = missing_lines missing ++ codes "the switches have different ports" ++ 10 ∷ []

@@ -1,14 +1,15 @@
 //! What is found about two switches, as JSON.
-ghost use Rattle.std.specs.Prelude.{◌≡◌, ◌++◌, IfOk, OnOk};
-ghost use Rattle.of_diff_report.specs.DiffJson.{at_member, diff_document, diff_head, diff_json, difference_members, difference_object, found_member, other_ports_json, same_in_json, undecided_member, undecided_string, why_name};
+ghost use Rattle.std.specs.Prelude.{◌≡◌, ◌++◌, decimal, IfOk, OnOk};
+ghost use Rattle.of_diff_report.specs.DiffJson.{at_member, diff_document, diff_head, diff_json, difference_members, difference_object, found_member, missing_member, other_ports_json, same_in_json, undecided_member, undecided_string, why_name};
 
-use crate::words::is_same;
+use crate::words::is_same_with;
 use of_alike::Where;
 use of_diff::{Difference, Differences, Undecided, Why};
 use of_json::{
     push_array_member, push_bytes_member, push_controller_place, push_items_member, push_key,
     push_number_member, push_port_place, push_quoted, push_truth,
 };
+use of_values::push_decimal;
 use std::alloc::{AllocError, Global};
 
 #[tactic(auto, unfolding(crate::specs::DiffJson::at_member))]
@@ -103,19 +104,34 @@ fn push_head(out: &mut Vec<u8>, same: &[u8], ports_differ: bool) -> Result<(), A
     push_truth(out, ports_differ)
 }
 
+fn push_port(out: &mut Vec<u8>, port: &u32) -> Result<(), AllocError>
+    ensures { OnOk result (out.new.items ≡ out.old.items ++ decimal port.now) }
+{
+    push_decimal(out, u128::from(*port))
+}
+
+#[tactic(auto, unfolding(crate::specs::DiffJson::missing_member))]
+fn push_missing_member(out: &mut Vec<u8>, missing: &[u32]) -> Result<(), AllocError>
+    ensures { OnOk result (out.new.items ≡ out.old.items ++ missing_member missing.now) }
+{
+    push_array_member(out, b"missing_ports", missing, push_port)
+}
+
 #[tactic(auto, unfolding(crate::specs::DiffJson::diff_document))]
 fn document(
     alloc: Global,
     same: &[u8],
     ports_differ: bool,
+    missing: &[u32],
     found: &[Difference],
     undecided: &[Undecided],
 ) -> Result<Vec<u8>, AllocError>
-    ensures { IfOk result (λ text. text.items ≡ diff_document same.now ports_differ found.now undecided.now) }
+    ensures { IfOk result (λ text. text.items ≡ diff_document same.now ports_differ missing.now found.now undecided.now) }
 {
     let mut out = Vec::new(alloc);
     out.push(b'{')?;
     push_head(&mut out, same, ports_differ)?;
+    push_missing_member(&mut out, missing)?;
     push_found_member(alloc, &mut out, found)?;
     push_undecided_member(&mut out, undecided)?;
     out.push(b'}')?;
@@ -123,10 +139,10 @@ fn document(
     Ok(out)
 }
 
-fn same_word(found: &Differences) -> &'static [u8]
-    ensures { result.now ≡ same_in_json found.now }
+fn same_word(missing: &[u32], found: &Differences) -> &'static [u8]
+    ensures { result.now ≡ same_in_json missing.now found.now }
 {
-    if is_same(found) {
+    if is_same_with(missing, found) {
         b"true"
     } else if found.found.is_empty() {
         b"null"
@@ -136,21 +152,26 @@ fn same_word(found: &Differences) -> &'static [u8]
 }
 
 /// What is found about two switches, as JSON.
-pub fn differences_as_json(alloc: Global, found: &Differences) -> Result<Vec<u8>, AllocError>
-    ensures { IfOk result (λ text. text.items ≡ diff_json found.now) }
+pub fn differences_as_json(
+    alloc: Global,
+    missing: &[u32],
+    found: &Differences,
+) -> Result<Vec<u8>, AllocError>
+    ensures { IfOk result (λ text. text.items ≡ diff_json missing.now found.now) }
 {
     document(
         alloc,
-        same_word(found),
+        same_word(missing, found),
         false,
+        missing,
         &found.found,
         &found.undecided,
     )
 }
 
 /// That two switches have different ports, as JSON.
-pub fn other_ports_as_json(alloc: Global) -> Result<Vec<u8>, AllocError>
-    ensures { IfOk result (λ text. text.items ≡ other_ports_json) }
+pub fn other_ports_as_json(alloc: Global, missing: &[u32]) -> Result<Vec<u8>, AllocError>
+    ensures { IfOk result (λ text. text.items ≡ other_ports_json missing.now) }
 {
-    document(alloc, b"false", true, &[], &[])
+    document(alloc, b"false", true, missing, &[], &[])
 }

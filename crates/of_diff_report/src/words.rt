@@ -1,7 +1,7 @@
 //! What is found about two switches, in words.
 ghost use Rattle.std.specs.Prelude.{◌≡◌, ◌++◌, ◌∷◌, IfOk, OnOk};
 ghost use Rattle.std.specs.List.{flat_map};
-ghost use Rattle.of_diff_report.specs.DiffWords.{are_same, count_why, diff_summary, diff_words, difference_count, difference_words, is_why, sets_line, sets_words, undecided_line, undecided_words, where_words, undecided_why};
+ghost use Rattle.of_diff_report.specs.DiffWords.{are_same, are_same_with, count_why, diff_summary, diff_words, difference_count, difference_words, is_why, missing_line, missing_lines, other_ports_words, same_words, sets_line, sets_words, undecided_line, undecided_words, where_words, undecided_why};
 
 use of_alike::Where;
 use of_classifier::Lookup;
@@ -11,6 +11,25 @@ use of_switch::Switch;
 use of_trace::push_heading;
 use of_values::push_decimal;
 use std::alloc::{AllocError, Global};
+
+#[tactic(auto, unfolding(crate::specs::DiffWords::missing_line))]
+fn push_missing_line(out: &mut Vec<u8>, port: u32) -> Result<(), AllocError>
+    ensures { OnOk result (out.new.items ≡ out.old.items ++ missing_line port) }
+{
+    out.extend_from_slice(b"port ")?;
+    push_decimal(out, u128::from(port))?;
+    out.extend_from_slice(b" is named, and the switch does not have it\n")
+}
+
+// Appends a line for each port that is named and missing.
+fn push_missing(out: &mut Vec<u8>, missing: &[u32]) -> Result<(), AllocError>
+    ensures { OnOk result (out.new.items ≡ out.old.items ++ missing_lines missing.now) }
+{
+    for port in missing {
+        push_missing_line(out, *port)?;
+    }
+    Ok(())
+}
 
 // Appends where something else leaves.
 #[tactic(auto, unfolding(crate::specs::DiffWords::where_words))]
@@ -150,6 +169,23 @@ pub fn is_same(found: &Differences) -> bool
     found.found.is_empty() && found.undecided.is_empty()
 }
 
+/// Whether, besides, no port is missing.
+pub fn is_same_with(missing: &[u32], found: &Differences) -> bool
+    ensures { result ≡ are_same_with missing.now found.now }
+{
+    missing.is_empty() && is_same(found)
+}
+
+fn same_sentence(missing: &[u32]) -> &'static [u8]
+    ensures { result.now ≡ same_words missing.now }
+{
+    if missing.is_empty() {
+        b"same: all frames are treated alike"
+    } else {
+        b"no difference, as long as the switches do not have these ports"
+    }
+}
+
 fn push_difference_count(out: &mut Vec<u8>, count: usize) -> Result<(), AllocError>
     ensures { OnOk result (out.new.items ≡ out.old.items ++ difference_count count) }
 {
@@ -163,14 +199,15 @@ fn push_difference_count(out: &mut Vec<u8>, count: usize) -> Result<(), AllocErr
 
 // Appends how many differences and undecided sets of frames there are.
 #[tactic(auto, unfolding(crate::specs::DiffWords::diff_summary))]
-fn push_summary(out: &mut Vec<u8>, found: &Differences) -> Result<(), AllocError>
-    ensures { OnOk result (out.new.items ≡ out.old.items ++ diff_summary found.now) }
+fn push_summary(out: &mut Vec<u8>, missing: &[u32], found: &Differences) -> Result<(), AllocError>
+    ensures { OnOk result (out.new.items ≡ out.old.items ++ diff_summary missing.now found.now) }
 {
     if is_same(found) {
-        return out.extend_from_slice(b"same: all frames are treated alike\n");
+        out.extend_from_slice(same_sentence(missing))?;
+    } else {
+        push_difference_count(out, found.found.len())?;
+        push_undecided_count(out, found.undecided.len())?;
     }
-    push_difference_count(out, found.found.len())?;
-    push_undecided_count(out, found.undecided.len())?;
     out.push(b'\n')?;
     Ok(())
 }
@@ -180,13 +217,25 @@ fn push_summary(out: &mut Vec<u8>, found: &Differences) -> Result<(), AllocError
 pub fn differences_in_words<L: Lookup>(
     alloc: Global,
     first: &Switch<L>,
+    missing: &[u32],
     found: &Differences,
 ) -> Result<Vec<u8>, AllocError>
-    ensures { IfOk result (λ text. text.items ≡ diff_words first.now.core.forwarding found.now) }
+    ensures { IfOk result (λ text. text.items ≡ diff_words missing.now first.now.core.forwarding found.now) }
 {
     let mut out = Vec::new(alloc);
+    push_missing(&mut out, missing)?;
     push_differences(alloc, &mut out, first, &found.found)?;
     push_undecided(&mut out, &found.undecided)?;
-    push_summary(&mut out, found)?;
+    push_summary(&mut out, missing, found)?;
+    Ok(out)
+}
+
+/// That two switches have different ports, in words.
+pub fn other_ports_in_words(alloc: Global, missing: &[u32]) -> Result<Vec<u8>, AllocError>
+    ensures { IfOk result (λ text. text.items ≡ other_ports_words missing.now) }
+{
+    let mut out = Vec::new(alloc);
+    push_missing(&mut out, missing)?;
+    out.extend_from_slice(b"the switches have different ports\n")?;
     Ok(out)
 }

@@ -1,5 +1,5 @@
 //! The report on two switches.
-ghost use Rattle.std.specs.Prelude.{◌≡◌, ◌<◌, ◌↔◌, ℕ, List, IfOk, Ok, None, Some};
+ghost use Rattle.std.specs.Prelude.{◌≡◌, ◌<◌, ◌↔◌, ℕ, List, [], IfOk, Ok, None, Some};
 ghost use Rattle.of_datapath.specs.Datapath.{Forwarding, world_of};
 ghost use Rattle.of_replay.specs.FileRuns.{Writes, ended_as};
 ghost use Rattle.of_symbolic_run.specs.Received.{IsReceivedAt};
@@ -9,7 +9,7 @@ ghost use Rattle.of_diff.specs.declared.difference.Difference.{Difference};
 ghost use Rattle.of_diff_report.specs.DiffFiles.{AreFoundBetween, IsDiffReport, IsVerdict, diff_text, diff_verdict, verdict_on};
 
 use crate::json::{differences_as_json, other_ports_as_json};
-use crate::words::{differences_in_words, is_same};
+use crate::words::{differences_in_words, is_same_with, other_ports_in_words};
 use of_alike::Compared;
 use of_classifier::Lookup;
 use of_diff::{Differences, differences};
@@ -33,7 +33,7 @@ pub enum DiffVerdict {
     Same,
     /// Some frame makes something else leave them.
     Differs,
-    /// No difference is found, but it is not known of all frames.
+    /// No difference is found, but it is not known of all frames, or a port is missing.
     Undecided,
     /// Their ports differ.
     OtherPorts,
@@ -53,12 +53,12 @@ fn find_differences<L: Lookup>(
 }
 
 // That the ports differ.
-fn other_ports_in(alloc: Global, form: DiffForm) -> Result<Vec<u8>, AllocError>
-    ensures { (f : Forwarding) → IfOk result (λ text. text.items ≡ diff_text form f None) }
+fn other_ports_in(alloc: Global, form: DiffForm, missing: &[u32]) -> Result<Vec<u8>, AllocError>
+    ensures { (f : Forwarding) → IfOk result (λ text. text.items ≡ diff_text form missing.now f None) }
 {
     match form {
-        DiffForm::Words => Vec::from_slice(alloc, b"the switches have different ports\n"),
-        DiffForm::Json => other_ports_as_json(alloc),
+        DiffForm::Words => other_ports_in_words(alloc, missing),
+        DiffForm::Json => other_ports_as_json(alloc, missing),
     }
 }
 
@@ -67,13 +67,14 @@ fn found_in<L: Lookup>(
     alloc: Global,
     form: DiffForm,
     first: &Switch<L>,
+    missing: &[u32],
     found: &Differences,
 ) -> Result<Vec<u8>, AllocError>
-    ensures { IfOk result (λ text. text.items ≡ diff_text form first.now.core.forwarding (Some found.now)) }
+    ensures { IfOk result (λ text. text.items ≡ diff_text form missing.now first.now.core.forwarding (Some found.now)) }
 {
     match form {
-        DiffForm::Words => differences_in_words(alloc, first, found),
-        DiffForm::Json => differences_as_json(alloc, found),
+        DiffForm::Words => differences_in_words(alloc, first, missing, found),
+        DiffForm::Json => differences_as_json(alloc, missing, found),
     }
 }
 
@@ -82,20 +83,21 @@ fn text_in<L: Lookup>(
     alloc: Global,
     form: DiffForm,
     first: &Switch<L>,
+    missing: &[u32],
     found: &Option<Differences>,
 ) -> Result<Vec<u8>, AllocError>
-    ensures { IfOk result (λ text. text.items ≡ diff_text form first.now.core.forwarding found.now) }
+    ensures { IfOk result (λ text. text.items ≡ diff_text form missing.now first.now.core.forwarding found.now) }
 {
     match found {
-        None => other_ports_in(alloc, form),
-        Some(found) => found_in(alloc, form, first, found),
+        None => other_ports_in(alloc, form, missing),
+        Some(found) => found_in(alloc, form, first, missing, found),
     }
 }
 
-fn verdict_among(found: &Differences) -> DiffVerdict
-    ensures { result ≡ verdict_on found.now }
+fn verdict_among(missing: &[u32], found: &Differences) -> DiffVerdict
+    ensures { result ≡ verdict_on missing.now found.now }
 {
-    if is_same(found) {
+    if is_same_with(missing, found) {
         DiffVerdict::Same
     } else if found.found.is_empty() {
         DiffVerdict::Undecided
@@ -105,45 +107,49 @@ fn verdict_among(found: &Differences) -> DiffVerdict
 }
 
 // Whether two switches treat all frames alike, of which this is found.
-fn verdict_of(found: &Option<Differences>) -> DiffVerdict
-    ensures is { result ≡ diff_verdict found.now }
+fn verdict_of(missing: &[u32], found: &Option<Differences>) -> DiffVerdict
+    ensures is { result ≡ diff_verdict missing.now found.now }
     ensures means { (c : WhatIsCompared) (steps : ℕ) (f g : Forwarding) → AreFoundBetween c steps f g found.now → IsVerdict c f g result }
+    ensures none_missing { result ≡ DiffVerdict.Same → missing.now ≡ [] }
 {
     match found {
         None => DiffVerdict::OtherPorts,
-        Some(found) => verdict_among(found),
+        Some(found) => verdict_among(missing, found),
     }
 }
 
 /// Writes which frames two switches treat differently (OpenFlow 1.3.5, 5.1). The runs of all frames take at most so many steps together, and each
-/// search for a frame as many. Ok says whether the switches treat all frames alike.
+/// search for a frame as many. Ports that groups or flows name, and that the switches do not have, are `missing`. Ok says whether the switches treat all
+/// frames alike; they are not said to if a port is missing.
 ///
 /// Err is `WriteFault`, where a write failed and a prefix of the text was written; or `NoMemory`, where nothing was.
 pub fn write_differences<L: Lookup, W: Sink>(
     alloc: Global,
     first: &Switch<L>,
     second: &Switch<L>,
+    missing: &[u32],
     compared: Compared,
     steps: usize,
     form: DiffForm,
     writer: &mut W,
 ) -> Result<DiffVerdict, Ended>
     requires { W.failures writer.old ≡ 0 }
-    ensures output { Writes (IsDiffReport result form compared steps first.now.core.forwarding second.now.core.forwarding) (ended_as result)
+    ensures output { Writes (IsDiffReport result form missing.now compared steps first.now.core.forwarding second.now.core.forwarding) (ended_as result)
         (W.taken writer.old) (W.taken writer.new) }
     ensures verdict { IfOk result (IsVerdict compared first.now.core.forwarding second.now.core.forwarding) }
     ensures same { result ≡ Ok DiffVerdict.Same → (frame : List ℕ) (port : ℕ) → IsReceivedAt (world_of first.now.core.forwarding) frame port
         → IsTreatedAlike compared (world_of first.now.core.forwarding) (world_of second.now.core.forwarding) frame port }
+    ensures none_missing { result ≡ Ok DiffVerdict.Same → missing.now ≡ [] }
     ensures write_fault { (ended_as result ≡ Ended.WriteFault) ↔ (0 < W.failures writer.new) }
 {
     let Ok(found) = find_differences(alloc, first, second, compared, steps) else {
         return Err(Ended::NoMemory);
     };
-    let Ok(text) = text_in(alloc, form, first, &found) else {
+    let Ok(text) = text_in(alloc, form, first, missing, &found) else {
         return Err(Ended::NoMemory);
     };
     if write_all(writer, &text) {
-        Ok(verdict_of(&found))
+        Ok(verdict_of(missing, &found))
     } else {
         Err(Ended::WriteFault)
     }

@@ -23,7 +23,7 @@ use Rattle.of_replay.specs.RowTexts.{RowText, row_happened}
 use Rattle.of_text.specs.Lines.{ended, note}
 use Rattle.of_explain.specs.Notes.{number_note, port_and_size, with_number}
 use Rattle.of_explain.specs.Messages.{message_words}
-use Rattle.of_explain.specs.Replies.{reply_rows}
+use Rattle.of_explain.specs.Replies.{answer_lines}
 use Rattle.of_explain.specs.Requests.{chunk_notes}
 
 -- a line as in the file; an empty one is left out
@@ -31,20 +31,20 @@ abbrev pub echoed : List ℕ → List ℕ
 echoed [] = []
 echoed (b ∷ bs) = ended (b ∷ bs)
 
--- ---- what the switch gives: a note for each effect, and the rows of a reply
+-- ---- what the switch gives: a note for each effect, and the lines below an answer
 
 abbrev pub explained_effect_words : Effect → List ℕ
 explained_effect_words (Answer bytes) = codes "to the controller: " ++ message_words bytes
 explained_effect_words (Sent port frame) = port_and_size (codes "sent out of port") port frame
 explained_effect_words Closed = codes "the switch ends the connection"
 
--- below an answer, its rows
-abbrev pub effect_rows : Effect → List ℕ
-effect_rows (Answer bytes) = reply_rows bytes
-effect_rows other = []
+-- the lines below it
+abbrev pub effect_lines : Effect → List ℕ
+effect_lines (Answer bytes) = answer_lines bytes
+effect_lines other = []
 
 abbrev pub effect_note : Effect → List ℕ
-effect_note e = note (explained_effect_words e) ++ effect_rows e
+effect_note e = note (explained_effect_words e) ++ effect_lines e
 
 abbrev pub effect_notes : List Effect → List ℕ
 effect_notes effects = flat_map effect_note effects

@@ -1,9 +1,14 @@
 -- A MESSAGE IN WORDS: its name, its transaction id, the fields of its type, and how many bytes it has. The words are read from the bytes.
-use Rattle.std.specs.Prelude.{ℕ, ◌+◌, ◌==◌, List, [], ◌∷◌, ◌++◌, length, codes, Option, Some, None, if◌then◌else◌}
+use Rattle.std.specs.Prelude.{ℕ, ◌+◌, ◌==◌, List, [], ◌∷◌, ◌++◌, length, drop, codes, Option, Some, None, Result, Ok, Err, if◌then◌else◌}
 use Rattle.std.specs.List.{flat_map}
+use Rattle.of_wire.specs.declared.code.Code.{Code}
 use Rattle.of_wire.specs.CodeNames.{error_name}
 use Rattle.of_formats.specs.declared.messages.TheConstants.{ERROR, FEATURES_REPLY, FLOW_MOD, FLOW_REMOVED, GET_ASYNC_REPLY, GET_CONFIG_REPLY, GROUP_MOD, MULTIPART_REPLY, MULTIPART_REQUEST, PACKET_IN, PACKET_OUT, PORT_MOD, PORT_STATUS, ROLE_REPLY, ROLE_REQUEST, SET_ASYNC, SET_CONFIG, TABLE_MOD}
+use Rattle.of_formats.specs.Structs.{size}
 use Rattle.of_formats.specs.Tables as tables
+use Rattle.of_oxm.specs.declared.match_field.MatchField.{MatchField}
+use Rattle.of_oxm.specs.MatchReading.{match_of}
+use Rattle.of_values.specs.Entries.{field_words}
 use Rattle.of_explain.specs.declared.fields.Form.TheVariants.{Plainly, Named, InHex, UnlessAny, UnlessZero}
 use Rattle.of_explain.specs.declared.names.Names.TheVariants.{Types, ErrorTypes, PacketInReasons, FlowRemovedReasons, PortStatusReasons, FlowCommands, GroupCommands, Multiparts, Roles}
 use Rattle.of_explain.specs.Fields.{Field, fields, field_number, labelled_field, fields_words}
@@ -16,9 +21,12 @@ use Rattle.of_explain.specs.Notes.{size_words}
 abbrev pub header_fields : List Field
 header_fields = fields 0 tables.header (labelled_field "xid" " xid" Plainly ∷ [])
 
--- 7.3.1
+-- the capabilities are a sum of bits (7.3.1)
 abbrev pub features : List Field
-features = fields 8 tables.switch_features (labelled_field "datapath_id" " datapath" InHex ∷ [])
+features =
+    fields 8 tables.switch_features
+    (labelled_field "datapath_id" " datapath" InHex ∷ labelled_field "n_buffers" " buffers" Plainly ∷ labelled_field "n_tables" " tables" Plainly
+    ∷ labelled_field "auxiliary_id" " auxiliary_id" Plainly ∷ labelled_field "capabilities" " capabilities" Plainly ∷ [])
 
 -- 7.3.2
 abbrev pub config : List Field
@@ -90,7 +98,6 @@ told_of type =
     if type == FEATURES_REPLY then features
     else if type == GET_CONFIG_REPLY then config
     else if type == SET_CONFIG then config
-    else if type == PACKET_IN then packet_in_fields
     else if type == FLOW_REMOVED then flow_removed_fields
     else if type == PORT_STATUS then port_status_fields
     else if type == PACKET_OUT then packet_out_fields
@@ -159,11 +166,25 @@ counted_by (Some type) =
 unfoldable pub multipart_reply_fields : List ℕ → List ℕ
 multipart_reply_fields m = fields_words multipart_head_fields m ++ fields_words (counted_by (multipart_type m)) m
 
+-- ---- PACKET_IN (7.4.1): behind its fields those of its match, such as the ingress port and the metadata
+
+abbrev pub spaced_field : MatchField → List ℕ
+spaced_field e = 32 ∷ field_words e
+
+-- a match that is refused has no words
+abbrev pub and_match : Result (List MatchField × ℕ) Code → List ℕ
+and_match (Ok found) = flat_map spaced_field found.0
+and_match (Err code) = []
+
+unfoldable pub packet_in_and_match : List ℕ → List ℕ
+packet_in_and_match m = fields_words packet_in_fields m ++ and_match (match_of (drop (8 + size tables.packet_in) m))
+
 -- ---- by the type (7.1)
 
 unfoldable pub fields_of_message : ℕ → List ℕ → List ℕ
 fields_of_message type m =
     if type == ERROR then error_fields m
+    else if type == PACKET_IN then packet_in_and_match m
     else if type == MULTIPART_REQUEST then multipart_fields m
     else if type == MULTIPART_REPLY then multipart_reply_fields m
     else fields_words (told_of type) m

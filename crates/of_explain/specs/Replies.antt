@@ -1,8 +1,8 @@
--- WHAT A MULTIPART REPLY HAS: below its note each of its rows in words, and of a flow entry its match (7.3.5).
-use Rattle.std.specs.Prelude.{ℕ, zero, suc, nat_le, ◌==◌, List, [], ◌∷◌, ◌++◌, length, take, drop, map, codes, Option, Some, None, Result, Ok, Err, if◌then◌else◌}
+-- WHAT IS BELOW THE NOTE OF AN ANSWER: of a multipart reply each of its rows in words, and of a flow entry its match (7.3.5); of FLOW_REMOVED its match.
+use Rattle.std.specs.Prelude.{ℕ, zero, suc, nat_le, ◌+◌, ◌==◌, List, [], ◌∷◌, ◌++◌, length, take, drop, map, codes, Option, Some, None, Result, Ok, Err, if◌then◌else◌}
 use Rattle.std.specs.List.{flat_map}
 use Rattle.of_wire.specs.declared.code.Code.{Code}
-use Rattle.of_formats.specs.declared.messages.TheConstants.{MULTIPART_REPLY}
+use Rattle.of_formats.specs.declared.messages.TheConstants.{FLOW_REMOVED, MULTIPART_REPLY}
 use Rattle.of_formats.specs.Structs.{size}
 use Rattle.of_formats.specs.Tables as tables
 use Rattle.of_oxm.specs.declared.match_field.MatchField.{MatchField}
@@ -14,7 +14,7 @@ use Rattle.of_explain.specs.declared.fields.Form.TheVariants.{Plainly, Named, In
 use Rattle.of_explain.specs.declared.names.Names.TheVariants.{GroupTypes}
 use Rattle.of_explain.specs.Fields.{Field, fields, field_number, labelled_field, fields_words}
 use Rattle.of_explain.specs.Messages.{multipart_type}
-use Rattle.of_explain.specs.Requests.{row_line}
+use Rattle.of_explain.specs.Requests.{row_line, row_lines}
 
 -- ---- the rows
 
@@ -121,15 +121,23 @@ deeper_lines said = flat_map deeper_line said
 unfoldable pub reply_row : ℕ → List ℕ → List ℕ
 reply_row type r = (codes "        " ++ ended (fields_words (row_told type) r)) ++ deeper_lines (row_match type r)
 
--- ---- THE ROWS OF AN ANSWER: of a MULTIPART_REPLY those of its type, and of no other message
-
 abbrev pub rows_by : Option ℕ → List ℕ → List ℕ
 rows_by None body = []
 rows_by (Some type) body = flat_map (reply_row type) (rows_of_reply type body)
 
-abbrev pub rows_if : Option ℕ → List ℕ → List ℕ
-rows_if None m = []
-rows_if (Some kind) m = if kind == MULTIPART_REPLY then rows_by (multipart_type m) (drop 16 m) else []
+-- ---- FLOW_REMOVED (7.4.2): the match of the entry, as lines of flow text
 
-unfoldable pub reply_rows : List ℕ → List ℕ
-reply_rows m = rows_if (field_number "type" 0 tables.header m) m
+unfoldable pub removed_lines : List ℕ → List ℕ
+removed_lines m = row_lines (match_rows (match_of (drop (8 + size tables.flow_removed) m)))
+
+-- ---- THE LINES BELOW AN ANSWER: of other messages none
+
+abbrev pub lines_by : Option ℕ → List ℕ → List ℕ
+lines_by None m = []
+lines_by (Some kind) m =
+    if kind == MULTIPART_REPLY then rows_by (multipart_type m) (drop 16 m)
+    else if kind == FLOW_REMOVED then removed_lines m
+    else []
+
+unfoldable pub answer_lines : List ℕ → List ℕ
+answer_lines m = lines_by (field_number "type" 0 tables.header m) m

@@ -1,11 +1,11 @@
 //! What a switch gives, in words.
 ghost use Rattle.std.specs.Prelude.{◌≡◌, ◌++◌, OnOk};
 ghost use Rattle.of_text.specs.Lines.{note};
-ghost use Rattle.of_explain.specs.Explained.{effect_notes, effect_rows, explained_effect_words, switch_error_words as words_of_refusal};
+ghost use Rattle.of_explain.specs.Explained.{effect_lines, effect_notes, explained_effect_words, switch_error_words as words_of_refusal};
 
 use crate::messages::push_message;
 use crate::notes::push_port_and_size;
-use crate::replies::push_reply_rows;
+use crate::replies::push_answer_lines;
 use of_switch::{Effect, SwitchError};
 use of_text::{begin_note, end_note, push_note};
 use std::alloc::{AllocError, Global};
@@ -38,15 +38,15 @@ fn push_effect_note(alloc: Global, out: &mut Vec<u8>, effect: &Effect) -> Result
 
 // Appends what stands below the note of an effect.
 fn push_below(alloc: Global, out: &mut Vec<u8>, effect: &Effect) -> Result<(), AllocError>
-    ensures { OnOk result (out.new.items ≡ out.old.items ++ effect_rows effect.now) }
+    ensures { OnOk result (out.new.items ≡ out.old.items ++ effect_lines effect.now) }
 {
     match effect {
-        Effect::Answer(bytes) => push_reply_rows(alloc, out, bytes.as_slice()),
+        Effect::Answer(bytes) => push_answer_lines(alloc, out, bytes.as_slice()),
         Effect::Sent { .. } | Effect::Closed => Ok(()),
     }
 }
 
-/// Appends a note for each effect, and below an answer its rows.
+/// Appends a note for each effect, and below an answer its rows or its match.
 pub fn push_effects(alloc: Global, out: &mut Vec<u8>, effects: &[Effect]) -> Result<(), AllocError>
     ensures { OnOk result (out.new.items ≡ out.old.items ++ effect_notes effects.now) }
 {

@@ -1,5 +1,5 @@
 //! Fields of messages in words.
-ghost use Rattle.std.specs.Prelude.{◌≡◌, ◌≤◌, ◌<◌, ◌^◌, ◌++◌, map, IsTrue, OnOk};
+ghost use Rattle.std.specs.Prelude.{◌≡◌, ◌≤◌, ◌<◌, ◌^◌, ◌++◌, drop, map, IsTrue, OnOk};
 ghost use Rattle.of_explain.specs.Fields.{and_name, and_number, are_short, field_of, message_field_words, in_hex, big_number_at as a_number_at, words_unless_any, fields_words};
 
 use crate::names::{Names, push_name};
@@ -51,6 +51,13 @@ pub fn half_at(message: &[u8], at: usize) -> Option<u16>
     } else {
         None
     }
+}
+
+/// The bytes from that place on; none where they end before it.
+pub fn behind(bytes: &[u8], at: usize) -> &[u8]
+    ensures { result.now ≡ drop at bytes.now }
+{
+    if at < bytes.len() { &bytes[at..] } else { &[] }
 }
 
 // Appends a word and a number.

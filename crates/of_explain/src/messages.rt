@@ -1,13 +1,19 @@
 //! Messages in words.
 ghost use Rattle.std.specs.Prelude.{◌≡◌, ◌++◌, OnOk};
+ghost use Rattle.std.specs.List.{flat_map};
+ghost use Rattle.of_oxm.specs.MatchReading.{match_of};
 ghost use Rattle.of_explain.specs.Fields.{big_number_at as a_number_at};
-ghost use Rattle.of_explain.specs.Messages.{and_code, error_fields, fields_of_message, message_words, multipart_fields, multipart_reply_fields, type_and_fields};
+ghost use Rattle.of_explain.specs.Messages.{and_code, and_match, error_fields, fields_of_message, spaced_field, message_words, multipart_fields, multipart_reply_fields, packet_in_and_match, type_and_fields};
 
-use crate::fields::{half_at, number_at, push_fields};
+use crate::fields::{behind, half_at, number_at, push_fields};
 use crate::names::{Names, push_name, push_named};
 use crate::notes::push_size;
-use crate::told::{HEADER, MULTIPART, REFUSED, asked_fields, counted_fields, message_fields};
-use of_wire::Code;
+use crate::told::{
+    HEADER, MULTIPART, PACKET_IN, REFUSED, asked_fields, counted_fields, message_fields,
+};
+use of_oxm::{MatchField, read_match};
+use of_values::push_field_words;
+use of_wire::{Code, ReadError};
 use std::alloc::{AllocError, Global};
 
 // Appends the names of an error's type and code.
@@ -54,6 +60,42 @@ fn push_multipart_reply(alloc: Global, out: &mut Vec<u8>, message: &[u8]) -> Res
     push_fields(alloc, out, message, counted_fields(half_at(message, 8)))
 }
 
+fn push_spaced_field(out: &mut Vec<u8>, e: &MatchField) -> Result<(), AllocError>
+    ensures { OnOk result (out.new.items ≡ out.old.items ++ spaced_field e.now) }
+{
+    out.push(b' ')?;
+    push_field_words(out, e)
+}
+
+fn push_spaced_fields(out: &mut Vec<u8>, fields: &[MatchField]) -> Result<(), AllocError>
+    ensures { OnOk result (out.new.items ≡ out.old.items ++ flat_map spaced_field fields.now) }
+{
+    for e in fields {
+        push_spaced_field(out, e)?;
+    }
+    Ok(())
+}
+
+// Appends the fields of the match at the front of these bytes.
+fn push_match(alloc: Global, out: &mut Vec<u8>, bytes: &[u8]) -> Result<(), AllocError>
+    ensures { OnOk result (out.new.items ≡ out.old.items ++ and_match (match_of bytes.now)) }
+{
+    match read_match(alloc, bytes) {
+        Ok((found, _)) => push_spaced_fields(out, found.fields()),
+        Err(ReadError::Refused(_)) => Ok(()),
+        Err(ReadError::Memory) => Err(AllocError),
+    }
+}
+
+// PACKET_IN (7.4.1): its fields, and those of its match.
+#[tactic(auto, unfolding(crate::specs::Messages::packet_in_and_match))]
+fn push_packet_in(alloc: Global, out: &mut Vec<u8>, message: &[u8]) -> Result<(), AllocError>
+    ensures { OnOk result (out.new.items ≡ out.old.items ++ packet_in_and_match message.now) }
+{
+    push_fields(alloc, out, message, PACKET_IN)?;
+    push_match(alloc, out, behind(message, 24))
+}
+
 // Appends what a message of that type says.
 #[tactic(auto, unfolding(crate::specs::Messages::fields_of_message))]
 fn push_body(alloc: Global, out: &mut Vec<u8>, kind: u64, message: &[u8]) -> Result<(), AllocError>
@@ -61,6 +103,7 @@ fn push_body(alloc: Global, out: &mut Vec<u8>, kind: u64, message: &[u8]) -> Res
 {
     match kind {
         1 => push_error(alloc, out, message),
+        10 => push_packet_in(alloc, out, message),
         18 => push_multipart(alloc, out, message),
         19 => push_multipart_reply(alloc, out, message),
         _ => push_fields(alloc, out, message, message_fields(kind)),

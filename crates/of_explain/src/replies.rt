@@ -1,13 +1,14 @@
-//! What a multipart reply has, in words (OpenFlow 1.3.5, 7.3.5).
+//! What is below the note of an answer, in words: the rows of a multipart reply (OpenFlow 1.3.5, 7.3.5), the match of a FLOW_REMOVED (7.4.2).
 ghost use Rattle.std.specs.Prelude.{◌≡◌, ◌++◌, ◌≤◌, codes, drop, length, IfOk, IfSome, OnOk};
 ghost use Rattle.std.specs.List.{AllByRecursion, flat_map};
 ghost use Rattle.of_text.specs.Rows.{Fits};
 ghost use Rattle.of_text.specs.Lines.{ended};
 ghost use Rattle.of_explain.specs.Fields.{fields_words};
-ghost use Rattle.of_explain.specs.Replies.{deeper_line, deeper_lines, front_row, length_by, reply_row, reply_rows, row_match, row_told, rows_of_reply};
+ghost use Rattle.of_explain.specs.Messages.{multipart_type};
+ghost use Rattle.of_explain.specs.Replies.{answer_lines, deeper_line, deeper_lines, front_row, length_by, removed_lines, reply_row, row_match, row_told, rows_by, rows_of_reply};
 
-use crate::fields::{half_at, number_at, push_fields};
-use crate::requests::push_line;
+use crate::fields::{behind, half_at, number_at, push_fields};
+use crate::requests::{push_line, push_lines};
 use crate::said::match_said;
 use crate::told::row_fields;
 use of_text::{Row, begin_note, end_note};
@@ -26,13 +27,6 @@ fn row_length(kind: u16, first: Option<u16>) -> Option<u16>
         13 => Some(64),
         _ => None,
     }
-}
-
-// The bytes from that place on; none where they end before it.
-fn behind(bytes: &[u8], at: usize) -> &[u8]
-    ensures { result.now ≡ drop at bytes.now }
-{
-    if at < bytes.len() { &bytes[at..] } else { &[] }
 }
 
 // How many bytes the row at the front has; None where there is none.
@@ -81,7 +75,7 @@ fn push_deeper(out: &mut Vec<u8>, row: Row) -> Result<(), AllocError>
 }
 
 // Appends lines of flow text, each after twelve spaces.
-fn push_lines(out: &mut Vec<u8>, rows: &[Row]) -> Result<(), AllocError>
+fn push_deeper_lines(out: &mut Vec<u8>, rows: &[Row]) -> Result<(), AllocError>
     requires { AllByRecursion Fits rows.now }
     ensures { OnOk result (out.new.items ≡ out.old.items ++ deeper_lines rows.now) }
 {
@@ -98,7 +92,7 @@ fn push_row(alloc: Global, out: &mut Vec<u8>, kind: u16, row: &[u8]) -> Result<(
 {
     push_row_line(alloc, out, kind, row)?;
     let fields = match_of_row(alloc, kind, row)?;
-    push_lines(out, &fields)
+    push_deeper_lines(out, &fields)
 }
 
 // Appends the rows of a reply of this type.
@@ -113,16 +107,34 @@ fn push_rows(alloc: Global, out: &mut Vec<u8>, kind: u16, body: &[u8]) -> Result
     Ok(())
 }
 
-/// Appends the rows of a MULTIPART_REPLY, each in words after eight spaces, and below a flow entry its match as lines of flow text. Other messages have none.
-#[tactic(auto, unfolding(crate::specs::Replies::reply_rows))]
-pub fn push_reply_rows(alloc: Global, out: &mut Vec<u8>, message: &[u8]) -> Result<(), AllocError>
-    ensures { OnOk result (out.new.items ≡ out.old.items ++ reply_rows message.now) }
+// Appends the rows of a MULTIPART_REPLY.
+fn push_reply(alloc: Global, out: &mut Vec<u8>, message: &[u8]) -> Result<(), AllocError>
+    ensures { OnOk result (out.new.items ≡ out.old.items ++ rows_by (multipart_type message.now) (drop 16 message.now)) }
 {
-    let Some(19) = number_at(message, 1, 1) else {
-        return Ok(());
-    };
     match half_at(message, 8) {
         None => Ok(()),
         Some(kind) => push_rows(alloc, out, kind, behind(message, 16)),
+    }
+}
+
+// Appends the match of a FLOW_REMOVED (7.4.2).
+#[tactic(auto, unfolding(crate::specs::Replies::removed_lines))]
+fn push_removed(alloc: Global, out: &mut Vec<u8>, message: &[u8]) -> Result<(), AllocError>
+    ensures { OnOk result (out.new.items ≡ out.old.items ++ removed_lines message.now) }
+{
+    let rows = match_said(alloc, behind(message, 48))?;
+    push_lines(out, &rows)
+}
+
+/// Appends the lines below an answer, after eight spaces: the rows of a MULTIPART_REPLY in words, below a flow entry its match as lines of flow text, and
+/// the match of a FLOW_REMOVED. Other messages have none.
+#[tactic(auto, unfolding(crate::specs::Replies::answer_lines))]
+pub fn push_answer_lines(alloc: Global, out: &mut Vec<u8>, message: &[u8]) -> Result<(), AllocError>
+    ensures { OnOk result (out.new.items ≡ out.old.items ++ answer_lines message.now) }
+{
+    match number_at(message, 1, 1) {
+        Some(19) => push_reply(alloc, out, message),
+        Some(11) => push_removed(alloc, out, message),
+        _ => Ok(()),
     }
 }

@@ -3,7 +3,7 @@ ghost use Rattle.std.specs.Prelude.{◌≡◌, ◌++◌, IfOk, OnOk, length};
 ghost use Rattle.of_explain.specs.Saying.{Says, message_lines};
 
 use crate::messages::push_message;
-use crate::replies::push_reply_rows;
+use crate::replies::push_answer_lines;
 use crate::requests::push_lines;
 use crate::said::lines_said;
 use of_session::{Beginning, Stream};
@@ -18,7 +18,7 @@ fn push_message_lines(alloc: Global, out: &mut Vec<u8>, message: &[u8]) -> Resul
     out.push(b'\n')?;
     let rows = lines_said(alloc, message)?;
     push_lines(out, &rows)?;
-    push_reply_rows(alloc, out, message)
+    push_answer_lines(alloc, out, message)
 }
 
 // Appends each message of a stream.

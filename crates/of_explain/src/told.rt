@@ -17,14 +17,21 @@ pub const REFUSED: &[Field] = &[Field(" for", 13, 1, Named(Names::Types))];
 /// The type of a multipart request and of its replies (7.3.5).
 pub const MULTIPART: &[Field] = &[Field("", 8, 2, Named(Names::Multiparts))];
 
-const FEATURES: &[Field] = &[Field(" datapath", 8, 8, InHex)];
+const FEATURES: &[Field] = &[
+    Field(" datapath", 8, 8, InHex),
+    Field(" buffers", 16, 4, Plainly),
+    Field(" tables", 20, 1, Plainly),
+    Field(" auxiliary_id", 21, 1, Plainly),
+    Field(" capabilities", 24, 4, Plainly),
+];
 
 const CONFIG: &[Field] = &[
     Field(" flags", 8, 2, Plainly),
     Field(" miss_send_len", 10, 2, Plainly),
 ];
 
-const PACKET_IN: &[Field] = &[
+/// Of a PACKET_IN before its match (7.4.1).
+pub const PACKET_IN: &[Field] = &[
     Field(" reason", 14, 1, Named(Names::PacketInReasons)),
     Field(" table", 15, 1, Plainly),
     Field(" cookie", 16, 8, InHex),
@@ -164,7 +171,7 @@ const PORT_DESC_ROW: &[Field] = &[
     Field(" state", 36, 4, Plainly),
 ];
 
-/// The fields of a message of that type (7.1), but of ERROR and of multipart messages.
+/// The fields of a message of that type (7.1), but of ERROR, PACKET_IN and multipart messages.
 #[tactic(auto, unfolding(crate::specs::Messages::told_of))]
 pub fn message_fields(kind: u64) -> &'static [Field]
     ensures fields { map field_of result.now ≡ told_of kind }
@@ -173,7 +180,6 @@ pub fn message_fields(kind: u64) -> &'static [Field]
     match kind {
         6 => FEATURES,
         8 | 9 => CONFIG,
-        10 => PACKET_IN,
         11 => FLOW_REMOVED,
         12 => PORT_STATUS,
         13 => PACKET_OUT,

@@ -1,7 +1,6 @@
 //! Differences of two switches.
 use crate::files::{
-    Contents, FileRead, NoFile, PortList, port_list, push_named, read_contents, say_missing,
-    switch_of,
+    Contents, FileRead, NoFile, PortList, port_list, push_named, read_contents, switch_of,
 };
 use of_alike::Compared;
 use of_command_line::{Diff, FileKind};
@@ -93,24 +92,28 @@ fn found_between(
     let Ok(list) = ports_between(alloc, &asked.ports, &first, &second) else {
         return Err(Ended::NoMemory);
     };
-    let names_none = is_run(&first) && is_run(&second);
+    let missing: &[u32] = if is_run(&first) && is_run(&second) {
+        &[]
+    } else {
+        &list.missing
+    };
     let (Ok(first), Ok(second)) = (
         switch_of(rt, first, &list.ports),
         switch_of(rt, second, &list.ports),
     ) else {
         return Err(Ended::NoMemory);
     };
-    let missing = !names_none && say_missing(rt, asked.json, &list.missing)?;
-    let (steps, form, compared) = (
+    let mut writer = WriterSink::new(rt.stdout());
+    write_differences(
+        alloc,
+        &first,
+        &second,
+        missing,
+        compared_of(asked.frames),
         asked.steps as usize,
         form_of(asked.json),
-        compared_of(asked.frames),
-    );
-    let mut writer = WriterSink::new(rt.stdout());
-    match write_differences(alloc, &first, &second, compared, steps, form, &mut writer)? {
-        DiffVerdict::Same if missing => Ok(DiffVerdict::Undecided),
-        verdict => Ok(verdict),
-    }
+        &mut writer,
+    )
 }
 
 /// Prints which frames the switches of two files treat differently, and returns whether they treat all frames alike. The first file is read

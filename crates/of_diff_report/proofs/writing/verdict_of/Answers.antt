@@ -1,7 +1,11 @@
-use Rattle.std.proofs.Common.{Some}
+use Rattle.std.proofs.Common.{Some, ◌∙◌, sym}
 use Rattle.of_diff_report.specs.DiffFiles.{IsVerdict}
-use Rattle.of_diff_report.proofs.VerdictLemmas.{verdict_means}
+use Rattle.of_diff_report.proofs.VerdictLemmas.{same_misses_none, verdict_means}
 use Rattle.of_diff_report.proofs.writing.verdict_of.Goals as goal
 
 pub returns-in-Some-clause-means : goal.returns-in-Some-clause-means
-returns-in-Some-clause-means c = λ c' steps f g h. rw c.verdict_among.ensures (verdict_means c' steps f g (Some c.in-Some.found) (rw c.in-Some.is at h))
+returns-in-Some-clause-means c = λ c' steps f g h.
+    rw c.verdict_among.ensures (verdict_means c' steps f g c.args.missing.now (Some c.in-Some.found) (rw c.in-Some.is at h))
+
+pub returns-in-Some-clause-none_missing : goal.returns-in-Some-clause-none_missing
+returns-in-Some-clause-none_missing c = λ same. same_misses_none c.args.missing.now c.in-Some.found (sym c.verdict_among.ensures ∙ same)

@@ -2,7 +2,7 @@ use Rattle.std.proofs.Common.{◌≡◌, ◌++◌, drop}
 use Rattle.std.specs.List.{AllByRecursion}
 use Rattle.of_text.specs.Rows.{Fits}
 use Rattle.of_explain.specs.Replies.{deeper_lines}
-use Rattle.of_explain.proofs.replies.push_lines.Given as goal
+use Rattle.of_explain.proofs.replies.push_deeper_lines.Given as goal
 
 abbrev pub invariant-loop-row : goal.invariant-loop-row
 invariant-loop-row l = record {
