@@ -86,6 +86,16 @@ def test_a_datapath_id_is_hexadecimal(made, dpid, number, tmp_path):
     assert switch.dpctl("dump-flows") == f"dis {log}\n" and switch.dpctl("check") == f"check {log}\n"
 
 
+def test_what_dpctl_answers(made, tmp_path):
+    """With the version, too, as dpctl of Open vSwitch needs it."""
+    switch, log = made("1", log=str(tmp_path)), f"{tmp_path}/s1.events"
+    assert switch.dpctl("dump-flows", "-O", "OpenFlow13") == f"dis {log}\n"
+    assert switch.dpctl("trace", "in_port=1,icmp") == f"trace {log} in_port=1,icmp\n"
+    for words in ((), ("show",), ("check", "more"), ("trace",), ("trace", "one", "two")):
+        assert switch.dpctl(*words) == "ofswitch answers dump-flows, check, explain, trace FRAME\n"
+    assert made("2").dpctl("dump-flows") == "this switch has no log to answer from: give it log=FOLDER\n"
+
+
 def test_whether_a_controller_is_connected(made):
     switch = made("1")
     for said, wanted in [("", False), ("connection with 127.0.0.1:1\n", True), ("connection ended: by the controller\n", False), ("connection with 127.0.0.1:2\n", True)]:
