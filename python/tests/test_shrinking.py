@@ -104,6 +104,13 @@ def test_rows_that_are_kept():
     assert again.rows == small.rows
 
 
+def test_bytes_before_a_row_that_is_kept():
+    """They stay, too, since the message of that row begins with them; so do those at the end, which have their own line."""
+    found = units_of(["connect", "c 0400", "# keep", "c 000800000001", "c 04", "t 5"])
+    wanted = [("connect", 1, False), ("c 0400", 2, True), ("c 000800000001", 4, True), ("t 5", 6, False), ("c 04", 5, False)]
+    assert [(it.row, it.line, it.is_kept) for it in found] == wanted
+
+
 def test_a_change_in_a_row_that_is_kept(tmp_path):
     """A row with two messages, which is not cut: the frame leaves after it, and the barrier behind it changes nothing."""
     rows = [*PORTS, *START, "# keep", f"c {OUT.hex()}{messages.echo(4).hex()}", f"c {messages.barrier(5).hex()}", "t 9"]
