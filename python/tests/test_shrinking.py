@@ -234,7 +234,7 @@ def test_a_change_by_a_timeout():
 
 
 def test_a_ttl_that_expires(switch):
-    """DEC_NW_TTL of a packet of TTL 1: the controller gets it (OpenFlow 1.3.5, 6.1.2)."""
+    """DEC_NW_TTL of a packet of TTL 1: the controller gets it (OpenFlow 1.3.5, 7.4.1)."""
     switch.play_all(PORTS)
     switch.import_("ip,actions=dec_ttl,output:2")
     # from 10.0.0.1 to 10.0.0.2; its bytes are those of RFC 791, with the checksum
