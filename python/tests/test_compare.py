@@ -199,7 +199,7 @@ def test_known_differences_of_a_port(tmp_path):
 
 
 def test_entries_in_another_order_are_alike():
-    """Of one table and priority, they are told apart by their matches."""
+    """Their matches say which is which, since both have one table and priority."""
     one, other = ({"table_id": 0, "priority": 10, "match": {"in_port": port}, "packet_count": port} for port in (1, 2))
     assert list(comparison._differences([one, other], [other, one], "body")) == []
 
