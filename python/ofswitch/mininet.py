@@ -26,7 +26,11 @@ _ANSWERS = {
     "dump-flows": ["dis"],
     "check": ["check"],
     "explain": ["replay", "--explain"],
+    "trace": ["trace"],
 }
+
+# What dpctl of Open vSwitch needs for this version; here there is no other one.
+_VERSION = ("-O", "OpenFlow13")
 
 
 def _give_up(fault: Exception) -> NoReturn:
@@ -125,15 +129,17 @@ class OFSwitch(Switch):  # type: ignore[misc]
     def dpctl(self, *words: str) -> str:
         """Answers from the log: `dump-flows`, the groups and flow tables now; `check`, flows that never win; `explain`, all events in words.
 
-        If the program has ended, the first line says so.
+        `trace FRAME` has the steps that a frame would take now, such as `in_port=1,icmp,nw_dst=10.0.0.2` (docs/TRACE.md). If the
+        program has ended, the first line says so.
         """
-        command = _ANSWERS.get(words[0] if words else "")
-        if command is None or len(words) > 1:
-            return f"ofswitch answers {', '.join(_ANSWERS)}\n"
+        name, *frame = [it for it in words if it not in _VERSION] or [""]
+        command = _ANSWERS.get(name)
+        if command is None or len(frame) != (name == "trace"):
+            return f"ofswitch answers {', '.join(_ANSWERS)} FRAME\n"
         if self.log is None:
             return "this switch has no log to answer from: give it log=FOLDER\n"
         options = self._datapath() if command[0] == "replay" else []
-        done = subprocess.run([self.program, *command, *options, self.log], capture_output=True, text=True)
+        done = subprocess.run([self.program, *command, *options, self.log, *frame], capture_output=True, text=True)
         ended = self.ended()
         return ("" if ended is None else f"{ended}\n") + done.stdout + done.stderr
 

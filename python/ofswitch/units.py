@@ -26,7 +26,8 @@ class Unit(NamedTuple):
 def units_of(lines: Iterable[str]) -> list[Unit]:
     """The units of an event file. A row `c` has one message then: wherever the bytes are cut, the switch does the same."""
     units: list[Unit] = []
-    rest, is_kept, number = b"", False, 0
+    # the bytes that are no whole message yet, and the line of the last ones
+    rest, last, is_kept = b"", 0, False
     for number, row in enumerate(lines, 1):
         if row == "" or row.startswith("#"):
             is_kept = row == KEEP
@@ -34,15 +35,16 @@ def units_of(lines: Iterable[str]) -> list[Unit]:
         word = row.split(" ")[0]
         if word == "c" and not is_kept:
             whole, rest = messages_of(rest + bytes.fromhex(row[2:].strip("-")))
+            last = number
             units += [Unit(number, rows.feed(it), _kind(it)) for it in whole]
             continue
         if rest and word in ("c", "connect", "lost"):
-            units.append(Unit(number - 1, rows.feed(rest), "bytes", is_kept))
+            units.append(Unit(last, rows.feed(rest), "bytes", is_kept))
             rest = b""
         units.append(Unit(number, row, "bytes" if word == "c" else _KINDS.get(word, word), is_kept))
         is_kept = False
     if rest:
-        units.append(Unit(number, rows.feed(rest), "bytes"))
+        units.append(Unit(last, rows.feed(rest), "bytes"))
     return units
 
 

@@ -168,6 +168,22 @@ def test_ready_is_after_the_hello(bridge):
     assert not bridge.is_ready
 
 
+def test_the_next_controller_is_ready_after_its_own_hello(bridge):
+    with Controller.of(bridge):
+        bridge.ready()
+    bridge.until(lambda: not bridge.is_connected)
+    with socket.create_connection(bridge.address) as stream:
+        stream.sendall(messages.HELLO[:4])
+        bridge.until(lambda: "c 04000008" in bridge._switch.log.splitlines()[-1])
+        assert not bridge.is_ready
+
+
+def test_frames_of_one_message_are_in_order(bridge):
+    with Controller.of(bridge) as controller:
+        controller.send(messages.packet_out(FRAME, messages.output(2), messages.output(1)))
+        assert [bridge.sent(), bridge.sent()] == [Sent(2, FRAME), Sent(1, FRAME)]
+
+
 def test_a_first_message_that_is_no_hello_makes_nothing_ready(bridge):
     with socket.create_connection(bridge.address) as stream:
         stream.sendall(messages.echo(1))

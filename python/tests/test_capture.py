@@ -177,7 +177,15 @@ def raw(record):
     return changed(record, record[16 + 14 :])
 
 
-@pytest.mark.parametrize("link, form", [(1, tagged), (113, cooked), (276, cooked_2), (101, raw)])
+def with_options(record):
+    """With four bytes of IP options, NOP each (RFC 791, 3.1)."""
+    data = record[16:]
+    size = struct.unpack_from("!H", data, 16)[0] + 4
+    return changed(record, data[:14] + b"\x46" + data[15:16] + struct.pack("!H", size) + data[18:34] + b"\1\1\1\1" + data[34:])
+
+
+# the upper bits of a link type say how many bytes of a frame are its checksum
+@pytest.mark.parametrize("link, form", [(1, tagged), (113, cooked), (276, cooked_2), (101, raw), (1, with_options), (0x44000001, tagged)])
 def test_packets_of_other_links(tmp_path, link, form):
     head, found = records(CAPTURES / "osken.pcap")
     done = ran("events", written(tmp_path, of_link(head, link), map(form, found)))
@@ -203,6 +211,15 @@ def test_bytes_behind_a_packet_are_not_data(tmp_path):
     head, found = records(CAPTURES / "osken.pcap")
     done = ran("events", written(tmp_path, head, (changed(it, it[16:] + bytes(6)) for it in found)))
     assert done.stderr == "" and done.stdout == ran("events", CAPTURES / "osken.pcap").stdout
+
+
+def test_later_fragments_are_no_segments(tmp_path):
+    """A copy of the HELLO of the controller, with a fragment offset of 2,048 bytes (RFC 791, 3.1), and another xid."""
+    head, found = records(CAPTURES / "osken.pcap")
+    place = [place for place, it in enumerate(found) if has_data(it)][1]
+    later = found[place][:36] + struct.pack("!H", 256) + found[place][38:-1] + b"x"
+    done = ran("events", written(tmp_path, head, [*found[:place], later, *found[place:]]))
+    assert done.stdout == ran("events", CAPTURES / "osken.pcap").stdout
 
 
 def test_files_of_the_other_byte_order_and_of_nanoseconds(tmp_path):
@@ -279,6 +296,14 @@ def test_two_changes_of_a_port_before_its_description(tmp_path):
     talk = [*HELLOS, (1, port_status(1, 3, old)), (1, port_status(0, 3, new)), (0, ports_request(5)), (1, ports_reply(5, port_description(3, new)))]
     rows = rows_of(recorded(tmp_path, *segments(talk)))
     assert [it for it in rows if it.startswith("port")] == [f"port add 3 {old} eth3 up", "port remove 3", f"port add 3 {new} eth3 up"]
+
+
+def test_a_port_that_was_removed(tmp_path):
+    """It was there, so the frames of its capture need no note. Its name has a character that no row has."""
+    described = port_description(3, "0200000000a3").replace(b"eth3", b"et 3")
+    talk = [*HELLOS, (0, ports_request(5)), (1, ports_reply(5, described)), (1, port_status(1, 3, "0200000000a3"))]
+    done = ran("events", recorded(tmp_path, *segments(talk)), "--in", f"3={CAPTURES}/osken-p3-rx.pcap")
+    assert done.stdout.startswith("port add 3 0200000000a3 et3 up\n") and "port remove 3\n" in done.stdout and done.stderr == ""
 
 
 def test_a_description_in_several_parts(tmp_path):

@@ -6,6 +6,7 @@ import subprocess
 
 import messages
 import pytest
+from ofswitch import comparison
 from recordings import CAPTURES, COMMAND, FRAME, HELLOS, changed, features_reply, packet_in, ran, recorded, records, segments, written
 
 FEATURES = [(0, messages.features_request(7)), (1, features_reply(7, 1))]
@@ -53,12 +54,22 @@ def test_only_the_recorded_switch_ends_it(tmp_path):
     assert found == ["connection 1, its end", "    recorded: the switch ends it", "    specified: stays open", "2 alike, 1 with differences"]
 
 
-def test_an_end_behind_missing_bytes_is_not_known(tmp_path):
-    packets = [*segments([*HELLOS, *FEATURES, (0, messages.echo(9)), (1, messages.echo_reply(9)), (0, messages.echo(10))], ends=(1, 0))]
-    # without the echo reply, which the next packet acknowledges
+@pytest.mark.parametrize("asked", [messages.echo(9), BAD])
+def test_an_end_behind_missing_bytes_is_not_known(tmp_path, asked):
+    """The recorded switch ends the connection, and the specified one after BAD only."""
+    packets = [*segments([*HELLOS, *FEATURES, (0, asked), (1, messages.echo_reply(9)), (0, messages.echo(10))], ends=(1, 0))]
+    # without the answer, which the next packet acknowledges
     del packets[7]
     done = ran("compare", recorded(tmp_path, *packets), status=4)
     assert "are missing before packet" in done.stderr and "its end" not in done.stdout
+
+
+def test_a_reset_is_an_end(tmp_path):
+    packets = [*segments([*HELLOS, *FEATURES], ends=(1,))]
+    # RST and ACK in the place of FIN and ACK (RFC 9293, 3.1)
+    packets[-1] = packets[-1][:47] + b"\x14" + packets[-1][48:]
+    lines = ran("compare", recorded(tmp_path, *packets), status=4).stdout.splitlines()
+    assert lines[:3] == ["connection 1, its end", "    recorded: the switch ends it", "    specified: stays open"]
 
 
 # ---- connections that do not begin, or go on, as they should
@@ -184,6 +195,31 @@ def test_known_differences_of_a_port(tmp_path):
     assert "port 3" in ran(*other, "--accept", known, status=4).stdout.splitlines()
 
 
+# ---- what a difference is
+
+
+def test_entries_in_another_order_are_alike():
+    """Their matches say which is which, since both have one table and priority."""
+    one, other = ({"table_id": 0, "priority": 10, "match": {"in_port": port}, "packet_count": port} for port in (1, 2))
+    assert list(comparison._differences([one, other], [other, one], "body")) == []
+
+
+def test_many_lines():
+    shown = str(comparison.Difference({"port": 1}, [f"line {it}" for it in range(100)])).splitlines()
+    assert shown[:2] == ["port 1", "    line 0"] and shown[-1] == f"    .. and {100 - len(shown[1:-1])} more"
+
+
+def test_a_capture_of_a_port_in_two_files(tmp_path):
+    """The two frames that left by port 2 of osken.pcap, each in a file."""
+    inputs = [it for number in range(1, 5) for it in ("--in", f"{number}={CAPTURES}/osken-p{number}-rx.pcap")]
+    head, frames = records(CAPTURES / "osken-p2-tx.pcap")
+    parts = [tmp_path / f"{place}.pcap" for place, _ in enumerate(frames)]
+    for part, frame in zip(parts, frames):
+        part.write_bytes(head + frame)
+    lines = ran("compare", CAPTURES / "osken.pcap", *inputs, *(it for part in parts for it in ("--out", f"2={part}")), status=4).stdout.splitlines()
+    assert len(parts) == 2 and "port 2" not in lines
+
+
 # ---- captures that are odd
 
 
@@ -195,6 +231,13 @@ def test_a_port_with_a_mask(tmp_path):
     masked = messages.header(10, 0, whole[8:24] + match + bytes(2) + FRAME)
     done = ran("events", recorded(tmp_path, *segments([*HELLOS, *FEATURES, (1, masked)])))
     assert "1 PACKET_INs do not have a whole frame" in done.stderr and "f 3" not in done.stdout
+
+
+def test_a_part_of_a_frame_of_a_port_is_left_out(tmp_path):
+    head, found = records(CAPTURES / "osken-p1-rx.pcap")
+    done = ran("frames", written(tmp_path, head, [changed(found[0], found[0][16:36], 60), found[1]]), "--port", 1)
+    assert done.stdout == f"f 1 {found[1][16:].hex()}\n"
+    assert "the capture has not kept all of packet 1; left out" in done.stderr
 
 
 def test_a_frame_that_is_too_long_for_a_row(tmp_path):

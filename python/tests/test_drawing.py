@@ -72,6 +72,13 @@ def test_values_as_people_write_them(flows):
     assert "t0:e1:e -> t2:head:w" in edges
 
 
+def test_the_last_flow_that_wrote_an_action_sends(flows):
+    """Both write the OUTPUT, and the second one takes the place of the first one (OpenFlow 1.3.5, 5.10)."""
+    writes = ["flow 0 5 0x0000000000000000 0 0 0", "write", "output 2 0", "goto 1", "flow 1 5 0x0000000000000000 0 0 0", "write", "output 2 0"]
+    _, edges = drawn("--flows", flows("".join(f"{it}\n" for it in writes)), "--port", "1", FRAME)
+    assert "step" in edges["t1:e0:e -> p2"] and "step" not in edges["t0:e0:e -> p2"]
+
+
 def test_what_never_wins_is_gray(flows):
     graph, edges = drawn("--flows", flows(ROUTER))
     assert graph.count("never wins") == 1
@@ -101,6 +108,14 @@ flow 0 0 0x0000000000000000 0 0 0
 apply
 output 3 0
 """
+
+
+def test_flows_are_in_the_order_of_their_priorities(flows):
+    """Whatever their ages. A mask that is no prefix is written as an address."""
+    text = ROUTES + "flow 0 30 0x0000000000000000 0 0 0\nmatch eth_type 0x0800\nmatch ipv4_dst 0x0a000001 0xff0000ff\n"
+    graph, _ = drawn("--flows", flows(text.replace("flow 0 20", "flow 0 10", 1)))
+    places = [graph.index(f"ipv4_dst={it}") for it in ("10.0.0.1/255.0.0.255", "10.2.0.0/16", "10.1.0.0/16")]
+    assert places == sorted(places) and places[-1] < graph.index("any packet")
 
 
 def test_a_path(flows):

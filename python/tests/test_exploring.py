@@ -4,11 +4,15 @@ import pathlib
 import random
 import re
 import shutil
+import socket
 import sys
+import threading
+import time
 
+import messages
 import pytest
-from ofswitch import ProgramError, Switch
-from ofswitch.applications import RemoteApplication, load
+from ofswitch import MessageType, ProgramError, Switch
+from ofswitch.applications import RemoteApplication, application_of, load
 from ofswitch.exploring import Found, explore
 from ofswitch.laboratory import Fault, all_reach, no_error, no_loop
 
@@ -215,6 +219,91 @@ def test_conditions_of_a_test():
     fault = found(application=plain("Learning"), **ONE, always=[one_frame], at_rest=[])
     assert fault.fault.kind == "one_frame" and isinstance(fault.fault, Fault) and len(fault.schedule) == 2
     assert explore(application=plain("Learning"), **ONE, schedule=[], at_rest=[], always=[no_error]) == 1
+
+
+class Sending:
+    """A controller that sends something at the beginning of each connection, and something else at the third PACKET_IN."""
+
+    def __init__(self, first=b"", at_third=b""):
+        self.first, self.at_third, self.seen, self.losses = first, at_third, 0, 0
+
+    def connected(self, dpid, send):
+        self.send = send
+        send(messages.HELLO)
+        send(self.first)
+
+    def message(self, dpid, data):
+        self.seen += data[1] == MessageType.PACKET_IN
+        if self.seen == 3 and data[1] == MessageType.PACKET_IN:
+            self.send(self.at_third)
+
+    def lost(self, dpid):
+        self.losses += 1
+        self.first = b""
+
+
+FLOOD = messages.output(0xFFFFFFFB)
+
+
+def test_each_frame_arrives_once():
+    """Two copies are a fault; that the first of three frames is lost is none (docs/EXPLORE.md)."""
+    assert found(application=lambda: Sending(messages.flow(FLOOD, FLOOD)), **ONE, schedule=[]).fault.kind == "copies"
+    # the broadcasts of both hosts, and the first frame from one to the other, end at the controller
+    learns = lambda: Sending(messages.flow(messages.output(messages.CONTROLLER), priority=0), messages.flow(FLOOD))
+    assert explore(application=learns, **ONE, schedule=[]) == 1
+
+
+def test_hosts_receive_frames_for_them():
+    def no_others(lab):
+        assert all(it.frame[:6] in (lab.addresses[it.host], b"\xff" * 6) for it in lab.events if it.word == "received")
+
+    hosts = {"a": ("s1", 1), "b": ("s1", 2), "c": ("s1", 3)}
+    assert explore(application=lambda: Sending(messages.flow(FLOOD)), switches={"s1": 3}, hosts=hosts, at_rest=[all_reach, no_others], schedule=[]) == 1
+
+
+def test_the_controller_hears_that_the_switch_ended_the_connection():
+    """After a message whose length is that of no message. At the end there is another connection."""
+    application = Sending(bytes.fromhex("0405000700000008"))
+    assert explore(application=lambda: application, **ONE, schedule=[], always=[], at_rest=[]) == 1
+    assert application.losses == 1
+
+
+def test_actions_that_are_left_out():
+    def nobody_moves(lab):
+        assert all(it[0] not in ("move", "cut") for it in lab.story)
+
+    assert explore(application=Sending, **TWO, most=10, seconds=300, always=[nobody_moves], at_rest=[], without={"move", "cut"}) == 10
+
+
+def test_a_message_of_a_remote_controller_in_two_parts():
+    heard = []
+
+    def talk(listener):
+        stream, _ = listener.accept()
+        with stream:
+            for part in (messages.HELLO[:5], messages.HELLO[5:]):
+                stream.sendall(part)
+                time.sleep(0.1)
+            is_heard.wait(60)
+
+    is_heard = threading.Event()
+    with socket.create_server(("127.0.0.1", 0)) as listener:
+        threading.Thread(target=talk, args=[listener]).start()
+        remote = RemoteApplication(address=listener.getsockname(), quiet=1.0)
+        remote.connected(1, heard.append)
+        is_heard.set()
+        remote.close()
+    assert heard == [messages.HELLO]
+
+
+def test_a_datapath_of_os_ken_that_is_lost():
+    """What the application still sends by it is for nobody, as in os-ken itself."""
+    application, sent = application_of(os_ken("learning.py")), []
+    application.connected(1, sent.append)
+    path = application._paths[1]
+    application.lost(1)
+    path.send_msg(path.ofproto_parser.OFPHello(path))
+    assert len(sent) == 1
 
 
 def test_the_fixture(pytester, pytestconfig):

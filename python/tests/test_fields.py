@@ -3,9 +3,9 @@
 import pathlib
 
 import pytest
-from ofswitch import errors, pcap, sessions
+from ofswitch import errors, fields, pcap, sessions
 from ofswitch.fields import fields_of, summary
-from ofswitch.message_types import MessageType
+from ofswitch.message_types import MULTIPART_NAMES, MessageType
 
 CAPTURES = pathlib.Path(__file__).resolve().parent / "captures"
 
@@ -122,6 +122,56 @@ def test_groups_and_requests():
     told = fields_of(bytes(message.buf))
     assert (told["command"], told["type"], told["group_id"]) == ("ADD", "FF", 1)
     assert [(it["watch_port"], it["watch_group"], it["actions"]) for it in told["buckets"]] == [(2, 0xFFFFFFFF, ["output 2 65509"]), ("ANY", 4, [])]
+
+
+def test_names_of_numbers():
+    """The types of messages, the lists of names, and the reserved ports, beside the constants of os-ken."""
+    assert all(getattr(of, f"OFPT_{it.name}") == it for it in MessageType) and len(MessageType) == 30
+    assert [getattr(of, f"OFPMP_{it}") for it in MULTIPART_NAMES] == [*range(len(MULTIPART_NAMES))]
+    reasons = dict(zip(("OFPR_", "OFPRR_", "OFPPR_"), (fields._REASONS[it] for it in (MessageType.PACKET_IN, MessageType.FLOW_REMOVED, MessageType.PORT_STATUS))))
+    lists = {**reasons, "OFPCR_ROLE_": fields._ROLES, "OFPGT_": fields._GROUP_TYPES, "OFPFC_": fields._FLOW_COMMANDS, "OFPGC_": fields._GROUP_COMMANDS}
+    for prefix, names in lists.items():
+        assert [getattr(of, prefix + it) for it in names] == [*range(len(names))]
+    assert {getattr(of, f"OFPP_{name}"): name for name in fields.PORT_NAMES.values()} == fields.PORT_NAMES
+
+
+def test_messages_that_os_ken_writes():
+    path, match = Datapath(), parser.OFPMatch(in_port=9)
+    for message, wanted in [
+        (parser.OFPPortMod(path, 1, "02:00:00:00:00:01", 2, 3, 4), {"port_no": 1, "hw_addr": "02:00:00:00:00:01", "config": 2, "mask": 3, "advertise": 4}),
+        (parser.OFPTableMod(path, 1, 2), {"table_id": 1, "config": 2}),
+        (parser.OFPSetConfig(path, 1, 2), {"flags": 1, "miss_send_len": 2}),
+        (parser.OFPRoleRequest(path, of.OFPCR_ROLE_MASTER, 7), {"role": "MASTER", "generation_id": 7}),
+        (parser.OFPSetAsync(path, [1, 2], [3, 4], [5, 6]), dict(zip(ASYNC.split(), range(1, 7)))),
+        (parser.OFPFlowStatsRequest(path, 0, 1, 2, 3, 4, 5, match), {"table_id": 1, "out_port": 2, "out_group": 3, "cookie": 4, "cookie_mask": 5, "match": {"in_port": 9}}),
+        (parser.OFPQueueStatsRequest(path, 0, 1, 2), {"port_no": 1, "queue_id": 2}),
+        (parser.OFPMeterStatsRequest(path, 0, 1), {"meter_id": 1}),
+    ]:
+        message.set_xid(1)
+        message.serialize()
+        told = fields_of(bytes(message.buf))
+        assert told.get("body", told) == wanted
+
+
+ASYNC = "packet_in_mask packet_in_mask_slave port_status_mask port_status_mask_slave flow_removed_mask flow_removed_mask_slave"
+
+
+@pytest.mark.parametrize("kind, size, length_at", [(2, 24, None), (3, 24, None), (4, 112, None), (5, 40, None), (6, 40, 0), (8, 40, None), (9, 40, 4), (11, 16, None), (12, 64, 0)])
+def test_replies_whose_bytes_are_all_different(kind, size, length_at):
+    """Each field of an entry has another value, which is the one that os-ken reads. No field is left out."""
+    entry = bytearray(range(1, size + 1))
+    if length_at is not None:
+        entry[length_at : length_at + 2] = size.to_bytes(2, "big")
+    data = bytes.fromhex(f"0413{16 + size:04x}00000001{kind:04x}000000000000") + entry
+    body, theirs = fields_of(data)["body"], read_by_os_ken(data).body
+    [one], [other] = ([it] if not isinstance(it, list) else it for it in (body, theirs))
+    numbers = [it for it in one.values() if isinstance(it, int)]
+    if kind == 8:
+        # os-ken has the numbers of the four types of groups in lists
+        assert numbers == [other.types, other.capabilities, *other.max_groups, *other.actions]
+    else:
+        assert same(one, other) >= len(numbers) and len(set(numbers)) == len(numbers) > 2
+    assert "length" not in one
 
 
 def test_names_of_errors():

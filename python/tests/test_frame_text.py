@@ -24,6 +24,11 @@ def test_words_by_hand():
     assert in_words(ETHERNET + b"\x08\x00" + second + udp) == f"{hosts}, eth_type 0x0800, {packet}, ttl 64, 42 bytes"
     tagged = ETHERNET + bytes.fromhex("81006005") + b"\x08\x00" + IPV4
     assert in_words(tagged) == f"{hosts}, eth_type 0x0800, vlan 5 priority 3, {packet}, ttl 64, 38 bytes"
+    # of two tags the outer one (OpenFlow 1.3.5, 7.2.3.7), and a packet with four bytes of options
+    twice = ETHERNET + bytes.fromhex("88a8000b8100000a") + b"\x08\x00" + IPV4
+    assert in_words(twice) == f"{hosts}, eth_type 0x0800, vlan 11 priority 0, {packet}, ttl 64, 42 bytes"
+    longer = ETHERNET + b"\x08\x00\x46" + IPV4[1:] + b"\1\1\1\1" + udp
+    assert in_words(longer) == f"{hosts}, eth_type 0x0800, {packet}, udp 53 > 54321, ttl 64, 46 bytes"
     assert in_words(b"\x01\x02") == "2 bytes" and in_words(b"") == "0 bytes"
 
 

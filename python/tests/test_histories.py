@@ -48,6 +48,8 @@ def test_words_and_rows_of_a_log(switch, tmp_path):
 def test_arguments_with_a_fault(switch):
     with pytest.raises(ValueError, match="of a port and a frame, or of a row"):
         history(switch.log)
+    with pytest.raises(ValueError, match="of a port and a frame, or of a row"):
+        history(switch.log, 1, FRAME, row=1)
     with pytest.raises(ValueError, match="the line is no row of a frame"):
         history(switch.log, row=1)
     with pytest.raises(ValueError, match="line 1: bad row"):

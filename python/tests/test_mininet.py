@@ -7,12 +7,13 @@ import types
 
 import pytest
 from ofswitch import live
+from ofswitch.interfaces import Taken
 
 
 class MininetSwitch:
     """What the switch needs from its base class."""
 
-    inNamespace, listenPort, intfs = False, 6654, {}
+    inNamespace, listenPort, intfs = False, 6654, {0: "lo", 1: "s1-eth1", 2: "s1-eth2"}
 
     def __init__(self, name, dpid, **params):
         self.name, self.dpid = name, dpid
@@ -25,7 +26,7 @@ class Live:
     """In place of the program: it ends when the test says so."""
 
     def __init__(self, ports, words, program, output):
-        self.words, self.output, self.process = words, output, subprocess.Popen(["sleep", "60"])
+        self.ports, self.words, self.output, self.process = ports, words, output, subprocess.Popen(["sleep", "60"])
 
     def say(self, text):
         self.output.write(text.encode())
@@ -62,9 +63,9 @@ def made(monkeypatch, tmp_path):
     program.chmod(0o755)
     switches = []
 
-    def make(dpid, **options):
+    def make(dpid, controllers=None, **options):
         switch = module.OFSwitch("s1", program=str(program), dpid=dpid, **options)
-        switch.start(None)
+        switch.start(controllers)
         switches.append(switch)
         return switch
 
@@ -84,6 +85,26 @@ def test_a_datapath_id_is_hexadecimal(made, dpid, number, tmp_path):
     log = f"{tmp_path}/s1.events"
     assert switch.dpctl("explain") == f"replay --explain --dpid {number} {log}\n"
     assert switch.dpctl("dump-flows") == f"dis {log}\n" and switch.dpctl("check") == f"check {log}\n"
+
+
+def test_ports_and_controllers(made):
+    """A switch calls its first controller, and waits for one without any; lo is no port."""
+    switch = made("1")
+    assert switch.live.ports == {1: Taken("s1-eth1"), 2: Taken("s1-eth2")}
+    assert switch.live.words[2:] == ["--listen", "127.0.0.1:6654"]
+    controllers = [types.SimpleNamespace(name=f"c{it}", port=7000 + it, IP=lambda: "10.0.0.9") for it in (1, 2)]
+    assert made("2", controllers).live.words[2:] == ["--connect", "10.0.0.9:7001"]
+    assert made.warned == ["s1: ofswitch has one controller, c1\n"]
+
+
+def test_what_dpctl_answers(made, tmp_path):
+    """With the version, too, as dpctl of Open vSwitch needs it."""
+    switch, log = made("1", log=str(tmp_path)), f"{tmp_path}/s1.events"
+    assert switch.dpctl("dump-flows", "-O", "OpenFlow13") == f"dis {log}\n"
+    assert switch.dpctl("trace", "in_port=1,icmp") == f"trace {log} in_port=1,icmp\n"
+    for words in ((), ("show",), ("check", "more"), ("trace",), ("trace", "one", "two")):
+        assert switch.dpctl(*words) == "ofswitch answers dump-flows, check, explain, trace FRAME\n"
+    assert made("2").dpctl("dump-flows") == "this switch has no log to answer from: give it log=FOLDER\n"
 
 
 def test_whether_a_controller_is_connected(made):

@@ -281,6 +281,17 @@ def test_a_ring_that_changes_frames_is_named(network):
     assert {*caught.value.loop} == {("s1", 3, "s2", 2), ("s2", 3, "s3", 2), ("s3", 3, "s1", 2)}
 
 
+def test_a_trace_follows_copies_in_their_order(network):
+    """FLOOD sends by port 2 and then by port 3, and each copy is followed to its end before the next one."""
+    for name in ("s1", "s2", "s3", "s4"):
+        network.add(name, ports=3)
+        network[name].import_("actions=FLOOD")
+    network.link("s1", 2, "s2", 1)
+    network.link("s2", 2, "s3", 1)
+    network.link("s1", 3, "s4", 1)
+    assert [it.switch for it in network.trace("s1", 1, PING).hops] == ["s1", "s2", "s3", "s4"]
+
+
 def test_each_port_has_an_address_of_its_own(network):
     """Also of switches and ports whose numbers differ in high bits: 24 bits of a datapath_id and 16 of a port are in it."""
     for bit in range(24):

@@ -59,6 +59,13 @@ def test_an_offset_in_seconds(tmp_path):
     assert found.nanoseconds == BILLION + 5000
 
 
+@pytest.mark.parametrize("seconds", [-1, 1 << 40])
+def test_a_time_that_no_row_has(tmp_path, seconds):
+    """Before 1970, and in 36,812 years."""
+    with pytest.raises(CaptureError, match="a block after packet 0 is malformed"):
+        read(tmp_path, section(), interface(1, (14, struct.pack("<q", seconds))), packet(0, 5, FRAME))
+
+
 @pytest.mark.parametrize("order", "<>")
 def test_each_section_has_its_own_interfaces(tmp_path, order):
     """Interface 0 of the second section is Linux cooked, and counts nanoseconds; the second section may have another byte order."""

@@ -4,6 +4,7 @@ import os
 import random
 import subprocess
 
+import pytest
 from ofswitch import rows
 
 PROGRAM = os.environ.get("OFSWITCH", "ofswitch")
@@ -66,6 +67,12 @@ def test_names_of_ports():
     for name, wanted in named.items():
         assert rows.port_name(name, 7) == wanted
         rows.check(rows.port_add(7, None, name, True))
+
+
+@pytest.mark.parametrize("name", ["", "a b", "eth0\n", "sixteen-letters-"])
+def test_what_is_no_name_of_a_port(name):
+    with pytest.raises(ValueError):
+        rows.port_name(name, 7)
 
 
 def test_a_datapath_id_in_the_first_line():

@@ -8,7 +8,7 @@ import sys
 import messages
 import pytest
 from ofswitch import NotShown, Switch, shrink
-from ofswitch.fates import changes, fate
+from ofswitch.fates import changes, fate, last_change
 from ofswitch.units import units_of
 
 pytest_plugins = ["pytester"]
@@ -104,6 +104,13 @@ def test_rows_that_are_kept():
     assert again.rows == small.rows
 
 
+def test_bytes_before_a_row_that_is_kept():
+    """They stay, too, since the message of that row begins with them; so do those at the end, which have their own line."""
+    found = units_of(["connect", "c 0400", "# keep", "c 000800000001", "c 04", "t 5"])
+    wanted = [("connect", 1, False), ("c 0400", 2, True), ("c 000800000001", 4, True), ("t 5", 6, False), ("c 04", 5, False)]
+    assert [(it.row, it.line, it.is_kept) for it in found] == wanted
+
+
 def test_a_change_in_a_row_that_is_kept(tmp_path):
     """A row with two messages, which is not cut: the frame leaves after it, and the barrier behind it changes nothing."""
     rows = [*PORTS, *START, "# keep", f"c {OUT.hex()}{messages.echo(4).hex()}", f"c {messages.barrier(5).hex()}", "t 9"]
@@ -112,8 +119,8 @@ def test_a_change_in_a_row_that_is_kept(tmp_path):
 
 
 def test_fields():
-    """A cookie, a timeout, a second action, and the bytes of a frame behind its headers."""
-    flow = messages.flow(messages.output(2), messages.output(3), in_port=1, hard=9)
+    """A timeout, a flag, a second action, and the bytes of a frame behind its headers."""
+    flow = messages.flow(messages.output(2), messages.output(3), in_port=1, hard=9, flags=1)
     rows = [*PORTS, *START, f"c {flow.hex()}", f"f 1 {FRAME.hex()}", "t 1"]
     small = shrink(rows, lambda run: any(str(it).startswith("s 2 ") for it in run.effects), fields=True)
     *_, added, frame = small.rows
@@ -121,6 +128,27 @@ def test_fields():
     assert added == f"c {messages.flow(messages.output(2)).hex()}" and frame == f"f 1 {FRAME.hex()}"
     small = shrink([*rows, f"f 2 {FRAME.hex()}"], lambda run: str(run.rows[-1]).startswith("f 2") and any(str(it).startswith("s 2 ") for it in run.effects), fields=True)
     assert small.rows[-2:] == [f"f 1 {FRAME[:14].hex()}", f"f 2 {FRAME.hex()}"] and small.check()
+
+
+def test_fields_of_a_row_that_is_kept():
+    flow = f"c {messages.flow(messages.output(2), messages.output(3), hard=9).hex()}"
+    small = shrink([*PORTS, *START, "# keep", flow, f"f 1 {FRAME.hex()}"], lambda run: any(str(it).startswith("s 2 ") for it in run.effects), fields=True)
+    assert small.rows[-2:] == [flow, f"f 1 {FRAME.hex()}"]
+
+
+def test_actions_that_are_written():
+    """The first OUTPUT of a WRITE_ACTIONS goes, which has the place of an APPLY_ACTIONS here: its type is 3 (OpenFlow 1.3.5, 7.2.4)."""
+    one, both = (messages.flow(*map(messages.output, ports)) for ports in ([3], [2, 3]))
+    one, both = (f"c {(it[:56] + bytes([0, 3]) + it[58:]).hex()}" for it in (one, both))
+    small = shrink([*PORTS, *START, both, f"f 1 {FRAME.hex()}"], lambda run: any(str(it).startswith("s 3 ") for it in run.effects), fields=True)
+    assert small.rows[-2] == one
+
+
+def test_buffer_ids_are_others_in_fewer_rows(tmp_path):
+    """The first frame is held, too, under another id; the switch sends the same of the second one without it."""
+    flow, long = messages.flow(messages.output(messages.CONTROLLER, 20)), f"f 1 {FRAME.hex()}{'5a' * 100}"
+    rows = [*PORTS, *START, f"c {flow.hex()}", long, long]
+    assert rows_of(command(tmp_path, rows, "--row", str(len(rows))).stdout) == [PORTS[0], *rows[3:-1]]
 
 
 def test_what_is_not_shown():
@@ -176,8 +204,10 @@ def test_a_test_that_is_written(tmp_path, pytester, pytestconfig, words):
     pytester.runpytest("-p", "no:cacheprovider", *plugin).assert_outcomes(failed=1)
 
 
-def test_all_changes_are_found():
+@pytest.mark.parametrize("at_once", [7, 2000])
+def test_all_changes_are_found(monkeypatch, at_once):
     """The fates after each row, asked one by one, on a random log."""
+    monkeypatch.setattr("ofswitch.fates._QUESTIONS", at_once)
     choice = random.Random(1).choice
     flows = [messages.flow(*actions, in_port=port, priority=it) for actions in ([], [messages.output(2)]) for port in (1, None) for it in (5, 6)]
     delete = messages.header(14, 9, bytes(17) + b"\x03" + bytes(6) + b"\xff" * 12 + bytes(4) + bytes.fromhex("0001000400000000"))
@@ -193,3 +223,26 @@ def test_all_changes_are_found():
                 expected[place] = (before, after)
             before = after
     assert told == expected and len(told) > 10
+
+
+def test_a_change_by_a_timeout():
+    """A second after the hard timeout; what did it is said with its line in the file, which has a comment."""
+    lines = [*PORTS, "# a flow of ten seconds", *START, f"c {messages.flow(messages.output(2), hard=10).hex()}", "t 9000000000", "t 11000000000", f"f 1 {FRAME.hex()}"]
+    units = units_of(lines)
+    assert [units[it.place].row for it in changes(units, 1, FRAME)] == [PORTS[0], lines[6], "t 11000000000"]
+    assert last_change(lines) == ["the frame of line 10, since line 9: nothing leaves (before: out by port 2)", "    t 11000000000"]
+
+
+def test_a_ttl_that_expires(switch):
+    """DEC_NW_TTL of a packet of TTL 1: the controller gets it (OpenFlow 1.3.5, 7.4.1)."""
+    switch.play_all(PORTS)
+    switch.import_("ip,actions=dec_ttl,output:2")
+    # from 10.0.0.1 to 10.0.0.2; its bytes are those of RFC 791, with the checksum
+    assert fate(switch, 1, FRAME[:12] + bytes.fromhex("080045000014000000000100a5e80a0000010a000002")).leaves == ["to the controller: invalid TTL"]
+
+
+def test_the_place_of_an_entry_is_not_its_way(tmp_path):
+    """Without the older entry, which the frame does not hit, the entry of the frame is the first one."""
+    older = messages.flow(messages.output(2), in_port=3)
+    rows = [*PORTS, *START, f"c {older.hex()}", f"c {OUT.hex()}", f"f 1 {FRAME.hex()}"]
+    assert rows_of(command(tmp_path, rows, "--row", str(len(rows))).stdout) == [*LEFT[:-1], f"f 1 {FRAME.hex()}"]

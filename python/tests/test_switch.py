@@ -242,6 +242,8 @@ def test_flows_and_traces_change_nothing(switch):
     assert switch.log.removeprefix(log) == "port link 1 down\n"
     assert "FLOW_MOD" in switch.explain()
     assert switch.explain() == switch.explain()
+    switch.port_link(1, up=True)
+    assert switch.explain() == switch.explain()
 
 
 def test_the_log_replays_all(switch, tmp_path):
@@ -256,6 +258,17 @@ def test_the_log_replays_all(switch, tmp_path):
     switch.lost()
     assert [line.split()[0] for line in seen] == ["a", "refused", "a", "s", "a", "closed"]
     assert replayed(switch, tmp_path) == seen
+
+
+def test_a_connection_that_the_switch_ended(switch):
+    """A flow text is loaded over another one then, and ports are asked for, also while a part of a message waits."""
+    started(switch)
+    switch.feed(messages.echo(1)[:5])
+    assert [it["port_no"] for it in switch.ports()] == [1, 2]
+    # the rest of it, and a message whose length is that of no message
+    assert switch.feed(messages.echo(1)[5:] + bytes.fromhex("0405000700000008"))[-1] == Closed()
+    text = "flow 0 10 0x0000000000000000 0 0 0\nmatch in_port 0x00000001\napply\noutput 2 0\n"
+    assert switch.load(text) == [] and switch.flows() == text
 
 
 def test_the_log_as_a_file(new_switch, tmp_path):
@@ -296,8 +309,11 @@ def test_many_rows_in_one_write(switch, tmp_path):
     assert switch.play_all([]) == []
 
 
-def test_many_rows_and_a_new_run(new_switch, monkeypatch):
+@pytest.mark.parametrize("size", [999, 1 << 20])
+def test_many_rows_and_a_new_run(new_switch, monkeypatch, size):
+    """Whatever part of the log the new run gets at a time."""
     monkeypatch.setattr(Switch, "MOST_READS", 60)
+    monkeypatch.setattr("ofswitch.switch._BLOCK_SIZE", size)
     switch = new_switch()
     pids = set()
     for _ in range(60):

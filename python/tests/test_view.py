@@ -66,7 +66,7 @@ def test_tables_are_those_that_dis_prints(tmp_path, name):
 
 
 def test_edits():
-    for before, now in [([], [1, 2]), ([1, 2, 3], []), ([1, 2, 3, 4], [1, 4, 5]), ([3, 1], [1, 3]), ([1], [1])]:
+    for before, now in [([], [1, 2]), ([1, 2, 3], []), ([1, 2, 3, 4], [1, 4, 5]), ([3, 1], [1, 3]), ([1], [1]), ([1, 1], [1]), ([1], [1, 1])]:
         state = list(before)
         for at, gone, come in edits(before, now):
             state[at : at + gone] = come
@@ -81,6 +81,20 @@ def test_the_rows_that_change_where_a_frame_goes():
     found = [(shown["lines"][it["row"]], it["leaves"]) for it in fates_of(shown)]
     one, other = [[f"out by port {port}: {FRAME}"] for port in (2, 3)]
     assert found == [(1, ["not received"]), (2, ["nothing leaves"]), (10, one), (13, other), (16, one)]
+
+
+def test_comments_are_no_questions(tmp_path):
+    """A log in which somebody asks (docs/EVENTS.md): the page is that of the same log without it."""
+    text = (EXAMPLES / "failover.events").read_text()
+    (tmp_path / "asked").write_text(text.replace("connect\n", "#? flows\nconnect\n#? flows\n", 1))
+    shown, wanted = document_of(tmp_path / "asked", frame=(1, FRAME)), document_of(EXAMPLES / "failover.events", frame=(1, FRAME))
+    assert shown["entries"] == wanted["entries"] and [it["leaves"] for it in fates_of(shown)] == [it["leaves"] for it in fates_of(wanted)]
+
+
+def test_a_name_is_no_markup():
+    shown = document_of(EXAMPLES / "failover.events")
+    shown["name"] = HARM
+    assert HARM not in page_of(shown)
 
 
 def test_buffer_ids_are_no_change(tmp_path):
