@@ -1,6 +1,7 @@
 //! The command line of `ofswitch`: the words that a user types, read as a request.
 #![tactic(auto)]
 
+mod check;
 mod command;
 mod history;
 mod paths;
@@ -11,6 +12,7 @@ ghost use Rattle.std.specs.Prelude.{◌≡◌};
 ghost use Rattle.std.specs.Iterator.{IsFinite};
 ghost use Rattle.of_command_line.specs.declared.NoRequest.TheVariants.{NoMemory};
 
+use check::check_of;
 use clap::ArgMatches;
 use clap::error::{Error, ErrorKind};
 use command::command;
@@ -408,22 +410,6 @@ fn trace_of(alloc: Global, matches: &ArgMatches<'_>) -> Result<Trace, NoRequest>
     })
 }
 
-fn check_of(alloc: Global, matches: &ArgMatches<'_>) -> Result<Check, NoRequest> {
-    if matches.get_str("junit").is_some() && matches.get_str("require").is_none() {
-        return Err(refused(
-            alloc,
-            "bad --junit: there are no verdicts without --require\n",
-        )?);
-    }
-    Ok(Check {
-        of: switch_file_of(alloc, matches)?,
-        steps: steps_of(alloc, matches.get_str("steps"))?,
-        output: output_of(matches),
-        require: text_of(alloc, matches.get_str("require"))?,
-        junit: text_of(alloc, matches.get_str("junit"))?,
-    })
-}
-
 // Standard input is one of the files at most.
 fn diff_of(alloc: Global, matches: &ArgMatches<'_>) -> Result<Diff, NoRequest> {
     let (first, second) = (
@@ -467,17 +453,6 @@ fn switch_file_of(alloc: Global, matches: &ArgMatches<'_>) -> Result<SwitchFile,
         kind,
         ports: port_list_of(alloc, matches.get_str("ports"))?,
     })
-}
-
-fn output_of(matches: &ArgMatches<'_>) -> CheckOutput {
-    if matches.get_flag("json") {
-        return CheckOutput::Json;
-    }
-    match (matches.get_flag("all"), matches.get_flag("words")) {
-        (true, true) => CheckOutput::AllInWords,
-        (true, false) => CheckOutput::All,
-        (false, _) => CheckOutput::Report,
-    }
 }
 
 // A number of 32 bits as event files and flow texts write it: without a sign, and without zeros before it.

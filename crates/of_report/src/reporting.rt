@@ -65,8 +65,8 @@ pub fn write_report<L: Lookup, W: Sink>(
     writer: &mut W,
 ) -> Result<bool, Ended>
     requires { W.failures writer.old ≡ 0 }
-    ensures output { Writes (IsCheckReport result steps form further.now (view_origins origins.now) switch.now.core.forwarding.tables config.now) (ended_as result)
-        (W.taken writer.old) (W.taken writer.new) }
+    ensures output { Writes (IsCheckReport result steps form further.now (view_origins origins.now) switch.now.core.forwarding.tables config.now)
+        (ended_as result) (W.taken writer.old) (W.taken writer.new) }
     ensures write_fault { (ended_as result ≡ Ended.WriteFault) ↔ (0 < W.failures writer.new) }
 {
     let Ok(findings) = check(alloc, switch, steps) else {

@@ -19,7 +19,7 @@ use Rattle.of_paths.specs.declared.destination.Destination.TheVariants as places
 use Rattle.of_paths.specs.Places.{leaves_to}
 use Rattle.of_require.specs.declared.requirement.Demand.{Demand}
 use Rattle.of_require.specs.declared.requirement.Demand.TheVariants.{LeavesBy, LeavesOnlyBy, PassesTable}
-use Rattle.of_require.specs.Requirements.{does, goes_among, is_dropped, is_nothing}
+use Rattle.of_require.specs.Requirements.{is_done, goes_among, is_dropped, is_nothing}
 
 -- an item without its frame
 abbrev pub bare : Item → Item
@@ -98,10 +98,10 @@ module _ (tos : List Destination) where
   dropped_bare : (items : List Item) → is_dropped tos (map bare items) ≡ is_dropped tos items
   dropped_bare items = ap (λ (n : ℕ). (eqb n 0) && list_any is_nothing tos) (length-map items bare)
 
-does_bare : (d : Demand) (lines : List Step) (items : List Item) → does d lines (map bare items) ≡ does d lines items
+does_bare : (d : Demand) (lines : List Step) (items : List Item) → is_done d lines (map bare items) ≡ is_done d lines items
 does_bare (LeavesBy tos) lines items = rw (any_bare tos.items items, dropped_bare tos.items items) refl
 does_bare (LeavesOnlyBy tos) lines items = all_bare tos.items items
 does_bare (PassesTable table) lines items = refl
 
-pub same_does : (d : Demand) (lines : List Step) (xs ys : List Item) → map bare xs ≡ map bare ys → does d lines xs ≡ does d lines ys
-same_does d lines xs ys same = sym (does_bare d lines xs) ∙ ap (does d lines) same ∙ does_bare d lines ys
+pub same_does : (d : Demand) (lines : List Step) (xs ys : List Item) → map bare xs ≡ map bare ys → is_done d lines xs ≡ is_done d lines ys
+same_does d lines xs ys same = sym (does_bare d lines xs) ∙ ap (is_done d lines) same ∙ does_bare d lines ys

@@ -26,7 +26,7 @@ use Rattle.of_require.specs.declared.requirement.Requirement.{Requirement}
 use Rattle.of_require.specs.declared.deciding.Shown.{Shown}
 use Rattle.of_require.specs.Deciding.{IsShownOf, class_decides, first_decides}
 use Rattle.of_require.specs.Decisions.{IsDeciding, NoneDecides, NoneMatch, decides}
-use Rattle.of_require.specs.Requirements.{does}
+use Rattle.of_require.specs.Requirements.{is_done}
 use Rattle.of_require.proofs.BareLemmas.{bare, bare_all, same_does}
 
 both : (a b : Bool) → (a && b) ≡ true → (a ≡ true) × (b ≡ true)
@@ -121,7 +121,7 @@ module _ (w : TheWorld) (r : Requirement) (steps port : ℕ) (found : Paths) (fi
         let lines : lines_at w frame q ≡ lines_at w c.frame.items c.in_port = is_path.takes frame q received in_it ∙ sym (is_path.takes c.frame.items c.in_port class.received inside) in
         let at : q ≡ c.in_port = is ∙ sym own_match.0 in
         let mine : items_at w frame q ≡ items_for w.ports path.emitted.items frame c.in_port = is_path.emits frame q received in_it ∙ ap (items_for w.ports path.emitted.items frame) at in
-        let items : does r.demand (lines_at w c.frame.items c.in_port) (items_at w frame q) ≡ does r.demand (lines_at w c.frame.items c.in_port) (items_at w c.frame.items c.in_port) =
+        let items : is_done r.demand (lines_at w c.frame.items c.in_port) (items_at w frame q) ≡ is_done r.demand (lines_at w c.frame.items c.in_port) (items_at w c.frame.items c.in_port) =
         same_does r.demand (lines_at w c.frame.items c.in_port) _ _
         (ap (map bare) mine ∙ bare_all w.ports frame c.frame.items c.in_port path.emitted.items ∙ ap (map bare) (sym (is_path.emits c.frame.items c.in_port class.received inside))) in
         rw (lines, items) refl ∙ sym own_run

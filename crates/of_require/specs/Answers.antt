@@ -7,8 +7,8 @@ use Rattle.of_require.specs.declared.deciding.Verdict.TheVariants.{Fails, Holds,
 use Rattle.of_require.specs.Decisions.{IsDecision, verdict_by}
 
 -- what is found about the requirement of its line
-abbrev pub IsAnswer : TheWorld → ℕ → Answer → Type 0
-IsAnswer w steps answer = IsDecision w answer.line.requirement steps answer.decision
+abbrev pub IsFoundAbout : TheWorld → ℕ → Answer → Type 0
+IsFoundAbout w steps answer = IsDecision w answer.line.requirement steps answer.decision
 
 abbrev pub verdict_of : Answer → Verdict
 verdict_of answer = verdict_by answer.line.requirement.quantifier answer.decision

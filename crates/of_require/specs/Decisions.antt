@@ -17,17 +17,17 @@ use Rattle.of_require.specs.declared.requirement.Quantifier.TheVariants.{AtLeast
 use Rattle.of_require.specs.declared.requirement.Requirement.{Requirement}
 use Rattle.of_require.specs.declared.deciding.Verdict.{Verdict}
 use Rattle.of_require.specs.declared.deciding.Verdict.TheVariants as verdicts
-use Rattle.of_require.specs.Requirements.{IsAbout, IsMet, does, does_at, is_counted}
+use Rattle.of_require.specs.Requirements.{IsAbout, IsMet, is_done, does_at, is_counted}
 
 -- a frame of which it is asked whether it does something decides: against `each` if it does not, against `no` and for `some` if it does
 abbrev pub decides_so : Quantifier → Bool → Bool
-decides_so Each does = not does
-decides_so No does = does
-decides_so AtLeastOne does = does
+decides_so Each is_done = not is_done
+decides_so No is_done = is_done
+decides_so AtLeastOne is_done = is_done
 
 -- by the steps and the items of its run; one that is left out decides nothing
 abbrev pub decides : Requirement → List Step → List Item → Bool
-decides r lines items = is_counted r.except_expired lines && decides_so r.quantifier (does r.demand lines items)
+decides r lines items = is_counted r.except_expired lines && decides_so r.quantifier (is_done r.demand lines items)
 
 -- A FRAME DECIDES a requirement that is about it
 pub record IsDeciding (w : TheWorld) (r : Requirement) (frame : List ℕ) (port : ℕ) : Type 0 where
@@ -43,7 +43,7 @@ abbrev pub NoneMatch : TheWorld → Requirement → (ℕ → Type 0) → Type 0
 NoneMatch w r among = (frame : List ℕ) (port : ℕ) → among port → IsReceivedAt w frame port → matches_map r.within.items (received_fields frame port) ≡ true → ⊥
 
 -- of the frames that come in by some port, it is not known of all what they do
-pub record IsUndecided (w : TheWorld) (r : Requirement) (steps : ℕ) : Type 0 where
+pub record IsUndecidedAtPort (w : TheWorld) (r : Requirement) (steps : ℕ) : Type 0 where
   pub port : ℕ
   pub found : Paths
   pub paths : ArePaths merging.Each w (came_in_by port ∷ r.within.items) steps found
@@ -54,7 +54,7 @@ abbrev pub IsDecisionAmong : (ℕ → Type 0) → TheWorld → Requirement → �
 IsDecisionAmong among w r steps (Frame shown) = IsDeciding w r shown.frame.items shown.in_port × (shown.items.items ≡ items_at w shown.frame.items shown.in_port)
 IsDecisionAmong among w r steps NoFrame = NoneDecides w r among
 IsDecisionAmong among w r steps NoneMatches = NoneMatch w r among
-IsDecisionAmong among w r steps Undecided = IsUndecided w r steps
+IsDecisionAmong among w r steps Undecided = IsUndecidedAtPort w r steps
 
 -- for all frames
 abbrev pub IsDecision : TheWorld → Requirement → ℕ → Decision → Type 0

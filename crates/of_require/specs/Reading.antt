@@ -22,7 +22,7 @@ use Rattle.of_require.specs.declared.requirement.Demand.TheVariants as demands
 use Rattle.of_require.specs.declared.requirement.Quantifier.{Quantifier}
 use Rattle.of_require.specs.declared.requirement.Quantifier.TheVariants.{AtLeastOne, Each, No}
 use Rattle.of_require.specs.declared.requirement.Requirement.{Requirement}
-use Rattle.of_require.specs.Refusals.{LineRefusal, refused}
+use Rattle.of_require.specs.Refusals.{LineRefusal, word_refused}
 
 -- ---- words
 
@@ -32,24 +32,24 @@ unspaced [] = []
 unspaced (b ∷ bs) = if b == 32 then unspaced bs else b ∷ bs
 
 -- the first word, and the text behind it
-abbrev pub word_of : List ℕ → List ℕ
-word_of text = before 32 (unspaced text)
+abbrev pub first_word_in : List ℕ → List ℕ
+first_word_in text = before 32 (unspaced text)
 
 abbrev pub behind_word : List ℕ → List ℕ
 behind_word text = behind 32 (unspaced text)
 
 -- the text behind a word that has to be the first one
 abbrev pub behind_expected : List ℕ → Why → List ℕ → Result (List ℕ) LineRefusal
-behind_expected name why text = if bytes_eq (word_of text) name then Ok (behind_word text) else refused (word_of text) why
+behind_expected name why text = if bytes_eq (first_word_in text) name then Ok (behind_word text) else word_refused (first_word_in text) why
 
 -- ---- places: `2,3,controller`
 
 abbrev pub place_at : List ℕ → Result ℕ WordWhy → Result Destination LineRefusal
-place_at word (Err why) = refused word whys.Place
+place_at word (Err why) = word_refused word whys.Place
 place_at word (Ok port) =
     if port == OFPP_CONTROLLER then Ok Controller
     else if is_port_number port then Ok (Port port)
-    else refused word whys.Place
+    else word_refused word whys.Place
 
 abbrev pub place_named : List ℕ → Result Destination LineRefusal
 place_named word = if bytes_eq word (codes "drop") then Ok Nothing else place_at word (port_in Unknown word)
@@ -61,7 +61,7 @@ places_with places (w ∷ ws) = place_named w >>= λ to. places_with (places ++ 
 
 -- one place at least
 abbrev pub places_in : List ℕ → Result (List Destination) LineRefusal
-places_in text = if length text == 0 then refused text whys.Place else places_with [] (words_from 0 text)
+places_in text = if length text == 0 then word_refused text whys.Place else places_with [] (words_from 0 text)
 
 -- ---- what frames do: `leaves by 2,3`, `leaves only by 2,controller` or `passes table 1`
 
@@ -75,28 +75,28 @@ view_demand (demands.LeavesBy places) = LeavesBy places.items
 view_demand (demands.LeavesOnlyBy places) = LeavesOnlyBy places.items
 view_demand (demands.PassesTable table) = PassesTable table
 
-abbrev pub table_at : List ℕ → Result ℕ WordWhy → Result ℕ LineRefusal
-table_at word (Err why) = refused word whys.Table
-table_at word (Ok table) = Ok table
+abbrev pub table_named : List ℕ → Result ℕ WordWhy → Result ℕ LineRefusal
+table_named word (Err why) = word_refused word whys.Table
+table_named word (Ok table) = Ok table
 
 -- each with the text behind it
 abbrev pub by_said : (List Destination → SaidDemand) → List ℕ → Result (SaidDemand × List ℕ) LineRefusal
 by_said demand text =
-    behind_expected (codes "by") whys.Demand text >>= λ rest. places_in (word_of rest) >>= λ places. Ok (demand places, behind_word rest)
+    behind_expected (codes "by") whys.Demand text >>= λ rest. places_in (first_word_in rest) >>= λ places. Ok (demand places, behind_word rest)
 
 abbrev pub leaving_said : List ℕ → Result (SaidDemand × List ℕ) LineRefusal
-leaving_said text = if bytes_eq (word_of text) (codes "only") then by_said LeavesOnlyBy (behind_word text) else by_said LeavesBy text
+leaving_said text = if bytes_eq (first_word_in text) (codes "only") then by_said LeavesOnlyBy (behind_word text) else by_said LeavesBy text
 
 abbrev pub passing_said : List ℕ → Result (SaidDemand × List ℕ) LineRefusal
 passing_said text =
     behind_expected (codes "table") whys.Demand text
-    >>= λ rest. table_at (word_of rest) (numbered TABLES (word_of rest)) >>= λ table. Ok (PassesTable table, behind_word rest)
+    >>= λ rest. table_named (first_word_in rest) (numbered TABLES (first_word_in rest)) >>= λ table. Ok (PassesTable table, behind_word rest)
 
 abbrev pub demand_said : List ℕ → Result (SaidDemand × List ℕ) LineRefusal
 demand_said text =
-    if bytes_eq (word_of text) (codes "leaves") then leaving_said (behind_word text)
-    else if bytes_eq (word_of text) (codes "passes") then passing_said (behind_word text)
-    else refused (word_of text) whys.Demand
+    if bytes_eq (first_word_in text) (codes "leaves") then leaving_said (behind_word text)
+    else if bytes_eq (first_word_in text) (codes "passes") then passing_said (behind_word text)
+    else word_refused (first_word_in text) whys.Demand
 
 -- ---- the end of the line, or `except ttl`
 
@@ -104,7 +104,7 @@ abbrev pub is_blank : List ℕ → Bool
 is_blank text = length (unspaced text) == 0
 
 abbrev pub end_said : List ℕ → Result Bool LineRefusal
-end_said text = if is_blank text then Ok true else refused (word_of text) whys.Ending
+end_said text = if is_blank text then Ok true else word_refused (first_word_in text) whys.Ending
 
 abbrev pub ending_said : List ℕ → Result Bool LineRefusal
 ending_said text =
@@ -118,12 +118,12 @@ is_demand_word word = bytes_eq word (codes "leaves") || bytes_eq word (codes "pa
 
 abbrev pub match_refused : Result (List MatchField) WordRefusal → Result (List MatchField) LineRefusal
 match_refused (Ok fields) = Ok fields
-match_refused (Err r) = refused r.word (whys.Match r.why)
+match_refused (Err r) = word_refused r.word (whys.Match r.why)
 
 abbrev pub match_said : List ℕ → Result (List MatchField × List ℕ) LineRefusal
 match_said text =
-    if is_demand_word (word_of text) then Ok ([], text)
-    else match_refused (conditions_in_words (word_of text)) >>= λ fields. Ok (fields, behind_word text)
+    if is_demand_word (first_word_in text) then Ok ([], text)
+    else match_refused (conditions_in_words (first_word_in text)) >>= λ fields. Ok (fields, behind_word text)
 
 -- ---- THE REQUIREMENT of a line. Refused is the first word without a meaning.
 
@@ -132,7 +132,7 @@ quantifier_named word =
     if bytes_eq word (codes "no") then Ok No
     else if bytes_eq word (codes "each") then Ok Each
     else if bytes_eq word (codes "some") then Ok AtLeastOne
-    else refused word whys.Beginning
+    else word_refused word whys.Beginning
 
 pub record SaidRequirement : Type 0 where
   pub quantifier : Quantifier
@@ -153,4 +153,4 @@ frames_said quantifier text =
     >>= λ except. Ok (record { quantifier = quantifier; within = m.0; demand = d.0; except_expired = except })
 
 unfoldable pub requirement_said : List ℕ → Result SaidRequirement LineRefusal
-requirement_said line = quantifier_named (word_of line) >>= λ quantifier. frames_said quantifier (behind_word line)
+requirement_said line = quantifier_named (first_word_in line) >>= λ quantifier. frames_said quantifier (behind_word line)

@@ -9,13 +9,13 @@ pub record LineRefusal : Type 0 where
   pub word : List ℕ
   pub why : Why
 
-abbrev pub refused : {A : Type 0} → List ℕ → Why → Result A LineRefusal
-refused word why = Err (record { word = word; why = why })
+abbrev pub word_refused : {A : Type 0} → List ℕ → Why → Result A LineRefusal
+word_refused word why = Err (record { word = word; why = why })
 
 -- it is the refusal of this outcome, unless memory ran out
 abbrev pub LineStops : {A : Type 0} → Result A LineRefusal → NoRequirement → Type 0
 LineStops outcome NoMemory = Unit {0}
-LineStops outcome (Refused r) = outcome ≡ refused r.word.items r.why
+LineStops outcome (Refused r) = outcome ≡ word_refused r.word.items r.why
 
 abbrev pub IsLineRefusal : List ℕ → Why → NoRequirement → Type 0
 IsLineRefusal word why NoMemory = Unit {0}

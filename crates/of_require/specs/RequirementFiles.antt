@@ -21,26 +21,26 @@ pub record FileRefusal : Type 0 where
   pub line : ℕ
   pub refusal : LineRefusal
 
-abbrev pub at_line : ℕ → Result SaidRequirement LineRefusal → Result SaidRequirement FileRefusal
-at_line number (Ok r) = Ok r
-at_line number (Err refusal) = Err (record { line = number; refusal = refusal })
+abbrev pub at_requirement_line : ℕ → Result SaidRequirement LineRefusal → Result SaidRequirement FileRefusal
+at_requirement_line number (Ok r) = Ok r
+at_requirement_line number (Err refusal) = Err (record { line = number; refusal = refusal })
 
 -- a line without CR at its end
 abbrev pub line_text : List ℕ → List ℕ
 line_text line = before 13 line
 
-abbrev pub is_left_out : List ℕ → Bool
-is_left_out line = is_passed line || is_blank line
+abbrev pub is_passed_or_blank : List ℕ → Bool
+is_passed_or_blank line = is_passed line || is_blank line
 
 -- these requirements and that of a line
-abbrev pub with_line : List SaidLine → ℕ → List ℕ → Result (List SaidLine) FileRefusal
-with_line said number line =
-    if is_left_out (line_text line) then Ok said
-    else at_line number (requirement_said (line_text line)) >>= λ r. Ok (said ++ record { number = number; text = line_text line; requirement = r } ∷ [])
+abbrev pub with_requirement_line : List SaidLine → ℕ → List ℕ → Result (List SaidLine) FileRefusal
+with_requirement_line said number line =
+    if is_passed_or_blank (line_text line) then Ok said
+    else at_requirement_line number (requirement_said (line_text line)) >>= λ r. Ok (said ++ record { number = number; text = line_text line; requirement = r } ∷ [])
 
 abbrev pub with_lines : List SaidLine → ℕ → List (List ℕ) → Result (List SaidLine) FileRefusal
 with_lines said number [] = Ok said
-with_lines said number (line ∷ lines) = with_line said number line >>= λ next. with_lines next (number + 1) lines
+with_lines said number (line ∷ lines) = with_requirement_line said number line >>= λ next. with_lines next (number + 1) lines
 
 -- THE REQUIREMENTS OF A FILE. Refused is the first line that is neither a requirement nor passed over.
 abbrev pub requirements_in : List ℕ → Result (List SaidLine) FileRefusal

@@ -38,10 +38,10 @@ is_lookup_in table (Entry t number) = t == table
 is_lookup_in table (Miss t) = t == table
 is_lookup_in table other = false
 
-abbrev pub does : Demand → List Step → List Item → Bool
-does (LeavesBy places) lines items = list_any (goes_among places.items) items || is_dropped places.items items
-does (LeavesOnlyBy places) lines items = list_all (goes_among places.items) items
-does (PassesTable table) lines items = list_any (is_lookup_in table) lines
+abbrev pub is_done : Demand → List Step → List Item → Bool
+is_done (LeavesBy places) lines items = list_any (goes_among places.items) items || is_dropped places.items items
+is_done (LeavesOnlyBy places) lines items = list_all (goes_among places.items) items
+is_done (PassesTable table) lines items = list_any (is_lookup_in table) lines
 
 -- ---- the frames that a requirement is about
 
@@ -60,7 +60,7 @@ pub record IsAbout (w : TheWorld) (r : Requirement) (frame : List ℕ) (port : �
   pub counted : is_counted r.except_expired (lines_at w frame port) ≡ true
 
 abbrev pub does_at : TheWorld → Requirement → List ℕ → ℕ → Bool
-does_at w r frame port = does r.demand (lines_at w frame port) (items_at w frame port)
+does_at w r frame port = is_done r.demand (lines_at w frame port) (items_at w frame port)
 
 -- ---- WHETHER A SWITCH MEETS A REQUIREMENT: no frame that it is about does it, or each does, or one does
 

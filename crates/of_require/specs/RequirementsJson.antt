@@ -28,11 +28,11 @@ shown_members other = []
 unfoldable pub line_members : Answer → List ℕ
 line_members a = key (codes "line") ++ decimal a.line.number ++ string_member (codes "requirement") a.line.text.items
 
-unfoldable pub verdict_members : Answer → List ℕ
-verdict_members a = text_member (codes "verdict") (verdict_name (verdict_of a)) ++ truth_member (codes "matches") (may_match a.decision) ++ shown_members a.decision
+unfoldable pub requirement_verdict_members : Answer → List ℕ
+requirement_verdict_members a = text_member (codes "verdict") (verdict_name (verdict_of a)) ++ truth_member (codes "matches") (may_match a.decision) ++ shown_members a.decision
 
 unfoldable pub answer_object : Answer → List ℕ
-answer_object a = 123 ∷ line_members a ++ verdict_members a ++ 125 ∷ []
+answer_object a = 123 ∷ line_members a ++ requirement_verdict_members a ++ 125 ∷ []
 
 unfoldable pub requirements_member : List Answer → List ℕ
 requirements_member answers = array_member (codes "requirements") (listed answer_object answers)

@@ -23,18 +23,18 @@ verdict_line a = verdict_said (verdict_of a) ++ codes ": line " ++ decimal a.lin
 
 -- ---- the frame that decides, its bytes and its words, and what leaves
 
-unfoldable pub words_line : List ℕ → List ℕ
-words_line words = codes "    in words: " ++ words ++ 10 ∷ []
+unfoldable pub frame_words_line : List ℕ → List ℕ
+frame_words_line words = codes "    in words: " ++ words ++ 10 ∷ []
 
 abbrev pub in_words : Option (List ℕ) → List ℕ
 in_words None = []
-in_words (Some words) = words_line words
+in_words (Some words) = frame_words_line words
 
-unfoldable pub shown_words : Shown → List ℕ
-shown_words s = frame_line s.in_port s.frame.items ++ in_words (frame_words_of s.in_port s.frame.items) ++ side_words (codes "    ") s.items.items
+unfoldable pub deciding_frame_words : Shown → List ℕ
+deciding_frame_words s = frame_line s.in_port s.frame.items ++ in_words (frame_words_of s.in_port s.frame.items) ++ side_words (codes "    ") s.items.items
 
 unfoldable pub decision_words : Decision → List ℕ
-decision_words (Frame shown) = shown_words shown
+decision_words (Frame shown) = deciding_frame_words shown
 decision_words NoFrame = []
 decision_words NoneMatches = codes "    the switch receives no frame that matches" ++ 10 ∷ []
 decision_words Undecided = codes "    it is not known of all frames that match; --steps takes more steps" ++ 10 ∷ []
@@ -55,15 +55,15 @@ answer_words all a = if is_told all a then verdict_line a ++ decision_words a.de
 
 -- ---- the summary: `6 requirements: 5 hold, 1 fails, 0 undecided`
 
-unfoldable pub counted : ℕ → List ℕ → List ℕ → List ℕ
-counted n one more = decimal n ++ (if n == 1 then one else more)
+unfoldable pub counted_noun : ℕ → List ℕ → List ℕ → List ℕ
+counted_noun n one more = decimal n ++ (if n == 1 then one else more)
 
 unfoldable pub verdict_counts : ℕ → ℕ → ℕ → List ℕ
-verdict_counts hold fail undecided = counted hold (codes " holds, ") (codes " hold, ") ++ counted fail (codes " fails, ") (codes " fail, ") ++ decimal undecided ++ codes " undecided"
+verdict_counts hold fail undecided = counted_noun hold (codes " holds, ") (codes " hold, ") ++ counted_noun fail (codes " fails, ") (codes " fail, ") ++ decimal undecided ++ codes " undecided"
 
 unfoldable pub requirements_summary : List Answer → List ℕ
 requirements_summary answers =
-    counted (length answers) (codes " requirement: ") (codes " requirements: ")
+    counted_noun (length answers) (codes " requirement: ") (codes " requirements: ")
     ++ verdict_counts (count_verdicts verdicts.Holds answers) (count_verdicts verdicts.Fails answers) (count_verdicts verdicts.Undecided answers) ++ 10 ∷ []
 
 -- THE REPORT

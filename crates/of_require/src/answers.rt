@@ -3,7 +3,7 @@ ghost use Rattle.std.specs.Prelude.{◌≡◌, IfOk, map};
 ghost use Rattle.std.specs.List.{AllByRecursion};
 ghost use Rattle.of_datapath.specs.Datapath.{world_of};
 ghost use Rattle.of_datapath.specs.Numbers.{forwarding_of};
-ghost use Rattle.of_require.specs.Answers.{IsAnswer, verdict_of, worst_of, worse_of};
+ghost use Rattle.of_require.specs.Answers.{IsFoundAbout, verdict_of, worst_of, worse_of};
 
 use crate::deciding::{Decision, Verdict, decide};
 use crate::line::Line;
@@ -35,7 +35,7 @@ pub fn answer_all<L: Lookup>(
     steps: usize,
 ) -> Result<Vec<Answer>, AllocError>
     ensures lines { IfOk result (λ answers. map (λ answer. answer.line) answers.items ≡ lines.items) }
-    ensures right { IfOk result (λ answers. AllByRecursion (IsAnswer (world_of (forwarding_of datapath.now)) steps) answers.items) }
+    ensures right { IfOk result (λ answers. AllByRecursion (IsFoundAbout (world_of (forwarding_of datapath.now)) steps) answers.items) }
 {
     let mut answers = Vec::new(alloc);
     for line in lines {

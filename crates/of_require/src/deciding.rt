@@ -125,8 +125,8 @@ fn decide_at<L: Lookup>(
 
 // What is found of the frames that come in by the ports of the one or of the other.
 fn joined(so_far: Decision, next: Decision) -> Decision
-    ensures { (ports others : List ℕ) (w : TheWorld) (r : ARequirement) (steps : ℕ) → IsDecisionFor ports w r steps so_far → IsDecisionFor others w r steps next →
-        IsDecisionFor (ports ++ others) w r steps result }
+    ensures { (ports others : List ℕ) (w : TheWorld) (r : ARequirement) (steps : ℕ) → IsDecisionFor ports w r steps so_far →
+        IsDecisionFor others w r steps next → IsDecisionFor (ports ++ others) w r steps result }
 {
     match (so_far, next) {
         (Decision::Frame(shown), _) | (_, Decision::Frame(shown)) => Decision::Frame(shown),

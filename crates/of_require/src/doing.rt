@@ -3,7 +3,7 @@ ghost use Rattle.std.specs.Prelude.{◌≡◌};
 ghost use Rattle.std.specs.List.{list_all, list_any};
 ghost use Rattle.of_paths.specs.Places.{leaves_to};
 ghost use Rattle.of_require.specs.Decisions.{decides as decides_by};
-ghost use Rattle.of_require.specs.Requirements.{does as does_by, goes_among, is_counted as is_counted_by, is_dropped as is_dropped_by, is_expiry, is_lookup_in, is_nothing};
+ghost use Rattle.of_require.specs.Requirements.{is_done as does_by, goes_among, is_counted as is_counted_by, is_dropped as is_dropped_by, is_expiry, is_lookup_in, is_nothing};
 
 use crate::requirement::{Demand, Quantifier, Requirement};
 use of_machine::{Item, Step};
@@ -90,7 +90,7 @@ fn some_expires(steps: &[Step]) -> bool
 }
 
 // Whether a frame with these steps, for which these items are emitted, does it.
-fn does(demand: &Demand, steps: &[Step], items: &[Item]) -> bool
+fn is_done(demand: &Demand, steps: &[Step], items: &[Item]) -> bool
     ensures { result ≡ does_by demand.now steps.now items.now }
 {
     match demand {
@@ -111,7 +111,7 @@ fn is_counted(except_expired: bool, steps: &[Step]) -> bool
 pub fn decides(requirement: &Requirement, steps: &[Step], items: &[Item]) -> bool
     ensures { result ≡ decides_by requirement.now steps.now items.now }
 {
-    let does = does(&requirement.demand, steps, items);
+    let is_done = is_done(&requirement.demand, steps, items);
     let wanted = requirement.quantifier != Quantifier::Each;
-    is_counted(requirement.except_expired, steps) && does == wanted
+    is_counted(requirement.except_expired, steps) && is_done == wanted
 }

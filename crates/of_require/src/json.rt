@@ -1,6 +1,6 @@
 //! The report on requirements as JSON.
 ghost use Rattle.std.specs.Prelude.{◌≡◌, ◌++◌, IfOk, OnOk};
-ghost use Rattle.of_require.specs.RequirementsJson.{answer_object, line_members, may_match as may_match_so, requirements_member, shown_members, verdict_members, verdict_name as name_of_verdict};
+ghost use Rattle.of_require.specs.RequirementsJson.{answer_object, line_members, may_match as may_match_so, requirements_member, shown_members, requirement_verdict_members, verdict_name as name_of_verdict};
 
 use crate::answers::Answer;
 use crate::deciding::{Decision, Verdict};
@@ -52,9 +52,9 @@ fn push_line_members(out: &mut Vec<u8>, answer: &Answer) -> Result<(), AllocErro
     push_string_member(out, b"requirement", &answer.line.text)
 }
 
-#[tactic(auto, unfolding(crate::specs::RequirementsJson::verdict_members))]
+#[tactic(auto, unfolding(crate::specs::RequirementsJson::requirement_verdict_members))]
 fn push_verdict_members(alloc: Global, out: &mut Vec<u8>, answer: &Answer) -> Result<(), AllocError>
-    ensures { OnOk result (out.new.items ≡ out.old.items ++ verdict_members answer.now) }
+    ensures { OnOk result (out.new.items ≡ out.old.items ++ requirement_verdict_members answer.now) }
 {
     push_text_member(out, b"verdict", verdict_name(answer.verdict()))?;
     push_truth_member(out, b"matches", may_match(&answer.decision))?;

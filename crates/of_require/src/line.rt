@@ -3,7 +3,7 @@ ghost use Rattle.std.specs.Prelude.{◌≡◌, ◌++◌, map, IfErr, IfOk, OnOk,
 ghost use Rattle.of_regions.specs.Conditions.{AreConditions};
 ghost use Rattle.of_frame_words.specs.Conditions.{conditions_in_words};
 ghost use Rattle.of_require.specs.Reading.{is_demand_word as is_demand_name, match_refused, match_said, quantifier_named, requirement_said, view_requirement};
-ghost use Rattle.of_require.specs.RequirementFiles.{at_line, is_left_out as is_no_requirement, FileStops, requirements_in, view_line, with_line};
+ghost use Rattle.of_require.specs.RequirementFiles.{at_requirement_line, is_passed_or_blank as is_no_requirement, FileStops, requirements_in, view_line, with_requirement_line};
 ghost use Rattle.of_require.specs.Refusals.{LineStops};
 
 use crate::reading::{behind_expected, first_word, is_blank, read_demand, read_ending};
@@ -98,7 +98,7 @@ pub fn read_requirement(alloc: Global, line: &[u8]) -> Result<Requirement, NoReq
     })
 }
 
-fn is_left_out(line: &[u8]) -> bool
+fn is_passed_or_blank(line: &[u8]) -> bool
     ensures { result ≡ is_no_requirement line.now }
 {
     is_passed_over(line) || is_blank(line)
@@ -106,8 +106,8 @@ fn is_left_out(line: &[u8]) -> bool
 
 // The requirement of the line with a number.
 fn read_at(alloc: Global, number: usize, text: &[u8]) -> Result<Requirement, NoRequirements>
-    ensures is { IfOk result (λ requirement. at_line number (requirement_said text.now) ≡ Ok (view_requirement requirement)) }
-    ensures stopped { IfErr result (FileStops (at_line number (requirement_said text.now))) }
+    ensures is { IfOk result (λ requirement. at_requirement_line number (requirement_said text.now) ≡ Ok (view_requirement requirement)) }
+    ensures stopped { IfErr result (FileStops (at_requirement_line number (requirement_said text.now))) }
 {
     match read_requirement(alloc, text) {
         Ok(requirement) => Ok(requirement),
@@ -126,11 +126,11 @@ fn push_line(
     number: usize,
     line: &[u8],
 ) -> Result<(), NoRequirements>
-    ensures is { OnOk result (with_line (map view_line lines.old.items) number line.now ≡ Ok (map view_line lines.new.items)) }
-    ensures stopped { IfErr result (FileStops (with_line (map view_line lines.old.items) number line.now)) }
+    ensures is { OnOk result (with_requirement_line (map view_line lines.old.items) number line.now ≡ Ok (map view_line lines.new.items)) }
+    ensures stopped { IfErr result (FileStops (with_requirement_line (map view_line lines.old.items) number line.now)) }
 {
     let (text, _) = cut(line, b'\r');
-    if is_left_out(text) {
+    if is_passed_or_blank(text) {
         return Ok(());
     }
     let requirement = read_at(alloc, number, text)?;

@@ -1,6 +1,6 @@
 //! Requirements in words.
 ghost use Rattle.std.specs.Prelude.{◌≡◌, ◌≤◌, ◌<◌, length, codes, IfErr, IfOk, Ok};
-ghost use Rattle.of_require.specs.Reading.{behind_expected as behind_expected_word, behind_word, by_said, demand_said, end_said, ending_said, frames_said, is_blank as is_blank_text, is_demand_word, leaving_said, match_said, passing_said, place_named, places_in as places_in_words, quantifier_named, requirement_said, table_at, unspaced as unspaced_text, view_demand, view_requirement, word_of};
+ghost use Rattle.of_require.specs.Reading.{behind_expected as behind_expected_word, behind_word, by_said, demand_said, end_said, ending_said, frames_said, is_blank as is_blank_text, is_demand_word, leaving_said, match_said, passing_said, place_named, places_in as places_in_words, quantifier_named, requirement_said, table_named, unspaced as unspaced_text, view_demand, view_requirement, first_word_in};
 ghost use Rattle.of_require.specs.Reading.SaidDemand.{LeavesBy, LeavesOnlyBy};
 ghost use Rattle.of_ovs_words.specs.Outcomes.{numbered as numbered_in};
 ghost use Rattle.of_require.specs.Refusals.{LineStops};
@@ -30,7 +30,7 @@ fn unspaced(text: &[u8]) -> &[u8]
 
 // The first word, and the text behind it.
 pub fn first_word(text: &[u8]) -> (&[u8], &[u8])
-    ensures first { result.0.now ≡ word_of text.now }
+    ensures first { result.0.now ≡ first_word_in text.now }
     ensures rest { result.1.now ≡ behind_word text.now }
 {
     cut(unspaced(text), b' ')
@@ -123,8 +123,8 @@ fn read_leaving<'a>(alloc: Global, text: &'a [u8]) -> Result<(Demand, &'a [u8]),
 }
 
 fn read_table(alloc: Global, word: &[u8]) -> Result<u8, NoRequirement>
-    ensures is { IfOk result (λ table. table_at word.now (numbered_in TABLES word.now) ≡ Ok table) }
-    ensures stopped { IfErr result (LineStops (table_at word.now (numbered_in TABLES word.now))) }
+    ensures is { IfOk result (λ table. table_named word.now (numbered_in TABLES word.now) ≡ Ok table) }
+    ensures stopped { IfErr result (LineStops (table_named word.now (numbered_in TABLES word.now))) }
 {
     match numbered(u128::from(TABLES), word) {
         Ok(table) => Ok(table as u8),

@@ -2,7 +2,7 @@
 ghost use Rattle.std.specs.Prelude.{◌≡◌, ◌++◌, option_map, IfOk, OnOk};
 ghost use Rattle.std.specs.List.{flat_map};
 ghost use Rattle.of_require.specs.Answers.{count_verdicts, is_verdict, verdict_of};
-ghost use Rattle.of_require.specs.Words.{answer_words, counted, decision_words, in_words, is_told as is_told_by, is_told_always as is_told_in_short, requirements_summary, requirements_words, shown_words, verdict_counts, verdict_line, verdict_said, words_line};
+ghost use Rattle.of_require.specs.Words.{answer_words, counted_noun, decision_words, in_words, is_told as is_told_by, is_told_always as is_told_in_short, requirements_summary, requirements_words, deciding_frame_words, verdict_counts, verdict_line, verdict_said, frame_words_line};
 
 use crate::answers::Answer;
 use crate::deciding::{Decision, Shown, Verdict};
@@ -34,9 +34,9 @@ fn push_verdict_line(out: &mut Vec<u8>, answer: &Answer) -> Result<(), AllocErro
     Ok(())
 }
 
-#[tactic(auto, unfolding(crate::specs::Words::words_line))]
+#[tactic(auto, unfolding(crate::specs::Words::frame_words_line))]
 fn push_words(out: &mut Vec<u8>, words: &[u8]) -> Result<(), AllocError>
-    ensures { OnOk result (out.new.items ≡ out.old.items ++ words_line words.now) }
+    ensures { OnOk result (out.new.items ≡ out.old.items ++ frame_words_line words.now) }
 {
     out.extend_from_slice(b"    in words: ")?;
     out.extend_from_slice(words)?;
@@ -54,9 +54,9 @@ fn push_in_words(out: &mut Vec<u8>, words: Option<Vec<u8>>) -> Result<(), AllocE
 }
 
 // Appends the frame that decides, and what leaves.
-#[tactic(auto, unfolding(crate::specs::Words::shown_words))]
+#[tactic(auto, unfolding(crate::specs::Words::deciding_frame_words))]
 fn push_shown(alloc: Global, out: &mut Vec<u8>, shown: &Shown) -> Result<(), AllocError>
-    ensures { OnOk result (out.new.items ≡ out.old.items ++ shown_words shown.now) }
+    ensures { OnOk result (out.new.items ≡ out.old.items ++ deciding_frame_words shown.now) }
 {
     push_frame_line(alloc, out, shown.in_port, &shown.frame)?;
     let words = frame_words(alloc, shown.in_port, &shown.frame)?;
@@ -147,9 +147,9 @@ pub fn count(verdict: Verdict, answers: &[Answer]) -> usize
         .count()
 }
 
-#[tactic(auto, unfolding(crate::specs::Words::counted))]
+#[tactic(auto, unfolding(crate::specs::Words::counted_noun))]
 fn push_counted(out: &mut Vec<u8>, number: usize, one: &[u8], more: &[u8]) -> Result<(), AllocError>
-    ensures { OnOk result (out.new.items ≡ out.old.items ++ counted number one.now more.now) }
+    ensures { OnOk result (out.new.items ≡ out.old.items ++ counted_noun number one.now more.now) }
 {
     push_decimal(out, number as u128)?;
     out.extend_from_slice(if number == 1 { one } else { more })

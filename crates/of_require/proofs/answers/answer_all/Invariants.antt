@@ -3,11 +3,11 @@ use Rattle.std.specs.List.{AllByRecursion}
 use Rattle.of_datapath.specs.Datapath.{world_of}
 use Rattle.of_datapath.specs.Numbers.{forwarding_of}
 use Rattle.of_require.specs.declared.answers.Answer.{Answer}
-use Rattle.of_require.specs.Answers.{IsAnswer}
+use Rattle.of_require.specs.Answers.{IsFoundAbout}
 use Rattle.of_require.proofs.answers.answer_all.Given as goal
 
 abbrev pub invariant-loop-line : goal.invariant-loop-line
 invariant-loop-line g l = record {
   lines : map (λ (a : Answer). a.line) l.answers.items ++ l.line-iterator.rest.items ≡ l.fn.lines.items;
-  right : AllByRecursion (IsAnswer (world_of (forwarding_of l.datapath)) l.steps) l.answers.items;
+  right : AllByRecursion (IsFoundAbout (world_of (forwarding_of l.datapath)) l.steps) l.answers.items;
 }

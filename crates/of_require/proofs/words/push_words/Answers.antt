@@ -1,10 +1,10 @@
 use Rattle.std.proofs.Common.{◌∙◌, ◌++◌, ◌∷◌, ℕ, List, [], ap, append_assoc}
 use Rattle.std.specs.Prelude.{codes}
-use Rattle.of_require.specs.Words.{words_line}
+use Rattle.of_require.specs.Words.{frame_words_line}
 use Rattle.of_require.proofs.words.push_words.Goals as goal
 
 pub returns : goal.returns
-unfolding words_line
+unfolding frame_words_line
 returns c =
     let before = c.args.out.now.items in
     let said = codes "    in words: " in
