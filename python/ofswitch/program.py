@@ -147,6 +147,7 @@ class Run:
 
     def play_each(self, rows: bytes, parts: int) -> list[list[bytes]]:
         """Plays so many parts, each with a question at its end, and returns the lines that each part prints."""
+        self.check()
         try:
             return self._exchange(memoryview(rows), parts)
         except BaseException:

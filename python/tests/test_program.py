@@ -195,6 +195,17 @@ def test_a_forked_process_leaves_the_program_alone(switch):
     assert switch.port_add(0) == [Refused(8)]
 
 
+def test_a_killed_run_of_the_account(switch):
+    """It is said each time: the plugin asks again if the test fails because of it."""
+    switch.port_add(1)
+    assert "port add 1" in switch.explain()
+    os.kill(switch._story._run.pid, signal.SIGKILL)
+    switch.port_add(2)
+    for _ in range(2):
+        with pytest.raises(ProgramError):
+            switch.explain()
+
+
 def test_a_new_run_takes_over_before_the_last_read(new_switch, monkeypatch):
     """Nobody notices, but that the process is another one."""
     monkeypatch.setattr(Switch, "MOST_READS", 60)
