@@ -1,5 +1,5 @@
 -- What a switch tells the controller of the packets that go to it depends on the ports that are silent.
-use Rattle.std.proofs.Common.{◌≡◌, ◌∙◌, sym, ap, ℕ, ◌^◌, Bool, true, false, cond, not, ◌&&◌, List, [], ◌∷◌, Option, Some, None, refl}
+use Rattle.std.proofs.Common.{◌≡◌, ◌∙◌, sym, ap, ◌^◌, Bool, true, false, cond, not, ◌&&◌, List, [], ◌∷◌, Option, Some, None, refl}
 use Rattle.std.specs.List.{filter}
 use Rattle.std.specs.Option.{option_map, option_map_or}
 use Rattle.of_wire.specs.Reasons.{packet_in_number}
@@ -10,7 +10,7 @@ use Rattle.of_machine.specs.declared.data.Item.TheVariants.{PacketIn, Sent}
 use Rattle.of_machine.specs.declared.data.ToController.{ToController}
 use Rattle.of_datapath.specs.declared.control.AsyncConfig.{AsyncConfig}
 use Rattle.of_datapath.specs.Control.{lets_pass}
-use Rattle.of_datapath.specs.Told.{given_items, is_given, is_no_match, is_suppressed}
+use Rattle.of_datapath.specs.Told.{given_items, is_given, is_no_match}
 use Rattle.of_alike.specs.Alike.{LeavesAlike, to_controller}
 use Rattle.of_alike.specs.SamePorts.{PortKey, SamePorts, port_key}
 use Rattle.of_alike.specs.declared.alike.Compared.TheVariants.{All}

@@ -1,11 +1,11 @@
 -- What a verdict means.
-use Rattle.std.proofs.Common.{◌≡◌, ℕ, suc, ◌<◌, ◌==◌, false, ◌⊎◌, inl, inr, List, [], ◌∷◌, length, refl, subst, arith}
+use Rattle.std.proofs.Common.{◌≡◌, ℕ, suc, ◌==◌, false, ◌⊎◌, inl, inr, List, [], ◌∷◌, length, refl, subst, arith}
 use Rattle.std.proofs.lemmas.Bool.Decides.{nat_tests}
 use Rattle.std.specs.Prelude.{Bool, true, Option, Some, None, if◌then◌else◌}
 use Rattle.std.specs.List.{Contains}
 use Rattle.of_datapath.specs.Datapath.{Forwarding, world_of}
 use Rattle.of_diff.specs.Comparing.{AreDifferences}
-use Rattle.of_diff.specs.Differences.{InDifferences, InUndecided, IsTreatedAlike}
+use Rattle.of_diff.specs.Differences.{InDifferences, InUndecided}
 use Rattle.of_alike.specs.declared.alike.Compared.{Compared}
 use Rattle.of_diff.specs.declared.difference.Difference.{Difference}
 use Rattle.of_diff.specs.declared.difference.Differences.{Differences}
@@ -42,7 +42,7 @@ verdict_means c steps f g missing (Some ds) h = by_lists c steps f g missing ds 
 -- all frames are treated alike for certain only if no port is missing
 pub same_misses_none : (missing : List ℕ) (ds : Differences) → verdict_on missing ds ≡ Same → missing ≡ []
 same_misses_none [] ds h = refl
-same_misses_none (port ∷ ports) ds h = by_found (length ds.found.items == 0) (rw some_more (length ports) at h)
+same_misses_none (port ∷ ports) ds h = by_found (length ds.found.items == 0) (rw (some_more (length ports)) at h)
   where
     by_found : (none : Bool) → (if none then Open else Differs) ≡ Same → port ∷ ports ≡ []
     by_found true e = cc

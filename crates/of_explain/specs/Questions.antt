@@ -1,13 +1,11 @@
 -- QUESTIONS in an event file: comments that ask about the switch at that place.
 use Rattle.std.specs.Prelude.{ℕ, List, [], ◌∷◌, ◌++◌, drop, take, length, nat_lt, codes, Option, Some, None, if◌then◌else◌}
 use Rattle.std.specs.Str.{bytes_eq}
-use Rattle.of_switch.specs.declared.event.Event.{Event}
 use Rattle.of_switch.specs.State.{State}
 use Rattle.of_replay.specs.Lexing.{first_word, after_first_word, word_number, hex_bytes}
 use Rattle.of_replay.specs.FileRuns.{switch_text}
 use Rattle.of_replay.specs.RowTexts.{RowText}
 use Rattle.of_trace.specs.declared.form.Output.TheVariants.{Lines}
-use Rattle.of_trace.specs.declared.form.Form.{Form}
 use Rattle.of_trace.specs.declared.form.Form.TheVariants.{Plain, Explained, Why}
 use Rattle.of_trace.specs.declared.form.Asked.TheVariants.{All}
 use Rattle.of_trace.specs.Files.{trace_on}

@@ -1,5 +1,4 @@
 use Rattle.std.proofs.Common.{Some, ◌∙◌, sym}
-use Rattle.of_diff_report.specs.DiffFiles.{IsVerdict}
 use Rattle.of_diff_report.proofs.VerdictLemmas.{same_misses_none, verdict_means}
 use Rattle.of_diff_report.proofs.writing.verdict_of.Goals as goal
 
