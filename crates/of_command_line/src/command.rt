@@ -1,6 +1,6 @@
 //! The words of the command line.
 
-use crate::check::{CHECK, CHECKS};
+use crate::checking::{CHECK, CHECKS};
 use crate::history::{HISTORIES, HISTORY};
 use clap::{Arg, ArgAction, ArgGroup, Command};
 use std::alloc::{AllocError, Global};

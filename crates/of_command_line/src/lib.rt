@@ -1,7 +1,7 @@
 //! The command line of `ofswitch`: the words that a user types, read as a request.
 #![tactic(auto)]
 
-mod check;
+mod checking;
 mod command;
 mod history;
 mod paths;
@@ -12,7 +12,7 @@ ghost use Rattle.std.specs.Prelude.{◌≡◌};
 ghost use Rattle.std.specs.Iterator.{IsFinite};
 ghost use Rattle.of_command_line.specs.declared.NoRequest.TheVariants.{NoMemory};
 
-use check::check_of;
+use checking::check_of;
 use clap::ArgMatches;
 use clap::error::{Error, ErrorKind};
 use command::command;
