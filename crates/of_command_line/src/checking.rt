@@ -1,7 +1,9 @@
 //! What `check` is asked for.
 
 use crate::command::{Argument, Kind};
-use crate::{Check, CheckOutput, NoRequest, refused, steps_of, switch_file_of, text_of};
+use crate::{
+    Check, CheckOutput, NoRequest, SwitchFile, refused, steps_of, switch_file_of, text_of,
+};
 use clap::ArgMatches;
 use std::alloc::Global;
 
@@ -110,7 +112,15 @@ fn output_of(matches: &ArgMatches<'_>) -> CheckOutput {
     }
 }
 
-/// What is checked, and how. Refused is a file for verdicts without requirements.
+// Whether two files are both standard input.
+fn is_input_twice(of: &SwitchFile, require: &Option<String>) -> bool {
+    match require {
+        Some(path) => of.path.as_str() == "-" && path.as_str() == "-",
+        None => false,
+    }
+}
+
+/// What is checked, and how. Refused are verdicts without requirements, and standard input as both files.
 pub(crate) fn check_of(alloc: Global, matches: &ArgMatches<'_>) -> Result<Check, NoRequest> {
     if matches.get_str("junit").is_some() && matches.get_str("require").is_none() {
         return Err(refused(
@@ -118,11 +128,19 @@ pub(crate) fn check_of(alloc: Global, matches: &ArgMatches<'_>) -> Result<Check,
             "bad --junit: there are no verdicts without --require\n",
         )?);
     }
+    let of = switch_file_of(alloc, matches)?;
+    let require = text_of(alloc, matches.get_str("require"))?;
+    if is_input_twice(&of, &require) {
+        return Err(refused(
+            alloc,
+            "bad --require: the file and its requirements cannot both be standard input\n",
+        )?);
+    }
     Ok(Check {
-        of: switch_file_of(alloc, matches)?,
+        of,
         steps: steps_of(alloc, matches.get_str("steps"))?,
         output: output_of(matches),
-        require: text_of(alloc, matches.get_str("require"))?,
+        require,
         junit: text_of(alloc, matches.get_str("junit"))?,
     })
 }

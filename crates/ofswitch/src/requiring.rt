@@ -42,7 +42,11 @@ pub fn read_required(rt: &HostRuntime, path: &str) -> Result<Vec<Line>, NoFile> 
         Ok(lines) => Ok(lines),
         Err(NoRequirements::NoMemory) => Err(NoFile::ended(rt.alloc(), Ended::NoMemory)),
         Err(NoRequirements::Refused { line, refusal }) => {
-            let word = std::str::from_utf8(&refusal.word).unwrap_or("?");
+            let word = match std::str::from_utf8(&refusal.word) {
+                Ok("") => "at its end",
+                Ok(word) => word,
+                Err(_) => "?",
+            };
             let _ = eprintln!(rt; "{path}: line {line}: {word}: {}", refusal.why);
             Err(NoFile::Faults)
         }
