@@ -89,14 +89,12 @@ fn found_between(
     second: Contents,
 ) -> Result<DiffVerdict, Ended> {
     let alloc = rt.alloc();
-    let Ok(list) = ports_between(alloc, &asked.ports, &first, &second) else {
+    let Ok(mut list) = ports_between(alloc, &asked.ports, &first, &second) else {
         return Err(Ended::NoMemory);
     };
-    let missing: &[u32] = if is_run(&first) && is_run(&second) {
-        &[]
-    } else {
-        &list.missing
-    };
+    if is_run(&first) && is_run(&second) {
+        list.missing.clear();
+    }
     let (Ok(first), Ok(second)) = (
         switch_of(rt, first, &list.ports),
         switch_of(rt, second, &list.ports),
@@ -108,7 +106,7 @@ fn found_between(
         alloc,
         &first,
         &second,
-        missing,
+        &list.missing,
         compared_of(asked.frames),
         asked.steps as usize,
         form_of(asked.json),
