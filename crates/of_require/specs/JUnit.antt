@@ -6,7 +6,7 @@ use Rattle.of_require.specs.declared.answers.Answer.{Answer}
 use Rattle.of_require.specs.declared.deciding.Verdict.{Verdict}
 use Rattle.of_require.specs.declared.deciding.Verdict.TheVariants.{Fails, Holds, Undecided}
 use Rattle.of_require.specs.Answers.{count_verdicts, verdict_of}
-use Rattle.of_require.specs.Words.{decision_words}
+use Rattle.of_require.specs.Words.{why_decided}
 
 -- a character of an attribute's value, which is between apostrophes
 abbrev pub xml_character : ℕ → List ℕ
@@ -29,7 +29,7 @@ numbered_text text n = text ++ decimal n
 unfoldable pub test_case : Answer → List ℕ
 test_case a =
     numbered_text (codes "<testcase classname='requirements' name='line ") a.line.number ++ codes ": " ++ flat_map xml_character a.line.text.items ++ codes "'>"
-    ++ outcome_element (verdict_of a) (decision_words a.decision) ++ codes "</testcase>" ++ 10 ∷ []
+    ++ outcome_element (verdict_of a) (why_decided (verdict_of a) a.decision) ++ codes "</testcase>" ++ 10 ∷ []
 
 unfoldable pub suite_head : ℕ → ℕ → ℕ → List ℕ
 suite_head tests failures errors =

@@ -1,11 +1,11 @@
 -- FILES OF REQUIREMENTS, one a line; empty lines and comments, which begin with `#`, are passed over.
-use Rattle.std.specs.Prelude.{◌≡◌, ℕ, ◌+◌, ◌||◌, Bool, List, [], ◌∷◌, ◌++◌, Result, Ok, Err, if◌then◌else◌}
+use Rattle.std.specs.Prelude.{◌≡◌, ℕ, ◌+◌, Bool, List, [], ◌∷◌, ◌++◌, Result, Ok, Err, if◌then◌else◌}
 use Rattle.of_lines.specs.Lines.{before, is_passed, lines_of}
 use Rattle.of_ovs_words.specs.Outcomes.{◌>>=◌}
 use Rattle.of_require.specs.declared.line.Line.{Line}
 use Rattle.of_require.specs.declared.refusal.NoRequirements.{NoRequirements}
 use Rattle.of_require.specs.declared.refusal.NoRequirements.TheVariants.{NoMemory, Refused}
-use Rattle.of_require.specs.Reading.{SaidRequirement, is_blank, requirement_said, view_requirement}
+use Rattle.of_require.specs.Reading.{SaidRequirement, requirement_said, unspaced, view_requirement}
 use Rattle.of_require.specs.Refusals.{LineRefusal}
 
 pub record SaidLine : Type 0 where
@@ -30,7 +30,7 @@ abbrev pub line_text : List ℕ → List ℕ
 line_text line = before 13 line
 
 abbrev pub is_passed_or_blank : List ℕ → Bool
-is_passed_or_blank line = is_passed line || is_blank line
+is_passed_or_blank line = is_passed (unspaced line)
 
 -- these requirements and that of a line
 abbrev pub with_requirement_line : List SaidLine → ℕ → List ℕ → Result (List SaidLine) FileRefusal

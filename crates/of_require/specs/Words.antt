@@ -37,7 +37,12 @@ unfoldable pub decision_words : Decision → List ℕ
 decision_words (Frame shown) = deciding_frame_words shown
 decision_words NoFrame = []
 decision_words NoneMatches = codes "    the switch receives no frame that matches" ++ 10 ∷ []
-decision_words Undecided = codes "    it is not known of all frames that match; --steps takes more steps" ++ 10 ∷ []
+decision_words Undecided = codes "    it is not known of all frames that match; `ofswitch paths --match` says why" ++ 10 ∷ []
+
+-- why a requirement is met or not: one about some frame may fail since there is none
+unfoldable pub why_decided : Verdict → Decision → List ℕ
+why_decided verdicts.Fails NoFrame = codes "    no frame does this" ++ 10 ∷ []
+why_decided verdict decision = decision_words decision
 
 -- ---- those that are printed: all, or those that do not hold or match no frame
 
@@ -51,7 +56,7 @@ is_told true a = true
 is_told false a = is_told_always (verdict_of a) a.decision
 
 unfoldable pub answer_words : Bool → Answer → List ℕ
-answer_words all a = if is_told all a then verdict_line a ++ decision_words a.decision else []
+answer_words all a = if is_told all a then verdict_line a ++ why_decided (verdict_of a) a.decision else []
 
 -- ---- the summary: `6 requirements: 5 hold, 1 fails, 0 undecided`
 

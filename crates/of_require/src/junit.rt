@@ -2,11 +2,11 @@
 ghost use Rattle.std.specs.Prelude.{◌≡◌, ◌++◌, IfOk, OnOk};
 ghost use Rattle.std.specs.List.{flat_map};
 ghost use Rattle.of_require.specs.JUnit.{numbered_text, outcome_element, requirements_junit, suite_head, test_case, xml_character};
-ghost use Rattle.of_require.specs.Words.{decision_words};
+ghost use Rattle.of_require.specs.Words.{why_decided};
 
 use crate::answers::Answer;
 use crate::deciding::{Decision, Verdict};
-use crate::words::{count, push_decision};
+use crate::words::{count, push_why};
 use of_values::{printable, push_decimal};
 use std::alloc::{AllocError, Global};
 
@@ -40,18 +40,18 @@ fn push_outcome(
     verdict: Verdict,
     decision: &Decision,
 ) -> Result<(), AllocError>
-    ensures { OnOk result (out.new.items ≡ out.old.items ++ outcome_element verdict (decision_words decision.now)) }
+    ensures { OnOk result (out.new.items ≡ out.old.items ++ outcome_element verdict (why_decided verdict decision.now)) }
 {
     match verdict {
         Verdict::Holds => Ok(()),
         Verdict::Fails => {
             out.extend_from_slice(b"<failure>")?;
-            push_decision(alloc, out, decision)?;
+            push_why(alloc, out, verdict, decision)?;
             out.extend_from_slice(b"</failure>")
         }
         Verdict::Undecided => {
             out.extend_from_slice(b"<error>")?;
-            push_decision(alloc, out, decision)?;
+            push_why(alloc, out, verdict, decision)?;
             out.extend_from_slice(b"</error>")
         }
     }

@@ -6,7 +6,7 @@ ghost use Rattle.of_require.specs.Reading.{is_demand_word as is_demand_name, mat
 ghost use Rattle.of_require.specs.RequirementFiles.{at_requirement_line, is_passed_or_blank as is_no_requirement, FileStops, requirements_in, view_line, with_requirement_line};
 ghost use Rattle.of_require.specs.Refusals.{LineStops};
 
-use crate::reading::{behind_expected, first_word, is_blank, read_demand, read_ending};
+use crate::reading::{behind_expected, first_word, read_demand, read_ending, unspaced};
 use crate::refusal::{NoRequirement, NoRequirements, Refusal, Why, refuse};
 use crate::requirement::{Quantifier, Requirement};
 use of_frame_words::{NoFrame, read_conditions};
@@ -101,7 +101,7 @@ pub fn read_requirement(alloc: Global, line: &[u8]) -> Result<Requirement, NoReq
 fn is_passed_or_blank(line: &[u8]) -> bool
     ensures { result ≡ is_no_requirement line.now }
 {
-    is_passed_over(line) || is_blank(line)
+    is_passed_over(unspaced(line))
 }
 
 // The requirement of the line with a number.

@@ -17,7 +17,7 @@ use of_wire::limits::{OFPP_CONTROLLER, TABLES};
 use std::alloc::{AllocError, Global};
 
 // A text without the spaces in front.
-fn unspaced(text: &[u8]) -> &[u8]
+pub fn unspaced(text: &[u8]) -> &[u8]
     ensures { result.now ≡ unspaced_text text.now }
 {
     for (i, b) in text.iter().enumerate() {
@@ -158,7 +158,7 @@ pub fn read_demand<'a>(alloc: Global, text: &'a [u8]) -> Result<(Demand, &'a [u8
     }
 }
 
-pub fn is_blank(text: &[u8]) -> bool
+fn is_blank(text: &[u8]) -> bool
     ensures { result ≡ is_blank_text text.now }
 {
     unspaced(text).is_empty()

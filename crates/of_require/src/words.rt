@@ -2,7 +2,7 @@
 ghost use Rattle.std.specs.Prelude.{◌≡◌, ◌++◌, option_map, IfOk, OnOk};
 ghost use Rattle.std.specs.List.{flat_map};
 ghost use Rattle.of_require.specs.Answers.{count_verdicts, is_verdict, verdict_of};
-ghost use Rattle.of_require.specs.Words.{answer_words, counted_noun, decision_words, in_words, is_told as is_told_by, is_told_always as is_told_in_short, requirements_summary, requirements_words, deciding_frame_words, verdict_counts, verdict_line, verdict_said, frame_words_line};
+ghost use Rattle.of_require.specs.Words.{answer_words, counted_noun, decision_words, in_words, is_told as is_told_by, is_told_always as is_told_in_short, requirements_summary, requirements_words, deciding_frame_words, verdict_counts, verdict_line, verdict_said, why_decided, frame_words_line};
 
 use crate::answers::Answer;
 use crate::deciding::{Decision, Shown, Verdict};
@@ -64,13 +64,8 @@ fn push_shown(alloc: Global, out: &mut Vec<u8>, shown: &Shown) -> Result<(), All
     push_side(alloc, out, b"    ", &shown.items)
 }
 
-/// Appends why a requirement is met or not.
 #[tactic(auto, unfolding(crate::specs::Words::decision_words))]
-pub fn push_decision(
-    alloc: Global,
-    out: &mut Vec<u8>,
-    decision: &Decision,
-) -> Result<(), AllocError>
+fn push_decision(alloc: Global, out: &mut Vec<u8>, decision: &Decision) -> Result<(), AllocError>
     ensures { OnOk result (out.new.items ≡ out.old.items ++ decision_words decision.now) }
 {
     match decision {
@@ -80,8 +75,24 @@ pub fn push_decision(
             out.extend_from_slice(b"    the switch receives no frame that matches\n")
         }
         Decision::Undecided => out.extend_from_slice(
-            b"    it is not known of all frames that match; --steps takes more steps\n",
+            b"    it is not known of all frames that match; `ofswitch paths --match` says why\n",
         ),
+    }
+}
+
+/// Appends why a requirement is met or not.
+#[tactic(auto, unfolding(crate::specs::Words::why_decided))]
+pub fn push_why(
+    alloc: Global,
+    out: &mut Vec<u8>,
+    verdict: Verdict,
+    decision: &Decision,
+) -> Result<(), AllocError>
+    ensures { OnOk result (out.new.items ≡ out.old.items ++ why_decided verdict decision.now) }
+{
+    match (verdict, decision) {
+        (Verdict::Fails, Decision::NoFrame) => out.extend_from_slice(b"    no frame does this\n"),
+        _ => push_decision(alloc, out, decision),
     }
 }
 
@@ -112,7 +123,7 @@ fn push_answer(
 {
     if is_told(all, answer) {
         push_verdict_line(out, answer)?;
-        push_decision(alloc, out, &answer.decision)?;
+        push_why(alloc, out, answer.verdict(), &answer.decision)?;
     }
     Ok(())
 }

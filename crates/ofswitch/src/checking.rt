@@ -4,7 +4,7 @@ use crate::files::{
 };
 use crate::lookups::Lookups;
 use crate::requiring::{
-    Required, missing_on, no_requirements, push_required, read_required, required,
+    Required, decide_all, missing_on, no_requirements, push_required, read_required,
 };
 use of_command_line::{Check, CheckOutput};
 use of_files::FileTables;
@@ -71,7 +71,7 @@ fn reported(
     missing: &[u32],
 ) -> Result<CheckVerdict, NoFile> {
     let alloc = rt.alloc();
-    let Required { text, verdict } = required(rt, asked, switch, lines)?;
+    let Required { text, verdict } = decide_all(rt, asked, switch, lines)?;
     let missing = match say_missing(rt, asked.output == CheckOutput::Json, missing) {
         Ok(missing) => missing,
         Err(ended) => return Err(NoFile::ended(alloc, ended)),

@@ -133,7 +133,7 @@ fn write_junit(rt: &HostRuntime, path: &str, found: &[Answer]) -> Result<(), NoF
 }
 
 /// What is found about requirements of a switch, which is also written as XML if that is asked for.
-pub fn required(
+pub fn decide_all(
     rt: &HostRuntime,
     asked: &Check,
     switch: &Switch<Lookups>,
