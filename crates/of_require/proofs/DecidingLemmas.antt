@@ -67,7 +67,7 @@ one_path (p ∷ q ∷ ps) h = absurd (omega (arith, h))
 first_in : (p : Path) → Contains (p ∷ []) p
 first_in p = (0, omega arith, refl)
 
-only_in : {A : Type 0} (p q : A) → Contains (p ∷ []) q → q ≡ p
+pub only_in : {A : Type 0} (p q : A) → Contains (p ∷ []) q → q ≡ p
 only_in p q (zero, lt, is) = sym is
 only_in p q (suc k, lt, is) = absurd (omega (arith, lt))
 

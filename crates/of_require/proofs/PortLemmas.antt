@@ -1,5 +1,5 @@
 -- What is decided for all ports of a switch is decided for all frames that it receives.
-use Rattle.std.proofs.Common.{◌≡◌, ◌<◌, ◌≤◌, ◌+◌, ℕ, suc, eqb, Bool, true, false, cond, List, [], ◌∷◌, ◌++◌, length, get_or, map, take, Some, refl, ap, ◌∙◌, arith}
+use Rattle.std.proofs.Common.{◌≡◌, ◌<◌, ◌≤◌, ◌+◌, ℕ, suc, eqb, Bool, true, false, cond, List, [], ◌∷◌, ◌++◌, length, get_or, map, take, Some, refl, subst, ap, ◌∙◌, arith}
 use Rattle.std.specs.List.{Contains}
 use Rattle.std.proofs.Math.Seq.{take-suc}
 use Rattle.std.proofs.lemmas.Bool.{eqb-true}
@@ -11,7 +11,9 @@ use Rattle.of_require.specs.declared.deciding.Decision.{Decision}
 use Rattle.of_require.specs.declared.deciding.Decision.TheVariants.{Frame, NoFrame, NoneMatches, Undecided}
 use Rattle.of_require.specs.declared.requirement.Requirement.{Requirement}
 use Rattle.of_require.specs.Deciding.{IsDecisionFor}
+use Rattle.of_symbolic_run.specs.PortNumbers.{IsReceivingPort}
 use Rattle.of_require.specs.Decisions.{IsDecision, NoneMatch}
+use Rattle.of_require.proofs.DecidingLemmas.{only_in}
 
 -- ---- lists of ports
 
@@ -36,6 +38,12 @@ number_listed (p ∷ ports) n q h = by_test (eqb p.number n) refl (number_listed
     by_test : (t : Bool) → eqb p.number n ≡ t → (port_at ports n ≡ Some q → Contains (map number_of_port ports) n) → cond t (Some p) (port_at ports n) ≡ Some q → Contains (p.number ∷ map number_of_port ports) n
     by_test true e others k = (0, omega arith, eqb-true p.number n e)
     by_test false e others k = later p.number (map number_of_port ports) n (others k)
+
+-- by a port that does not receive no frame comes in
+pub none_received : (w : TheWorld) (r : Requirement) (port : ℕ) → (IsReceivingPort w.ports port → ⊥) → NoneMatch w r (λ q. Contains (port ∷ []) q)
+none_received w r port silent frame q there received matched =
+    let at : q ≡ port = only_in port q there in
+    silent (subst (IsReceivingPort w.ports) at (record { port = received.ingress; there = received.there; receives = received.receives }))
 
 -- ---- all frames
 

@@ -5,7 +5,7 @@ use Rattle.of_machine.specs.declared.data.Item.{Item}
 use Rattle.of_machine.specs.declared.data.Step.{Step}
 use Rattle.of_machine.specs.TheWorld.{TheWorld}
 use Rattle.of_symbolic.specs.Parts.{received_fields}
-use Rattle.of_symbolic_run.specs.PortNumbers.{came_in_by}
+use Rattle.of_symbolic_run.specs.PortNumbers.{IsReceivingPort, came_in_by}
 use Rattle.of_symbolic_run.specs.Received.{IsReceivedAt, items_at}
 use Rattle.of_paths.specs.Paths.{ArePaths}
 use Rattle.of_paths.specs.declared.path.Merging.TheVariants as merging
@@ -42,9 +42,10 @@ NoneDecides w r among = (frame : List ℕ) (port : ℕ) → among port → IsDec
 abbrev pub NoneMatch : TheWorld → Requirement → (ℕ → Type 0) → Type 0
 NoneMatch w r among = (frame : List ℕ) (port : ℕ) → among port → IsReceivedAt w frame port → matches_map r.within.items (received_fields frame port) ≡ true → ⊥
 
--- of the frames that come in by some port, it is not known of all what they do
+-- of the frames that come in by some port of the switch that receives, it is not known of all what they do
 pub record IsUndecidedAtPort (w : TheWorld) (r : Requirement) (steps : ℕ) : Type 0 where
   pub port : ℕ
+  pub receives : IsReceivingPort w.ports port
   pub found : Paths
   pub paths : ArePaths merging.Each w (came_in_by port ∷ r.within.items) steps found
   pub some : 0 < length found.undecided.items

@@ -18,6 +18,7 @@ use of_datapath::Datapath;
 use of_machine::Items;
 use of_oxm::MatchField;
 use of_paths::{Merging, PathClass, Paths, ingress_conditions, paths};
+use of_symbolic_run::receiving_port;
 use std::alloc::{AllocError, Global};
 
 /// A frame, the port at which it was received, and what its run emits.
@@ -107,6 +108,9 @@ fn decide_at<L: Lookup>(
 ) -> Result<Decision, AllocError>
     ensures { IfOk result (IsDecisionFor (port ∷ []) (world_of (forwarding_of datapath.now)) requirement.now steps) }
 {
+    if !receiving_port(datapath.port_list(), port) {
+        return Ok(Decision::NoneMatches);
+    }
     let within = conditions_at(alloc, requirement, port)?;
     let Paths { classes, undecided } = paths(alloc, datapath, &within, Merging::Each, steps)?;
     let none_matches = classes.is_empty();

@@ -2,7 +2,14 @@ use Rattle.std.proofs.Common.{◌∙◌, ℕ, ap, eqb}
 use Rattle.of_datapath.specs.Datapath.{world_of}
 use Rattle.of_datapath.specs.Numbers.{forwarding_of}
 use Rattle.of_require.proofs.DecidingLemmas.{frame_shown, no_items, none_matched, none_shows, some_items}
+use Rattle.of_symbolic_run.proofs.ReceivedLemmas.{silent_port}
+use Rattle.of_require.proofs.PortLemmas.{none_received}
 use Rattle.of_require.proofs.deciding.decide_at.Goals as goal
+
+pub returns-then-not-receiving_port : goal.returns-then-not-receiving_port
+returns-then-not-receiving_port g c =
+    let w = world_of (forwarding_of c.args.datapath.now) in
+    none_received w c.args.requirement.now c.args.port (silent_port w.ports c.port_list.result.now c.args.port c.receiving_port.result c.port_list.ensures c.receiving_port.ensures.1 c.if-not-receiving_port.true)
 
 pub returns-in-Some : goal.returns-in-Some
 returns-in-Some g c =
@@ -15,7 +22,7 @@ pub returns-then-not-is_empty : goal.returns-then-not-is_empty
 returns-then-not-is_empty g c =
     let within = c.deref.ensures.value ∙ c.in_ok-within.ensures.is in
     let are = rw within at c.in_ok-classes.ensures in
-    record { port = c.args.port; found = c.in_ok-classes.field-0; paths = are; some = some_items c.in_ok-classes.field-0.undecided.items c.is_empty.result (c.is_empty.ensures ∙ ap (λ (n : ℕ). eqb n 0) c.in_ok-classes.field-0.undecided.ok.0) c.if-not-is_empty.true }
+    record { port = c.args.port; receives = rw c.port_list.ensures at (c.receiving_port.ensures.0 c.if-not-receiving_port.false); found = c.in_ok-classes.field-0; paths = are; some = some_items c.in_ok-classes.field-0.undecided.items c.is_empty.result (c.is_empty.ensures ∙ ap (λ (n : ℕ). eqb n 0) c.in_ok-classes.field-0.undecided.ok.0) c.if-not-is_empty.true }
 
 pub returns-then-none_matches : goal.returns-then-none_matches
 returns-then-none_matches g c =
