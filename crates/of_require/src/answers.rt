@@ -3,7 +3,7 @@ ghost use Rattle.std.specs.Prelude.{◌≡◌, IfOk, map};
 ghost use Rattle.std.specs.List.{AllByRecursion};
 ghost use Rattle.of_datapath.specs.Datapath.{world_of};
 ghost use Rattle.of_datapath.specs.Numbers.{forwarding_of};
-ghost use Rattle.of_require.specs.Answers.{IsFoundAbout, verdict_of, worst_of, worse_of};
+ghost use Rattle.of_require.specs.Answers.{IsFoundAbout, count_verdicts, is_verdict, verdict_of, worst_of};
 
 use crate::deciding::{Decision, Verdict, decide};
 use crate::line::Line;
@@ -45,23 +45,31 @@ pub fn answer_all<L: Lookup>(
     Ok(answers)
 }
 
-fn worse(one: Verdict, other: Verdict) -> Verdict
-    ensures { result ≡ worse_of one other }
+fn is_verdict_on(verdict: Verdict, answer: &Answer) -> bool
+    ensures { result ≡ is_verdict verdict (verdict_of answer.now) }
 {
-    match (one, other) {
-        (Verdict::Fails, _) | (_, Verdict::Fails) => Verdict::Fails,
-        (Verdict::Undecided, _) | (_, Verdict::Undecided) => Verdict::Undecided,
-        (Verdict::Holds, Verdict::Holds) => Verdict::Holds,
-    }
+    verdict == answer.verdict()
+}
+
+/// How many requirements have a verdict.
+pub fn count(verdict: Verdict, answers: &[Answer]) -> usize
+    ensures { result ≡ count_verdicts verdict answers.now }
+{
+    answers
+        .iter()
+        .filter(|answer| is_verdict_on(verdict, answer))
+        .count()
 }
 
 /// The worst verdict: one fails, or else one is undecided, or else all hold.
 pub fn worst(answers: &[Answer]) -> Verdict
     ensures { result ≡ worst_of answers.now }
 {
-    let mut verdict = Verdict::Holds;
-    for answer in answers {
-        verdict = worse(verdict, answer.verdict());
+    if count(Verdict::Fails, answers) != 0 {
+        Verdict::Fails
+    } else if count(Verdict::Undecided, answers) != 0 {
+        Verdict::Undecided
+    } else {
+        Verdict::Holds
     }
-    verdict
 }

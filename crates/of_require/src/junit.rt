@@ -4,9 +4,9 @@ ghost use Rattle.std.specs.List.{flat_map};
 ghost use Rattle.of_require.specs.JUnit.{numbered_text, outcome_element, requirements_junit, suite_head, test_case, xml_character};
 ghost use Rattle.of_require.specs.Words.{why_decided};
 
-use crate::answers::Answer;
+use crate::answers::{Answer, count};
 use crate::deciding::{Decision, Verdict};
-use crate::words::{count, push_why};
+use crate::words::push_why;
 use of_values::{printable, push_decimal};
 use std::alloc::{AllocError, Global};
 

@@ -1,10 +1,9 @@
 //! The report on requirements in words.
 ghost use Rattle.std.specs.Prelude.{◌≡◌, ◌++◌, option_map, IfOk, OnOk};
 ghost use Rattle.std.specs.List.{flat_map};
-ghost use Rattle.of_require.specs.Answers.{count_verdicts, is_verdict, verdict_of};
 ghost use Rattle.of_require.specs.Words.{answer_words, counted_noun, decision_words, in_words, is_told as is_told_by, is_told_always as is_told_in_short, requirements_summary, requirements_words, deciding_frame_words, verdict_counts, verdict_line, verdict_said, why_decided, frame_words_line};
 
-use crate::answers::Answer;
+use crate::answers::{Answer, count};
 use crate::deciding::{Decision, Shown, Verdict};
 use of_frame_words::frame_words;
 use of_json::{push_frame_line, push_side};
@@ -140,22 +139,6 @@ fn push_answers(
         push_answer(alloc, out, all, answer)?;
     }
     Ok(())
-}
-
-fn is_verdict_on(verdict: Verdict, answer: &Answer) -> bool
-    ensures { result ≡ is_verdict verdict (verdict_of answer.now) }
-{
-    verdict == answer.verdict()
-}
-
-/// How many requirements have a verdict.
-pub fn count(verdict: Verdict, answers: &[Answer]) -> usize
-    ensures { result ≡ count_verdicts verdict answers.now }
-{
-    answers
-        .iter()
-        .filter(|answer| is_verdict_on(verdict, answer))
-        .count()
 }
 
 #[tactic(auto, unfolding(crate::specs::Words::counted_noun))]
