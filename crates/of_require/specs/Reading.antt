@@ -1,6 +1,6 @@
 -- REQUIREMENTS IN WORDS, one a line: `no frame ip,nw_src=10.0.9.0/24 leaves by 2,3,4`. Words are separated by spaces. A match has the words of
 -- ovs-fields(7), with commas between them.
-use Rattle.std.specs.Prelude.{ℕ, ◌==◌, ◌||◌, Bool, true, false, List, [], ◌∷◌, ◌++◌, length, codes, Result, Ok, Err, if◌then◌else◌}
+use Rattle.std.specs.Prelude.{ℕ, ◌==◌, ◌||◌, Bool, true, false, List, [], ◌∷◌, length, codes, Result, Ok, Err, if◌then◌else◌}
 use Rattle.std.specs.Str.{bytes_eq}
 use Rattle.of_wire.specs.declared.limits.TheConstants.{OFPP_CONTROLLER, TABLES}
 use Rattle.of_actions.specs.PortNumbers.{is_number as is_port_number}
@@ -22,7 +22,7 @@ use Rattle.of_require.specs.declared.requirement.Demand.TheVariants as demands
 use Rattle.of_require.specs.declared.requirement.Quantifier.{Quantifier}
 use Rattle.of_require.specs.declared.requirement.Quantifier.TheVariants.{AtLeastOne, Each, No}
 use Rattle.of_require.specs.declared.requirement.Requirement.{Requirement}
-use Rattle.of_require.specs.Refusals.{LineRefusal, word_refused}
+use Rattle.of_require.specs.Refusals.{LineRefusal, each_said, word_refused}
 
 -- ---- words
 
@@ -54,14 +54,9 @@ place_at word (Ok port) =
 abbrev pub place_named : List ℕ → Result Destination LineRefusal
 place_named word = if bytes_eq word (codes "drop") then Ok Nothing else place_at word (port_in Unknown word)
 
--- these places and those of more words
-abbrev pub places_with : List Destination → List (List ℕ) → Result (List Destination) LineRefusal
-places_with places [] = Ok places
-places_with places (w ∷ ws) = place_named w >>= λ to. places_with (places ++ to ∷ []) ws
-
 -- one place at least
 abbrev pub places_in : List ℕ → Result (List Destination) LineRefusal
-places_in text = if length text == 0 then word_refused text whys.Place else places_with [] (words_from 0 text)
+places_in text = if length text == 0 then word_refused text whys.Place else each_said place_named (words_from 0 text)
 
 -- ---- what frames do: `leaves by 2,3`, `leaves only by 2,controller` or `passes table 1`
 

@@ -1,10 +1,11 @@
 -- FILES OF REQUIREMENTS, one a line; empty lines and comments, which begin with `#`, are passed over.
-use Rattle.std.specs.Prelude.{◌≡◌, ℕ, ◌+◌, Bool, List, [], ◌∷◌, ◌++◌, Result, Ok, Err, if◌then◌else◌}
+use Rattle.std.specs.Prelude.{◌≡◌, ℕ, ◌+◌, Bool, List, [], ◌∷◌, ◌++◌, map, Result, Ok, Err, if◌then◌else◌}
 use Rattle.of_lines.specs.Lines.{before, is_passed, lines_of}
 use Rattle.of_ovs_words.specs.Outcomes.{◌>>=◌}
 use Rattle.of_require.specs.declared.line.Line.{Line}
 use Rattle.of_require.specs.declared.refusal.NoRequirements.{NoRequirements}
-use Rattle.of_require.specs.declared.refusal.NoRequirements.TheVariants.{NoMemory, Refused}
+use Rattle.of_require.specs.declared.refusal.NoRequirement.{NoRequirement}
+use Rattle.of_require.specs.declared.refusal.NoRequirement.TheVariants.{NoMemory, Refused}
 use Rattle.of_require.specs.Reading.{SaidRequirement, requirement_said, unspaced, view_requirement}
 use Rattle.of_require.specs.Refusals.{LineRefusal}
 
@@ -21,10 +22,6 @@ pub record FileRefusal : Type 0 where
   pub line : ℕ
   pub refusal : LineRefusal
 
-abbrev pub at_requirement_line : ℕ → Result SaidRequirement LineRefusal → Result SaidRequirement FileRefusal
-at_requirement_line number (Ok r) = Ok r
-at_requirement_line number (Err refusal) = Err (record { line = number; refusal = refusal })
-
 -- a line without CR at its end
 abbrev pub line_text : List ℕ → List ℕ
 line_text line = before 13 line
@@ -32,21 +29,31 @@ line_text line = before 13 line
 abbrev pub is_passed_or_blank : List ℕ → Bool
 is_passed_or_blank line = is_passed (unspaced line)
 
--- these requirements and that of a line
-abbrev pub with_requirement_line : List SaidLine → ℕ → List ℕ → Result (List SaidLine) FileRefusal
-with_requirement_line said number line =
-    if is_passed_or_blank (line_text line) then Ok said
-    else at_requirement_line number (requirement_said (line_text line)) >>= λ r. Ok (said ++ record { number = number; text = line_text line; requirement = r } ∷ [])
+abbrev pub at_requirement_line : ℕ → List ℕ → Result SaidRequirement LineRefusal → Result (List SaidLine) FileRefusal
+at_requirement_line number text (Ok r) = Ok (record { number = number; text = text; requirement = r } ∷ [])
+at_requirement_line number text (Err refusal) = Err (record { line = number; refusal = refusal })
 
-abbrev pub with_lines : List SaidLine → ℕ → List (List ℕ) → Result (List SaidLine) FileRefusal
-with_lines said number [] = Ok said
-with_lines said number (line ∷ lines) = with_requirement_line said number line >>= λ next. with_lines next (number + 1) lines
+-- the requirement of a line, unless it is passed over
+abbrev pub line_said : ℕ → List ℕ → Result (List SaidLine) FileRefusal
+line_said number line = if is_passed_or_blank (line_text line) then Ok [] else at_requirement_line number (line_text line) (requirement_said (line_text line))
+
+-- those of lines, which have numbers from this one on
+abbrev pub lines_said : ℕ → List (List ℕ) → Result (List SaidLine) FileRefusal
+lines_said number [] = Ok []
+lines_said number (line ∷ lines) = line_said number line >>= λ own. lines_said (number + 1) lines >>= λ others. Ok (own ++ others)
 
 -- THE REQUIREMENTS OF A FILE. Refused is the first line that is neither a requirement nor passed over.
 abbrev pub requirements_in : List ℕ → Result (List SaidLine) FileRefusal
-requirements_in file = with_lines [] 1 (lines_of file)
+requirements_in file = lines_said 1 (lines_of file)
 
--- it is the refusal of this outcome, unless memory ran out
+-- it is the refusal of this outcome, at the line, unless memory ran out
+abbrev pub StopsAt : {A : Type 0} → Result A FileRefusal → ℕ → NoRequirement → Type 0
+StopsAt outcome number NoMemory = Unit {0}
+StopsAt outcome number (Refused r) = outcome ≡ Err (record { line = number; refusal = record { word = r.word.items; why = r.why } })
+
 abbrev pub FileStops : {A : Type 0} → Result A FileRefusal → NoRequirements → Type 0
-FileStops outcome NoMemory = Unit {0}
-FileStops outcome (Refused line r) = outcome ≡ Err (record { line = line; refusal = record { word = r.word.items; why = r.why } })
+FileStops outcome stop = StopsAt outcome stop.line stop.why
+
+-- a line adds what it says
+abbrev pub AddsLine : ℕ → List ℕ → List Line → List Line → Type 0
+AddsLine number line old new = (line_said number line >>= λ own. Ok (map view_line old ++ own)) ≡ Ok (map view_line new)

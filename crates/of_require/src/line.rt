@@ -3,7 +3,7 @@ ghost use Rattle.std.specs.Prelude.{◌≡◌, ◌++◌, map, IfErr, IfOk, OnOk,
 ghost use Rattle.of_regions.specs.Conditions.{AreConditions};
 ghost use Rattle.of_frame_words.specs.Conditions.{conditions_in_words};
 ghost use Rattle.of_require.specs.Reading.{is_demand_word as is_demand_name, match_refused, match_said, quantifier_named, requirement_said, view_requirement};
-ghost use Rattle.of_require.specs.RequirementFiles.{at_requirement_line, is_passed_or_blank as is_no_requirement, FileStops, requirements_in, view_line, with_requirement_line};
+ghost use Rattle.of_require.specs.RequirementFiles.{AddsLine, FileStops, StopsAt, is_passed_or_blank as is_no_requirement, line_said, requirements_in, view_line};
 ghost use Rattle.of_require.specs.Refusals.{LineStops};
 
 use crate::reading::{behind_expected, first_word, read_demand, read_ending, unspaced};
@@ -104,36 +104,21 @@ fn is_passed_or_blank(line: &[u8]) -> bool
     is_passed_over(unspaced(line))
 }
 
-// The requirement of the line with a number.
-fn read_at(alloc: Global, number: usize, text: &[u8]) -> Result<Requirement, NoRequirements>
-    ensures is { IfOk result (λ requirement. at_requirement_line number (requirement_said text.now) ≡ Ok (view_requirement requirement)) }
-    ensures stopped { IfErr result (FileStops (at_requirement_line number (requirement_said text.now))) }
-{
-    match read_requirement(alloc, text) {
-        Ok(requirement) => Ok(requirement),
-        Err(NoRequirement::NoMemory) => Err(NoRequirements::NoMemory),
-        Err(NoRequirement::Refused(refusal)) => Err(NoRequirements::Refused {
-            line: number,
-            refusal,
-        }),
-    }
-}
-
 // Appends the requirement of the line with a number, unless the line is empty or a comment.
 fn push_line(
     alloc: Global,
     lines: &mut Vec<Line>,
     number: usize,
     line: &[u8],
-) -> Result<(), NoRequirements>
-    ensures is { OnOk result (with_requirement_line (map view_line lines.old.items) number line.now ≡ Ok (map view_line lines.new.items)) }
-    ensures stopped { IfErr result (FileStops (with_requirement_line (map view_line lines.old.items) number line.now)) }
+) -> Result<(), NoRequirement>
+    ensures is { OnOk result (AddsLine number line.now lines.old.items lines.new.items) }
+    ensures stopped { IfErr result (StopsAt (line_said number line.now) number) }
 {
     let (text, _) = cut(line, b'\r');
     if is_passed_or_blank(text) {
         return Ok(());
     }
-    let requirement = read_at(alloc, number, text)?;
+    let requirement = read_requirement(alloc, text)?;
     let text = text.to_vec(alloc)?;
     let line = Line {
         number,
@@ -142,7 +127,7 @@ fn push_line(
     };
     match lines.push(line) {
         Ok(_) => Ok(()),
-        Err(_) => Err(NoRequirements::NoMemory),
+        Err(_) => Err(NoRequirement::NoMemory),
     }
 }
 
@@ -160,7 +145,7 @@ pub fn read_requirements(alloc: Global, file: &[u8]) -> Result<Vec<Line>, NoRequ
         number += 1;
         match push_line(alloc, &mut lines, number, line) {
             Ok(()) => {}
-            Err(stop) => return Err(stop),
+            Err(why) => return Err(NoRequirements { line: number, why }),
         }
     }
     Ok(lines)

@@ -1,7 +1,6 @@
 //! Why a line is no requirement.
 ghost use Rattle.std.specs.Prelude.{◌≡◌};
 ghost use Rattle.of_require.specs.declared.refusal.NoRequirement.TheVariants.{NoMemory};
-ghost use Rattle.of_require.specs.declared.refusal.NoRequirements.TheVariants.{NoMemory as NoMemoryForFile};
 ghost use Rattle.of_require.specs.Refusals.{IsLineRefusal};
 
 use std::alloc::{AllocError, Global};
@@ -40,18 +39,10 @@ pub enum NoRequirement {
 
 /// Why a file has no requirements.
 #[derive(Drop)]
-pub enum NoRequirements {
-    NoMemory,
+pub struct NoRequirements {
     /// The number of a line, from 1, and why it is no requirement.
-    Refused { line: usize, refusal: Refusal },
-}
-
-impl From<AllocError> for NoRequirements {
-    ghost from_gives = { λ _ e. e ≡ NoMemoryForFile };
-
-    fn from(_e: AllocError) -> NoRequirements {
-        NoRequirements::NoMemory
-    }
+    pub line: usize,
+    pub why: NoRequirement,
 }
 
 impl From<AllocError> for NoRequirement {

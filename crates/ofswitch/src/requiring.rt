@@ -7,7 +7,7 @@ use of_files::missing_ports;
 use of_paths_report::Destination;
 use of_replay::Ended;
 use of_require::{
-    Answer, Demand, Line, NoRequirements, Verdict, answer_all, read_requirements,
+    Answer, Demand, Line, NoRequirement, NoRequirements, Verdict, answer_all, read_requirements,
     requirements_as_json, requirements_as_junit, requirements_in_words, worst,
 };
 use of_sockets::ended_unopened;
@@ -40,8 +40,14 @@ pub fn read_required(rt: &HostRuntime, path: &str) -> Result<Vec<Line>, NoFile> 
     };
     match read_requirements(rt.alloc(), &bytes) {
         Ok(lines) => Ok(lines),
-        Err(NoRequirements::NoMemory) => Err(NoFile::ended(rt.alloc(), Ended::NoMemory)),
-        Err(NoRequirements::Refused { line, refusal }) => {
+        Err(NoRequirements {
+            why: NoRequirement::NoMemory,
+            ..
+        }) => Err(NoFile::ended(rt.alloc(), Ended::NoMemory)),
+        Err(NoRequirements {
+            line,
+            why: NoRequirement::Refused(refusal),
+        }) => {
             let word = match std::str::from_utf8(&refusal.word) {
                 Ok("") => "at its end",
                 Ok(word) => word,

@@ -14,7 +14,7 @@ loop-rest-preserved c =
 pub returns-in-Err-clause-stopped : goal.returns-in-Err-clause-stopped
 returns-in-Err-clause-stopped c =
     let some : 0 < length c.loop-rest.rest.now = some_bytes c.loop-rest.rest.now c.is_empty.result c.is_empty.ensures c.loop-rest-test.true in
-    same_end _ _ c.in-Err.stop c.loop-rest.invariant.read (lines_stop _ _ c.loop-rest.rest.now some c.cut.result.0.now c.in-Err.stop c.cut.ensures.first c.in-Err.ensures.stopped)
+    same_end _ _ _ c.in-Err.why c.loop-rest.invariant.read (lines_stop _ _ c.loop-rest.rest.now some c.cut.result.0.now c.in-Err.why c.cut.ensures.first c.in-Err.ensures.stopped)
 
 pub returns-clause-is : goal.returns-clause-is
 returns-clause-is c = c.loop-rest.invariant.read ∙ lines_end _ _ c.loop-rest.rest.now (no_bytes c.loop-rest.rest.now c.is_empty.result c.is_empty.ensures c.loop-rest-test.false)

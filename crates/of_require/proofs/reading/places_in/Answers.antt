@@ -1,9 +1,10 @@
 use Rattle.std.proofs.Common.{◌∙◌, ◌∷◌, [], List, ap, sym}
 use Rattle.of_ovs_words.specs.Words.{words_from}
 use Rattle.of_paths.specs.declared.destination.Destination.{Destination}
-use Rattle.of_require.specs.Reading.{places_with}
+use Rattle.of_require.specs.Reading.{place_named}
+use Rattle.of_require.specs.Refusals.{each_said}
 use Rattle.of_ovs_words.proofs.WordLemmas.{no_bytes, some_bytes}
-use Rattle.of_require.proofs.ReadingLemmas.{places_are, places_end, places_more, places_stop, pushed_ok, same_stop}
+use Rattle.of_require.proofs.ReadingLemmas.{behind_said, places_are, places_end, places_more, places_stop, pushed_ok, same_stop}
 use Rattle.of_require.proofs.reading.places_in.Goals as goal
 
 pub loop-rest-preserved : goal.loop-rest-preserved
@@ -11,7 +12,7 @@ loop-rest-preserved c =
     let pushed = pushed_ok c.push.result c.push.new.self.items c.loop-rest.places.items (c.in-Ok.to ∷ []) c.push.ensures.items (sym c.is_err.ensures.value ∙ c.if-is_err.false) in
     c.loop-rest.invariant
     ∙ (places_more c.loop-rest.places.items c.loop-rest.rest.now (some_bytes c.loop-rest.rest.now c.is_empty-in-loop-rest.result c.is_empty-in-loop-rest.ensures c.loop-rest-test.true) c.cut_word.result.0.now c.cut_word.result.1.now c.in-Ok.to c.cut_word.ensures.first c.cut_word.ensures.rest c.in-Ok.ensures.is
-    ∙ ap (λ (l : List Destination). places_with l (words_from 0 c.cut_word.result.1.now)) (sym pushed))
+    ∙ ap (λ (l : List Destination). behind_said l (each_said place_named (words_from 0 c.cut_word.result.1.now))) (sym pushed))
 
 pub returns-in-Err-clause-stopped : goal.returns-in-Err-clause-stopped
 returns-in-Err-clause-stopped c =
