@@ -40,14 +40,18 @@ pub fn read_required(rt: &HostRuntime, path: &str) -> Result<Vec<Line>, NoFile> 
     };
     match read_requirements(rt.alloc(), &bytes) {
         Ok(lines) => Ok(lines),
-        Err(NoRequirements {
-            why: NoRequirement::NoMemory,
-            ..
-        }) => Err(NoFile::ended(rt.alloc(), Ended::NoMemory)),
-        Err(NoRequirements {
-            line,
-            why: NoRequirement::Refused(refusal),
-        }) => {
+        Err(
+            NoRequirements {
+                why: NoRequirement::NoMemory,
+                ..
+            },
+        ) => Err(NoFile::ended(rt.alloc(), Ended::NoMemory)),
+        Err(
+            NoRequirements {
+                line,
+                why: NoRequirement::Refused(refusal),
+            },
+        ) => {
             let word = match std::str::from_utf8(&refusal.word) {
                 Ok("") => "at its end",
                 Ok(word) => word,
