@@ -206,10 +206,10 @@ def push_vlan(number):
 POP_VLAN = struct.pack(">HH4x", 18, 8)
 
 
-def flow_mod(command, fields=(), actions=(), priority=10, idle=0, flags=0, out_port=ANY):
+def flow_mod(command, fields=(), actions=(), priority=10, idle=0, flags=0, out_port=ANY, table=0):
     apply = b"".join(actions)
     instructions = struct.pack(">HH4x", 4, 8 + len(apply)) + apply if actions else b""
-    head = struct.pack(">QQBBHHHIIIHxx", 0, 0, 0xFF if command == 3 else 0, command, idle, 0, priority, ANY, out_port, ANY, flags)
+    head = struct.pack(">QQBBHHHIIIHxx", 0, 0, 0xFF if command == 3 else table, command, idle, 0, priority, ANY, out_port, ANY, flags)
     return message(14, head + match(*fields) + instructions)
 
 
@@ -292,6 +292,21 @@ class Controller:
                 rows.append(body[at : at + 4] + body[at + 12 : at + length])
                 at += length
         return rows
+
+    def fill(self, tables, count, actions=1):
+        """Adds so many flows to each of the first tables. A row of statistics of each has 80 bytes, and 16 for each action."""
+        for table in range(tables):
+            self.ask(*(add([in_port(3), eth_type(0x9000 + it)], [output(2)] * actions, priority=5, table=table) for it in range(count)))
+
+    def dumps(self, count):
+        """How many bytes of rows each of the next FLOW replies has, in all its messages."""
+        sizes = [0]
+        while len(sizes) <= count:
+            body = self.wait_for(MULTIPART + 1)
+            sizes[-1] += len(body) - 8
+            if not body[3] & 1:
+                sizes.append(0)
+        return sizes[:-1]
 
     def close(self):
         self.connection.close()

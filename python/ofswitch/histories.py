@@ -1,4 +1,4 @@
-"""At which places of an event file the fate of a frame changes, and what changed it, as `ofswitch history` finds them (docs/HISTORY.md)."""
+"""At which places of an event file the fate of a frame or flow entries change, and by what, as `ofswitch history` finds them (docs/HISTORY.md)."""
 
 from __future__ import annotations
 
@@ -20,6 +20,7 @@ def history(
     frame: Octets | str | None = None,
     *,
     row: int | None = None,
+    flow: str | None = None,
     dpid: int = 1,
     program: StrPath | None = None,
     timeout: float = 600.0,
@@ -27,12 +28,17 @@ def history(
     """The changes of the fate of a frame, as docs/JSON.md describes them: `line`, `row` or `message` and `by`, `before` and `after`.
 
     The log is an event file as a text, or its path (a `pathlib.Path`). The frame is bytes or words, as `trace` takes them; with `row`
-    it is that of a row `f PORT HEX` in this line, and the history ends there. ValueError if an argument or the text has a fault.
+    it is that of a row `f PORT HEX` in this line, and the history ends there. With `flow` they are the changes of the flow entries
+    that have these words, such as "table=0,ip,nw_dst=10.0.0.0/8": `before` has the entries that went, and `after` those that came.
+    ValueError if an argument or the text has a fault.
     """
-    if (row is None) == (frame is None):
-        raise ValueError("a history is of a port and a frame, or of a row")
-    words = ["--row", str(row)] if frame is None else [frame if isinstance(frame, str) else rows.as_bytes(frame).hex()]
+    if [row, frame, flow].count(None) != 2:
+        raise ValueError("a history is of a port and a frame, of a row, or of flow entries")
     options = [] if port is None else ["--port", str(port)]
+    if frame is not None:
+        words = [frame if isinstance(frame, str) else rows.as_bytes(frame).hex()]
+    else:
+        words = ["--row", str(row)] if flow is None else ["--flow", flow]
     with file_of(log) as file:
         command = [find(program), "history", "--json", "--dpid", str(dpid), *options, file, *words]
         try:

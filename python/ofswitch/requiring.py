@@ -62,5 +62,5 @@ def _reason(found: dict[str, Any], trace: Callable[[int, bytes], str]) -> str:
         lines = [f"frame: --port {port} {frame.hex()}", f"  {in_words(frame)}", *(f"  {line}" for line in trace(port, frame).splitlines())]
         return head + "".join(f"  {line}\n" for line in lines)
     if found["verdict"] == "undecided":
-        return f"{head}  it is not known of all frames that match; `ofswitch paths --match` says why\n"
+        return f"{head}  it is not known of all frames that come in by port {found['in_port']} and match; `ofswitch paths --match` says why\n"
     return f"{head}  {'no frame does this' if found['matches'] else 'the switch receives no frame that matches'}\n"

@@ -226,6 +226,10 @@ class Switch:
         """Since when a frame goes where it goes, and who did it: the changes of its fate (docs/HISTORY.md), as `ofswitch.history` returns them."""
         return history(self._events(), port, self._octets(frame), dpid=self._dpid, program=self._program)
 
+    def history_of(self, flow: str) -> list[dict[str, Any]]:
+        """When the flow entries that have these words came, changed and went, and by what: "table=0,ip,nw_dst=10.0.0.0/8" (docs/HISTORY.md)."""
+        return history(self._events(), flow=flow, dpid=self._dpid, program=self._program)
+
     def frame_of(self, words: str) -> bytes:
         """The frame that has these fields: "tcp,nw_src=10.0.0.1,tp_dst=80" (docs/TRACE.md). ValueError if there is none.
 

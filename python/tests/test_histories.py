@@ -1,4 +1,4 @@
-"""Since when a frame goes where it goes, and who did it."""
+"""Since when a frame goes where it goes, when flow entries came and went, and who did it."""
 
 import random
 
@@ -45,13 +45,36 @@ def test_words_and_rows_of_a_log(switch, tmp_path):
     assert [it["line"] for it in history(switch.log, frame=words)] == [1, 6]
 
 
+def test_the_life_of_flow_entries(switch):
+    switch.feed(OUT + messages.flow(messages.output(3), in_port=2, priority=20, hard=2))
+    added = "table 0, priority 20, in_port 2, cookie 0x0, idle 0, hard 2, flags 0, added at 0, apply actions, output 3"
+    assert [(it["line"], it["message"], it["before"], it["after"]) for it in switch.history_of("in_port=2")] == [(6, 2, [], [added])]
+    # counters do not matter
+    switch.frame(1, FRAME)
+    switch.feed(messages.flow(in_port=1, xid=9))
+    switch.at(2_000_000_000)
+    found = switch.history_of("table=0")
+    assert [(it["line"], len(it["before"]), len(it["after"])) for it in found] == [(6, 0, 1), (6, 0, 1), (8, 1, 1), (9, 1, 0)]
+    assert found[2]["by"][0].startswith("from the controller: FLOW_MOD xid 9 ADD table 0")
+    assert (found[3]["row"], found[3]["before"]) == ("t 2000000000", [added])
+    assert switch.history_of("priority=20,cookie=0/1") == history(switch.log, flow="in_port=2") == [found[1], found[3]]
+    assert switch.history_of("table=1") == switch.history_of("cookie=1") == switch.history_of("in_port=2,dl_dst=02:00:00:00:00:01") == []
+
+
 def test_arguments_with_a_fault(switch):
-    with pytest.raises(ValueError, match="of a port and a frame, or of a row"):
+    with pytest.raises(ValueError, match="of a port and a frame, of a row, or of flow entries"):
         history(switch.log)
-    with pytest.raises(ValueError, match="of a port and a frame, or of a row"):
+    with pytest.raises(ValueError, match="of a port and a frame, of a row, or of flow entries"):
         history(switch.log, 1, FRAME, row=1)
     with pytest.raises(ValueError, match="the line is no row of a frame"):
         history(switch.log, row=1)
+    for words in ("table=16", "priority=65536", "cookie=x", "cookie=1/", "what=1"):
+        with pytest.raises(ValueError, match=f"bad flow: {words}: "):
+            switch.history_of(words)
+    with pytest.raises(ValueError, match="bad flow: nw_dst: needs ip"):
+        switch.history_of("nw_dst=10.0.0.1")
+    with pytest.raises(ValueError, match="cannot be used with"):
+        history(switch.log, 1, flow="ip")
     with pytest.raises(ValueError, match="line 1: bad row"):
         history("c 0\n", 1, FRAME)
 

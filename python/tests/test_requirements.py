@@ -104,7 +104,7 @@ def test_what_no_frame_shows(switch):
     switch.port_add(1), switch.port_add(2)
     with pytest.raises(AssertionError, match="^fails: some frame leaves by 2\n  no frame does this$"):
         switch.require("some frame leaves by 2")
-    with pytest.raises(AssertionError, match="^undecided: no frame leaves by 2\n  it is not known of all frames that match; `ofswitch paths --match` says why$"):
+    with pytest.raises(AssertionError, match="^undecided: no frame leaves by 2\n  it is not known of all frames that come in by port 1 and match; `ofswitch paths --match` says why$"):
         switch.require("no frame leaves by 2", steps=0)
     with pytest.raises(AssertionError, match="^fails: some frame metadata=1 leaves by drop\n  the switch receives no frame that matches$"):
         switch.require("some frame metadata=1 leaves by drop")

@@ -183,8 +183,9 @@ end with status 2.
 
 const SERVING: &str =
     "A controller connects over TCP (`--listen`), or the switch connects to it (`--connect`), and reconnects whenever the
-connection is lost. It serves one controller at a time; a second one waits. The switch keeps its flows between connections, but its
-time advances only while there is one.
+connection is lost. It serves one controller at a time: another one that connects meanwhile is closed at once, unless nothing was
+heard of the first for 15 seconds. Without a HELLO a connection is closed after 10 seconds. The switch keeps its flows between
+connections, but its time advances only while there is one.
 
   ofswitch serve                                     wait at 127.0.0.1:6653
   ofswitch serve --connect 10.0.0.1:6653             connect to a controller that listens
@@ -193,9 +194,9 @@ time advances only while there is one.
 The event file has the rows of `replay`, except `connect`, `lost` and `c`, which are bad rows here. It is read completely
 before a controller connects. A row happens as soon as a controller is connected and each `t` row before it is due, in
 nanoseconds since the start. Frames that leave are printed (`s PORT HEX`); a line on standard error reports
-each connection and its end.
+each connection and its end. The log is an event file of all that happens (`ofswitch live --help`).
 
-A turn is an accept, or one read of at most 65,536 bytes that waits at most 10 ms.";
+A turn is an accept, or one read of at most 65,536 bytes that waits at most 2 seconds.";
 
 const LIVE: &str =
     "The switch forwards the frames of a network. Port N is VXLAN network N (RFC 7348): what comes in a datagram of that network is
@@ -209,13 +210,16 @@ no network interface of its own, and no privileges.
   ip link add vx1 type vxlan id 1 remote SWITCH dstport 4789  a host's interface at port 1 (then: ip link set vx1 up)
 
 Without a controller the switch goes on forwarding, and flows expire by the clock. One controller is served at a time: another one
-that connects meanwhile is closed at once. If a controller reads nothing for 10 seconds, its connection is closed.
+that connects meanwhile is closed at once, unless nothing was heard of the first for 15 seconds. Without a HELLO a connection is
+closed after 10 seconds, and so is one that reads nothing for 10 seconds. If nothing was heard for 60 seconds of a controller that
+the switch connected to, the switch connects once more, and takes the new connection.
 
 The event file has the rows of `replay`, except `connect`, `lost` and `c`; its rows happen as soon as the time of each `t` row
 before them has come, in nanoseconds since the start. With `--rows -`, rows `f` and `port` on standard input happen as soon as
 they are read, such as `port link 1 down`. Standard error reports bad rows and refused rows; the switch goes on.
 
-The log is an event file of all that happens, and a row is written before anything goes out for it. So `replay LOG` prints the
+The log is an event file of all that happens, and a row is written before anything goes out for it. Its first line says how to
+replay it, such as `# replay with --dpid 2`. So `replay LOG` prints the
 frames that the switch sent (and those for ports whose peer was not known), `dis LOG` its flow tables, and `trace --events LOG` and
 `check --events LOG` say why.
 
@@ -251,6 +255,8 @@ pub(crate) enum Kind {
     Repeated(&'static str, &'static str),
     // As an optional one, for an option that the named argument excludes.
     Excluded(&'static str, &'static str, &'static str),
+    // The same, for one that each of the two named arguments excludes.
+    ExcludedByBoth(&'static str, &'static str, &'static str, &'static str),
     // An option without a value.
     Flag(&'static str),
 }
@@ -473,7 +479,7 @@ const PATHS_ARGUMENTS: [Argument; 8] = [
     },
 ];
 
-const SERVE: [Argument; 6] = [
+const SERVE: [Argument; 8] = [
     Argument {
         name: "listen",
         kind: Kind::Optional("listen", "ADDR"),
@@ -485,9 +491,19 @@ const SERVE: [Argument; 6] = [
         help: "The controller to connect to, such as 10.0.0.1:6653",
     },
     Argument {
+        name: "idle",
+        kind: Kind::Optional("idle", "S"),
+        help: "Close a connection of which nothing was heard for S seconds (by default never)",
+    },
+    Argument {
         name: "FILE",
         kind: Kind::Optional("events", "FILE"),
         help: "An event file with ports and frames",
+    },
+    Argument {
+        name: "log",
+        kind: Kind::Optional("log", "FILE"),
+        help: "Log all events to this event file",
     },
     Argument {
         name: "turns",
@@ -506,7 +522,7 @@ const SERVE: [Argument; 6] = [
     },
 ];
 
-const LIVE_ARGUMENTS: [Argument; 11] = [
+const LIVE_ARGUMENTS: [Argument; 12] = [
     Argument {
         name: "vxlan",
         kind: Kind::Optional("vxlan", "ADDR[:PORT]"),
@@ -521,6 +537,11 @@ const LIVE_ARGUMENTS: [Argument; 11] = [
         name: "connect",
         kind: Kind::Excluded("connect", "ADDR", "listen"),
         help: "The controller to connect to, such as 10.0.0.1:6653",
+    },
+    Argument {
+        name: "idle",
+        kind: Kind::Optional("idle", "S"),
+        help: "Close a connection of which nothing was heard for S seconds (by default never)",
     },
     Argument {
         name: "ports",
@@ -611,7 +632,7 @@ const SUBCOMMANDS: [Subcommand; 12] = [
     },
     Subcommand {
         name: "history",
-        about: "Finds where in an event file the fate of a frame changes, and what changed it",
+        about: "Finds where in an event file the fate of a frame or flow entries change, and what changed them",
         text: HISTORIES,
         arguments: &HISTORY,
     },
@@ -715,6 +736,11 @@ fn argument_of<'a>(alloc: Global, argument: &Argument) -> Result<Arg<'a>, AllocE
         Kind::Excluded(option, value, other) => {
             named.long(option).value_name(value).conflicts_with(other)
         },
+        Kind::ExcludedByBoth(option, value, one, other) => named
+            .long(option)
+            .value_name(value)
+            .conflicts_with(one)?
+            .conflicts_with(other),
         Kind::Flag(option) => Ok(named.long(option).action(ArgAction::SetTrue)),
     }
 }

@@ -17,12 +17,12 @@ use clap::ArgMatches;
 use clap::error::{Error, ErrorKind};
 use command::command;
 use history::history_of;
-pub use history::{HistoryAsked, HistoryOf};
+pub use history::{EntriesAsked, HistoryAsked, HistoryOf};
 use of_wire::limits::TABLES;
 pub use paths::{Leading, PathsAsked};
 use paths::{paths_of, steps_of};
 use port_list::port_list_of;
-use received::received_of;
+use received::{NO_FILE, NO_FRAME, is_frame, received_of};
 use std::alloc::{AllocError, Global};
 use std::net::{IpAddr, Net, SocketAddr, ToSocketAddrs};
 use std::str::FromStr;
@@ -46,13 +46,6 @@ const DEFAULT_TURNS: u32 = 1_000_000;
 const DEFAULT_READS: u32 = 1_000_000;
 
 const DEFAULT_DPID: u64 = 1;
-
-/// What a trace without a frame lacks.
-const NO_FRAME: &str =
-    "no frame: write it behind the file, in words or as hexadecimal digits with --port
-  ofswitch trace FILE in_port=1,dl_dst=02:00:00:00:00:a1,ip,nw_dst=10.1.1.9
-  ofswitch trace FILE --port 1 0200000000a1020000000001
-";
 
 /// A run over the rows or lines of a file; `-` is standard input.
 #[derive(PartialEq, Eq, Drop)]
@@ -101,7 +94,7 @@ pub enum Request {
     },
     /// To print the trace of a frame that is received at a port of the switch of a file; `-` is standard input.
     Trace(Trace),
-    /// To print where in an event file the fate of a frame changes; `-` is standard input.
+    /// To print where in an event file the fate of a frame or flow entries change; `-` is standard input.
     History(HistoryAsked),
     /// To print which flows of the switch of a file can win, and which never do; `-` is standard input.
     Check(Check),
@@ -222,8 +215,12 @@ pub enum Asked {
 #[derive(PartialEq, Eq, Drop)]
 pub struct Serve {
     pub meeting: Meeting,
+    /// For how many nanoseconds a connection may say nothing, if that is limited.
+    pub idle: Option<u64>,
     /// An event file with ports and frames; `-` is standard input.
     pub events: Option<String>,
+    /// Where all that happens is written.
+    pub log: Option<String>,
     pub turns: u32,
     /// The datapath_id.
     pub dpid: u64,
@@ -237,6 +234,8 @@ pub struct Live {
     /// Where datagrams are received.
     pub tunnel: SocketAddr,
     pub meeting: Meeting,
+    /// For how many nanoseconds a connection may say nothing, if that is limited.
+    pub idle: Option<u64>,
     /// The switch has the ports 1 to this one, at most 64, and those of the event file.
     pub ports: u32,
     /// An event file with ports and frames; `-` is standard input.
@@ -392,7 +391,8 @@ fn trace_of(alloc: Global, matches: &ArgMatches<'_>) -> Result<Trace, NoRequest>
         _ => matches.get_str("FILE"),
     };
     let Some(frame) = frame else {
-        return Err(refused(alloc, NO_FRAME)?);
+        let is_frame_alone = of.kind == FileKind::Guessed && is_frame(of.path.as_str());
+        return Err(refused(alloc, if is_frame_alone { NO_FILE } else { NO_FRAME })?);
     };
     let at = row_of(alloc, matches.get_str("at"))?;
     let received = received_of(alloc, of.kind, matches.get_str("N"), frame)?;
@@ -526,7 +526,9 @@ fn text_of(alloc: Global, word: Option<&str>) -> Result<Option<String>, AllocErr
 fn serve_of<N: Net>(alloc: Global, net: &N, matches: &ArgMatches<'_>) -> Result<Serve, NoRequest> {
     Ok(Serve {
         meeting: meeting_of(alloc, net, matches)?,
+        idle: idle_of(alloc, matches.get_str("idle"))?,
         events: text_of(alloc, matches.get_str("FILE"))?,
+        log: log_of(alloc, matches)?,
         turns: turns_of(alloc, matches.get_str("turns"))?,
         dpid: dpid_of(alloc, matches.get_str("dpid"))?,
         quiet: matches.get_flag("quiet"),
@@ -534,14 +536,16 @@ fn serve_of<N: Net>(alloc: Global, net: &N, matches: &ArgMatches<'_>) -> Result<
 }
 
 fn live_of<N: Net>(alloc: Global, net: &N, matches: &ArgMatches<'_>) -> Result<Live, NoRequest> {
+    let tunnel = tunnel_of(alloc, matches.get_str("vxlan").unwrap_or(DEFAULT_TUNNEL))?;
     Ok(Live {
-        tunnel: tunnel_of(alloc, matches.get_str("vxlan").unwrap_or(DEFAULT_TUNNEL))?,
+        tunnel,
         meeting: meeting_of(alloc, net, matches)?,
+        idle: idle_of(alloc, matches.get_str("idle"))?,
         ports: ports_of(alloc, matches.get_str("ports"))?,
         events: text_of(alloc, matches.get_str("FILE"))?,
         rows: running_rows_of(alloc, matches.get_str("rows"), matches.get_str("FILE"))?,
-        peers: peers_of(alloc, matches.get_strs("peer").unwrap_or(&[]))?,
-        log: text_of(alloc, matches.get_str("log"))?,
+        peers: peers_of(alloc, tunnel, matches.get_strs("peer").unwrap_or(&[]))?,
+        log: log_of(alloc, matches)?,
         turns: live_turns_of(alloc, matches.get_str("turns"))?,
         dpid: dpid_of(alloc, matches.get_str("dpid"))?,
         quiet: matches.get_flag("quiet"),
@@ -611,12 +615,63 @@ fn peer_of(alloc: Global, word: &str) -> Result<PortPeer, NoRequest> {
     }
 }
 
-fn peers_of(alloc: Global, words: &[&str]) -> Result<Vec<PortPeer>, NoRequest> {
+// Whether a socket at an address can send to another one: at `::` also to IPv4 addresses.
+fn can_reach(from: IpAddr, to: IpAddr) -> bool {
+    match (from.to_canonical(), to.to_canonical()) {
+        (IpAddr::V4(_), IpAddr::V4(_)) | (IpAddr::V6(_), IpAddr::V6(_)) => true,
+        (from, IpAddr::V4(_)) => from.is_unspecified(),
+        _ => false,
+    }
+}
+
+// A port has one peer, which the socket can reach, and which is not the socket itself.
+fn check_peer(
+    alloc: Global,
+    tunnel: SocketAddr,
+    before: &[PortPeer],
+    peer: PortPeer,
+) -> Result<(), NoRequest> {
+    let PortPeer { port, address } = peer;
+    let why = if before.iter().any(|other| other.port == port) {
+        format!(in alloc; "bad peer: port {port} has two peers\n")?
+    } else if address == tunnel {
+        format!(in alloc; "bad peer: {address} is where the switch itself receives datagrams\n")?
+    } else if !can_reach(tunnel.ip(), address.ip()) {
+        format!(in alloc;
+            "bad peer: {address} cannot be reached from {tunnel}, which is an address of the other family\n"
+        )?
+    } else {
+        return Ok(());
+    };
+    Err(NoRequest::Refused(why))
+}
+
+fn peers_of(alloc: Global, tunnel: SocketAddr, words: &[&str]) -> Result<Vec<PortPeer>, NoRequest> {
     let mut peers = Vec::with_capacity(alloc, words.len())?;
     for word in words {
-        peers.push(peer_of(alloc, word)?).map_err(AllocError::from)?;
+        let peer = peer_of(alloc, word)?;
+        check_peer(alloc, tunnel, &peers, peer)?;
+        peers.push(peer).map_err(AllocError::from)?;
     }
     Ok(peers)
+}
+
+// The log, which is another file than the event file.
+fn log_of(alloc: Global, matches: &ArgMatches<'_>) -> Result<Option<String>, NoRequest> {
+    let log = matches.get_str("log");
+    if log.is_some() && log == matches.get_str("FILE") {
+        return Err(refused(alloc, "bad log: --events and --log are one file\n")?);
+    }
+    Ok(text_of(alloc, log)?)
+}
+
+// Seconds, as nanoseconds.
+fn idle_of(alloc: Global, word: Option<&str>) -> Result<Option<u64>, NoRequest> {
+    match word.map(number_in) {
+        None => Ok(None),
+        Some(Some(seconds)) if seconds > 0 => Ok(Some(u64::from(seconds) * 1_000_000_000)),
+        Some(_) => Err(refused(alloc, "bad idle: it is a number of seconds, at least 1\n")?),
+    }
 }
 
 fn live_turns_of(alloc: Global, word: Option<&str>) -> Result<u64, NoRequest> {
@@ -702,18 +757,21 @@ fn reads_of(alloc: Global, word: Option<&str>) -> Result<u32, NoRequest> {
     }
 }
 
-// Decimal, or hexadecimal after 0x.
+// A number of 64 bits: decimal, or hexadecimal after 0x.
+fn long_number_in(word: &str) -> Option<u64> {
+    match word.strip_prefix("0x") {
+        Some(digits) => u64::from_str_radix(digits, 16).ok(),
+        None => u64::from_str_radix(word, 10).ok(),
+    }
+}
+
 fn dpid_of(alloc: Global, word: Option<&str>) -> Result<u64, NoRequest> {
     let Some(word) = word else {
         return Ok(DEFAULT_DPID);
     };
-    let number = match word.strip_prefix("0x") {
-        Some(digits) => u64::from_str_radix(digits, 16),
-        None => u64::from_str_radix(word, 10),
-    };
-    match number {
-        Ok(dpid) => Ok(dpid),
-        Err(_) => Err(refused(alloc, "bad dpid: a 64-bit number\n")?),
+    match long_number_in(word) {
+        Some(dpid) => Ok(dpid),
+        None => Err(refused(alloc, "bad dpid: a 64-bit number\n")?),
     }
 }
 

@@ -5,6 +5,18 @@ use of_frame_words::{NoFrame, Received, is_frame_words, read_frame};
 use of_wire::limits::OFPP_MAX;
 use std::alloc::Global;
 
+/// What a trace without a frame lacks.
+pub(crate) const NO_FRAME: &str =
+    "no frame: write it behind the file, in words or as hexadecimal digits with --port
+  ofswitch trace FILE in_port=1,dl_dst=02:00:00:00:00:a1,ip,nw_dst=10.1.1.9
+  ofswitch trace FILE --port 1 0200000000a1020000000001
+";
+
+/// What a trace with a frame alone lacks.
+pub(crate) const NO_FILE: &str = "no file: write it in front of the frame
+  ofswitch trace FILE in_port=1,dl_dst=02:00:00:00:00:a1,ip,nw_dst=10.1.1.9
+";
+
 /// How a port is given.
 const PORT_WORDS: &str = "the port is --port N, or in_port=N in the words of the frame";
 
@@ -34,6 +46,13 @@ fn given_port_of(alloc: Global, kind: FileKind, port: Option<&str>) -> Result<u3
         )?)),
         (found, _) => found,
     }
+}
+
+/// Whether a word is a frame rather than a file's name: `in_port=1,ip`, or the hexadecimal digits of 14 bytes at least.
+pub(crate) fn is_frame(word: &str) -> bool {
+    let bytes = word.as_bytes();
+    bytes.contains(&b'=') && is_frame_words(bytes)
+        || bytes.len() >= 28 && bytes.iter().all(|byte| byte.is_ascii_hexdigit())
 }
 
 /// A frame in hexadecimal digits or in words, and the port at which it is received. Words may say the port, too.
@@ -67,6 +86,12 @@ fn said_of(
         Ok(received) => {
             if received.port == 0 {
                 given_port_of(alloc, kind, port)?;
+            }
+            if given != 0 && received.port != given {
+                let said = received.port;
+                return Err(NoRequest::Refused(format!(in alloc;
+                    "two ports: --port {given}, and in_port={said} in the words of the frame\n"
+                )?));
             }
             port_of(alloc, kind, Some(received.port))?;
             Ok(received)

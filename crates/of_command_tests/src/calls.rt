@@ -5,8 +5,8 @@ use of_mask_groups::MaskGroups;
 use of_replay::memory::MemorySource;
 use of_replay::{Ended, Reading};
 use of_sockets::{
-    Ending, Pauses, Refusals, RefusedRow, ended_unopened, ending_of, is_nobody, read_rows,
-    reading_of, write_some,
+    Ending, Heard, Pauses, Refusals, RefusedRow, begins_whole, ended_unopened, ending_of,
+    is_nobody, read_rows, reading_of, write_some,
 };
 use of_switch::SwitchError;
 use std::alloc::Global;
@@ -97,6 +97,42 @@ fn errors_mean(rt: HostRuntime) {
         (reading_of(&Ok(7)), None),
     ] {
         same(&rt, "a read", &ending_of(reading), &ending);
+    }
+}
+
+#[test]
+fn silent_connections_are_given_up(rt: HostRuntime) {
+    let hello = [4, 0, 0, 10, 0, 0, 0, 1, 0, 0];
+    for (count, is_whole) in [(0, false), (3, false), (8, false), (9, false), (10, true)] {
+        same(&rt, "a HELLO", &begins_whole(&hello[..count]), &is_whole);
+    }
+    const SECOND: u64 = 1_000_000_000;
+    let unmet = Heard {
+        begun: 5 * SECOND,
+        last: 14 * SECOND,
+        is_met: false,
+    };
+    same(&rt, "10 s", &unmet.ending(15 * SECOND - 1, None), &None);
+    same(
+        &rt,
+        "10 s",
+        &unmet.ending(15 * SECOND, None),
+        &Some(Ending::NoHello),
+    );
+    let met = Heard {
+        is_met: true,
+        ..unmet
+    };
+    same(&rt, "no limit", &met.ending(99 * SECOND, None), &None);
+    same(
+        &rt,
+        "3 s",
+        &met.ending(17 * SECOND, Some(3 * SECOND)),
+        &Some(Ending::Idle),
+    );
+    for (now, gives_way, is_doubted) in [(28, false, false), (29, true, false), (74, true, true)] {
+        same(&rt, "15 s", &met.gives_way(now * SECOND), &gives_way);
+        same(&rt, "60 s", &met.is_doubted(now * SECOND), &is_doubted);
     }
 }
 

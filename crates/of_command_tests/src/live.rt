@@ -32,7 +32,9 @@ port add 1 020000000001 p1 up
 port add 2 020000000002 p2 up
 connect
 w 04000010000000000001000800000010
-c 0400000800000001040e00580000000200000000000000000000000000000000000000000000000affffffffffffffffffffffff000000000001000c8000000400000001000000000004001800000000000000100000000200000000000000000414000800000003
+c 0400000800000001
+c 040e00580000000200000000000000000000000000000000000000000000000affffffffffffffffffffffff000000000001000c800000040000000100000000000400180000000000000010000000020000000000000000
+c 0414000800000003
 w 0415000800000003
 f 2 02000000000202000000000188b5
 f 1 02000000000202000000000188b5
@@ -182,5 +184,66 @@ fn the_log_fails(rt: HostRuntime) -> Result<(), Fail> {
     let ended = run(rt.alloc(), &mut network, 8)?;
     same(&rt, "its end", &ended, &Ended::WriteFault);
     same(&rt, "what passes", &network.passed.len(), &2);
+    Ok(())
+}
+
+/// Headers of an ECHO_REQUEST with 65,000 bytes behind it, and of a BARRIER_REQUEST.
+const ECHO: &str = "0402fdf000000004";
+
+const BARRIER: &str = "0414000800000005";
+
+/// An echo of 65,000 bytes is waited for, 17 times, and then a barrier, by a connection that takes 40,000 bytes at a time.
+fn much_asked(alloc: Global) -> Result<Vec<Line>, Fail> {
+    let mut lines = Vec::new(alloc);
+    lines.push(Line::Opened)?;
+    lines.push(Line::Heard(Bytes::new(bytes_of(alloc, "0400000800000001")?)))?;
+    for number in 1..18 {
+        let mut bytes = bytes_of(alloc, ECHO)?;
+        bytes.resize(65_008, 0)?;
+        if number == 17 {
+            bytes.extend_from_slice(&bytes_of(alloc, BARRIER)?)?;
+        }
+        lines.push(Line::Heard(Bytes::new(bytes)))?;
+    }
+    lines.push(Line::Ready)?;
+    lines.push(Line::Nothing)?;
+    lines.push(Line::Nothing)?;
+    Ok(lines)
+}
+
+// For each turn a letter: `h` if the switch hears the connection, `m` if it has messages to handle, `-` if it waits until answers are taken.
+fn wants(alloc: Global, network: &MemoryNetwork) -> Result<Vec<u8>, Fail> {
+    let mut text = Vec::new(alloc);
+    for passed in &network.passed {
+        if let Passed::Told { wanted, .. } = passed {
+            text.push(if wanted.hears {
+                b'h'
+            } else if wanted.at_once {
+                b'm'
+            } else {
+                b'-'
+            })?;
+        }
+    }
+    Ok(text)
+}
+
+#[test]
+fn messages_wait_for_answers(rt: HostRuntime) -> Result<(), Fail> {
+    let taking = Taking {
+        most: 40_000,
+        has_log: false,
+        ..ALL
+    };
+    let mut network = MemoryNetwork::new(rt.alloc(), much_asked(rt.alloc())?, taking);
+    let ended = run(rt.alloc(), &mut network, 22)?;
+    same(&rt, "its end", &ended, &Ended::Done);
+    let text = wants(rt.alloc(), &network)?;
+    same(
+        &rt,
+        "what it wants",
+        &text.as_slice(),
+        &b"hhhhhhhhhhhhhhhhhhh-mh".as_slice(),
+    );
     Ok(())
 }

@@ -1,3 +1,5 @@
 pub mod LogLemmas
 pub mod MarkLemmas
 pub mod TurnLemmas
+pub mod DifferingLemmas
+pub mod EntryLemmas

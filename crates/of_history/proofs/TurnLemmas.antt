@@ -19,7 +19,7 @@ use Rattle.of_replay.specs.declared.rows.Row.TheVariants as row
 use Rattle.of_replay.specs.Rows.{with_bytes}
 use Rattle.of_replay.specs.RowTexts.{row_happened}
 use Rattle.of_history.specs.Turns.{Turn, after_turns, all_message_turns, chunk_turns, first_handled, message_turns, row_turns, turn_and, turn_of}
-use Rattle.of_history.specs.Changes.{ChangeText, after_rows, rows_told_last, told_last, turns_told, unless_same}
+use Rattle.of_history.specs.Changes.{TurnText, after_rows, row_expiring, rows_told_last, told_last, turns_told, unless_same}
 
 -- ---- where turns lead
 
@@ -74,13 +74,13 @@ module _ (seen : Forwarding → List ℕ) where
 -- ---- turns as they are told
 
 -- those so far were told, and enough of them are left
-pub record Telling (text : ChangeText) (seen : Forwarding → List ℕ) (n : ℕ) (line : List ℕ) (first s : State) (k : ℕ) (before out : List ℕ) : Type 0 where
+pub record Telling (text : TurnText) (seen : Forwarding → List ℕ) (n : ℕ) (line : List ℕ) (first s : State) (k : ℕ) (before out : List ℕ) : Type 0 where
   pub turns : ℕ
   pub enough : length s.connection.pending < turns
   pub told : before ++ turns_told text seen n line 1 first (all_message_turns first) ≡ out ++ turns_told text seen n line (k + 1) s (message_turns turns s)
   pub leads : (drained first).state ≡ (drain turns s).state
 
-module _ (text : ChangeText) (seen : Forwarding → List ℕ) (n : ℕ) (line : List ℕ) where
+module _ (text : TurnText) (seen : Forwarding → List ℕ) (n : ℕ) (line : List ℕ) where
   pub telling_none : (s : State) (out : List ℕ) → Telling text seen n line s s 0 out out
   telling_none s out = record { turns = length s.connection.pending + 1; enough = omega arith; told = refl; leads = refl }
 
@@ -115,7 +115,7 @@ module _ (text : ChangeText) (seen : Forwarding → List ℕ) (n : ℕ) (line : 
 -- ---- bytes that were received
 
 -- a row whose bytes are received first
-pub turns_beside : (text : ChangeText) (seen : Forwarding → List ℕ) (n : ℕ) (line : List ℕ) (k : ℕ) (s t : State) (ts : List Turn) → s.core ≡ t.core → turns_told text seen n line k s ts ≡ turns_told text seen n line k t ts
+pub turns_beside : (text : TurnText) (seen : Forwarding → List ℕ) (n : ℕ) (line : List ℕ) (k : ℕ) (s t : State) (ts : List Turn) → s.core ≡ t.core → turns_told text seen n line k s ts ≡ turns_told text seen n line k t ts
 turns_beside text seen n line k s t [] e = refl
 turns_beside text seen n line k s t (x ∷ ts) e = rw e refl
 
@@ -123,7 +123,7 @@ fed_as : (r : Option SwitchError) (u : Unit {0}) (bytes : List ℕ) (s t : State
 fed_as None u bytes s t h = (refl, h)
 fed_as (Some e) u bytes s t h = let no = h.0 in absurd cc
 
-pub chunk_told : {E : Type 0} (text : ChangeText) (seen : Forwarding → List ℕ) (n : ℕ) (line : List ℕ) (r : Option SwitchError) (u : Unit {0}) (bytes : List ℕ) (s t : State) (result : Result (Unit {0}) E) (out new : List ℕ) →
+pub chunk_told : {E : Type 0} (text : TurnText) (seen : Forwarding → List ℕ) (n : ℕ) (line : List ℕ) (r : Option SwitchError) (u : Unit {0}) (bytes : List ℕ) (s t : State) (result : Result (Unit {0}) E) (out new : List ℕ) →
     Call r (λ _ new. new ≡ fed bytes s) s (Ok u) t → OnOk result (new ≡ out ++ turns_told text seen n line 1 t (all_message_turns t)) →
     OnOk result (new ≡ out ++ turns_told text seen n line 1 s (chunk_turns bytes s r))
 chunk_told text seen n line r u bytes s t (Err e) out new fed_so said = tt
@@ -144,3 +144,13 @@ whole_row s bytes r (inr (inl e)) = rw e (record { event = Lost; is = refl; turn
 whole_row s bytes r (inr (inr (inl e))) = rw e.1 (record { event = Frame e.0 bytes; is = refl; turns = refl })
 whole_row s bytes r (inr (inr (inr (inl e)))) = rw e.1 (record { event = Moment e.0; is = refl; turns = refl })
 whole_row s bytes r (inr (inr (inr (inr e)))) = rw e.1 (record { event = Ports e.0; is = refl; turns = refl })
+
+-- a row in which nothing expires
+pub quiet_row : (expiring : ℕ → Forwarding → List ℕ) (s : State) (bytes : List ℕ) (r : Row) →
+    (r ≡ row.Passed) ⊎ ((r ≡ row.Connect) ⊎ ((r ≡ row.Lost) ⊎ ((r ≡ row.Chunk) ⊎ (((x : ℕ) × (r ≡ row.Frame x)) ⊎ ((x : PortChange) × (r ≡ row.Ports x)))))) → [] ≡ row_expiring expiring s (with_bytes bytes r)
+quiet_row expiring s bytes r (inl e) = rw e refl
+quiet_row expiring s bytes r (inr (inl e)) = rw e refl
+quiet_row expiring s bytes r (inr (inr (inl e))) = rw e refl
+quiet_row expiring s bytes r (inr (inr (inr (inl e)))) = rw e refl
+quiet_row expiring s bytes r (inr (inr (inr (inr (inl e))))) = rw e.1 refl
+quiet_row expiring s bytes r (inr (inr (inr (inr (inr e))))) = rw e.1 refl

@@ -1,5 +1,5 @@
 -- CHANGES AS JSON LINES (RFC 8259): an object for each, in a line of its own.
-use Rattle.std.specs.Prelude.{ℕ, List, [], ◌∷◌, ◌++◌, codes, decimal, Option, Some, None}
+use Rattle.std.specs.Prelude.{ℕ, ◌==◌, if◌then◌else◌, length, List, [], ◌∷◌, ◌++◌, codes, decimal, Option, Some, None}
 use Rattle.of_text.specs.Lines.{lines_of}
 use Rattle.of_json.specs.Parts.{key, listed, number_member}
 use Rattle.of_json.specs.Strings.{array_member, line_string, string_member}
@@ -10,12 +10,16 @@ use Rattle.of_history.specs.Changes.{ChangeText}
 unfoldable pub lines_member : List ℕ → ℕ → List ℕ → List ℕ
 lines_member name indent text = array_member name (listed (line_string indent) (lines_of text))
 
--- `"row":"port link 1 down"`, or `"message":3,"by":["from the controller: FLOW_MOD xid 6 ..",..]`
-unfoldable pub cause_members : List ℕ → ℕ → Option (List ℕ) → List ℕ
-cause_members line k None = string_member (codes "row") line
-cause_members line k (Some m) = number_member (codes "message") k ++ lines_member (codes "by") 4 (request_notes m)
+-- the lines about what expires, without their first 13 bytes: `    expired: `
+abbrev pub expired_member : List ℕ → List ℕ
+expired_member expired = if length expired == 0 then [] else lines_member (codes "expired") 13 expired
+
+-- `"row":"t 4000000000","expired":["table 0, priority 1, ..",..]`, or `"message":3,"by":["from the controller: FLOW_MOD xid 6 ..",..]`
+unfoldable pub cause_members : List ℕ → List ℕ → ℕ → Option (List ℕ) → List ℕ
+cause_members expired line k None = string_member (codes "row") line ++ expired_member expired
+cause_members expired line k (Some m) = number_member (codes "message") k ++ lines_member (codes "by") 4 (request_notes m)
 
 -- `{"line":24,"message":3,"by":[..],"before":[..],"after":[..]}`: what the view was before and after it
 unfoldable pub change_object : ChangeText
-change_object n line k cause old new =
-    123 ∷ key (codes "line") ++ decimal n ++ cause_members line k cause ++ lines_member (codes "before") 0 old ++ lines_member (codes "after") 0 new ++ 125 ∷ 10 ∷ []
+change_object expired n line k cause old new =
+    123 ∷ key (codes "line") ++ decimal n ++ cause_members expired line k cause ++ lines_member (codes "before") 0 old ++ lines_member (codes "after") 0 new ++ 125 ∷ 10 ∷ []

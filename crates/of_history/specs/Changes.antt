@@ -1,10 +1,11 @@
 -- THE HISTORY OF A VIEW of a switch, which is a text of lines: for each turn after which the text is another one, who did it, and both texts.
-use Rattle.std.specs.Prelude.{ℕ, ◌+◌, List, [], ◌∷◌, ◌++◌, codes, decimal, Option, Some, None, if◌then◌else◌}
-use Rattle.std.specs.List.{flat_map}
+use Rattle.std.specs.Prelude.{ℕ, ◌+◌, List, [], ◌∷◌, ◌++◌, codes, decimal, max, Bool, Option, Some, None, IsTrue, if◌then◌else◌}
+use Rattle.std.specs.List.{flat_map, list_any}
 use Rattle.std.specs.Str.{bytes_eq}
 use Rattle.of_text.specs.Lines.{ended, lines_of}
 use Rattle.of_datapath.specs.Datapath.{Forwarding}
 use Rattle.of_switch.specs.declared.event.Event.{Event}
+use Rattle.of_switch.specs.declared.event.Event.TheVariants.{Moment}
 use Rattle.of_switch.specs.State.{State}
 use Rattle.of_replay.specs.Rows.{row_of_line}
 use Rattle.of_replay.specs.RowTexts.{RowText, row_happened}
@@ -12,15 +13,19 @@ use Rattle.of_explain.specs.Requests.{request_notes}
 use Rattle.of_history.specs.Turns.{Turn, row_turns}
 
 -- what is said of a change: by the number of the line, from 1, the line, the number of the turn in it, from 1, its message if it is one, and both texts
+abbrev pub TurnText : Type 0
+TurnText = ℕ → List ℕ → ℕ → Option (List ℕ) → List ℕ → List ℕ → List ℕ
+
+-- by lines about what expires in the row, too
 abbrev pub ChangeText : Type 0
-ChangeText = ℕ → List ℕ → ℕ → Option (List ℕ) → List ℕ → List ℕ → List ℕ
+ChangeText = List ℕ → TurnText
 
 -- ---- in words
 
--- `line 9: port link 1 down`, or `line 24, message 3` and the notes of the message
-unfoldable pub cause_words : ℕ → List ℕ → ℕ → Option (List ℕ) → List ℕ
-cause_words n line k None = codes "line " ++ decimal n ++ codes ": " ++ ended line
-cause_words n line k (Some m) = codes "line " ++ decimal n ++ codes ", message " ++ decimal k ++ 10 ∷ request_notes m
+-- `line 9: t 4000000000` and what expires, or `line 24, message 3` and the notes of the message
+unfoldable pub cause_words : List ℕ → ℕ → List ℕ → ℕ → Option (List ℕ) → List ℕ
+cause_words expired n line k None = codes "line " ++ decimal n ++ codes ": " ++ ended line ++ expired
+cause_words expired n line k (Some m) = codes "line " ++ decimal n ++ codes ", message " ++ decimal k ++ 10 ∷ request_notes m
 
 abbrev pub kept_line : List ℕ → List ℕ
 kept_line line = codes "      " ++ ended line
@@ -41,7 +46,27 @@ marked_lines (l ∷ old) [] = other_lines (l ∷ old) []
 marked_lines (l ∷ old) (m ∷ new) = if bytes_eq l m then kept_line l ++ marked_lines old new else other_lines (l ∷ old) (m ∷ new)
 
 unfoldable pub changed_words : ChangeText
-changed_words n line k cause old new = cause_words n line k cause ++ marked_lines (lines_of old) (lines_of new)
+changed_words expired n line k cause old new = cause_words expired n line k cause ++ marked_lines (lines_of old) (lines_of new)
+
+-- ---- of a text whose lines are a set, such as flow entries
+
+abbrev pub has_line : List ℕ → List ℕ → Bool
+has_line text line = list_any (bytes_eq line) (lines_of text)
+
+-- the lines that the other text does not have
+abbrev pub line_without : List ℕ → List ℕ → List ℕ
+line_without other line = if has_line other line then [] else ended line
+
+abbrev pub text_without : List ℕ → List ℕ → List ℕ
+text_without other text = flat_map (line_without other) (lines_of text)
+
+-- the same is said of the lines that went, and of those that came
+abbrev pub line_by_line : ChangeText → ChangeText
+line_by_line text expired n line k cause old new = text expired n line k cause (text_without new old) (text_without old new)
+
+-- for contracts inside this crate: each line of a text is one of another
+abbrev pub HasLinesOf : List ℕ → List ℕ → Type 0
+HasLinesOf text part = (line : List ℕ) → IsTrue (has_line part line) → IsTrue (has_line text line)
 
 -- ---- the history
 
@@ -49,20 +74,25 @@ changed_words n line k cause old new = cause_words n line k cause ++ marked_line
 abbrev pub unless_same : List ℕ → List ℕ → List ℕ → List ℕ
 unless_same old new text = if bytes_eq old new then [] else text
 
-abbrev pub turn_told : ChangeText → (Forwarding → List ℕ) → ℕ → List ℕ → ℕ → State → Turn → List ℕ
+abbrev pub turn_told : TurnText → (Forwarding → List ℕ) → ℕ → List ℕ → ℕ → State → Turn → List ℕ
 turn_told text seen n line k s t =
     let old = seen s.core.forwarding in
     let new = seen t.after.core.forwarding in
     unless_same old new (text n line k t.cause old new)
 
 -- from the turn of that number in its line on
-abbrev pub turns_told : ChangeText → (Forwarding → List ℕ) → ℕ → List ℕ → ℕ → State → List Turn → List ℕ
+abbrev pub turns_told : TurnText → (Forwarding → List ℕ) → ℕ → List ℕ → ℕ → State → List Turn → List ℕ
 turns_told text seen n line k s [] = []
 turns_told text seen n line k s (t ∷ ts) = turn_told text seen n line k s t ++ turns_told text seen n line (k + 1) t.after ts
 
+-- what expires in a row: at a time, by the state before it; a time before the latest one counts as that
+abbrev pub row_expiring : (ℕ → Forwarding → List ℕ) → State → Option Event → List ℕ
+row_expiring expiring s (Some (Moment nanos)) = expiring (max s.core.forwarding.tables.latest nanos) s.core.forwarding
+row_expiring expiring s other = []
+
 -- THE TALE of a row: the turns that change the view
-abbrev pub history_of : ChangeText → (Forwarding → List ℕ) → RowText
-history_of text seen n s line row = turns_told text seen n line 1 s (row_turns s row)
+abbrev pub history_of : ChangeText → (Forwarding → List ℕ) → (ℕ → Forwarding → List ℕ) → RowText
+history_of text seen expiring n s line row = turns_told (text (row_expiring expiring s row)) seen n line 1 s (row_turns s row)
 
 -- the number of the first bad line, where the first of them has this one
 abbrev pub bad_and : ℕ → Option (Option Event) → Option ℕ → Option ℕ

@@ -3,8 +3,11 @@ ghost use Rattle.std.specs.Prelude.{◌≡◌, ◌≤◌, ◌++◌, IfOk, IsTrue
 ghost use Rattle.of_datapath.specs.DryRun.{received_steps};
 ghost use Rattle.of_tracing.specs.Encoded.{are_encoded, is_encoded};
 ghost use Rattle.of_trace.specs.Words.{flow_there, found_words};
+ghost use Rattle.std.specs.List.{flat_map};
+ghost use Rattle.of_history.specs.Expiring.{step_expiry, way_expiring};
 ghost use Rattle.of_history.specs.Fates.{deaf_port, fate, fate_line, fate_lines, received_fate, received_items};
 
+use crate::expiring::push_step_expiry;
 use crate::view::View;
 use of_classifier::Lookup;
 use of_headers::check_length;
@@ -49,7 +52,7 @@ fn run_frame<L: Lookup>(
 
 // Appends the priority and the match of a flow.
 #[tactic(auto, unfolding(of_trace::specs::Words::found_words))]
-fn push_winner_words(out: &mut Vec<u8>, flow: &Flow) -> Result<(), AllocError>
+pub(crate) fn push_winner_words(out: &mut Vec<u8>, flow: &Flow) -> Result<(), AllocError>
     ensures { OnOk result (out.new.items ≡ out.old.items ++ found_words (Some flow.now)) }
 {
     out.extend_from_slice(b", ")?;
@@ -175,12 +178,44 @@ pub struct FrameView {
     pub frame: Vec<u8>,
 }
 
+// The lines about the entries of steps that expire at a moment.
+fn list_expiring<L: Lookup>(
+    alloc: Global,
+    switch: &Switch<L>,
+    moment: u64,
+    steps: &[Step],
+) -> Result<Vec<u8>, AllocError>
+    ensures { IfOk result (λ lines. lines.items ≡ flat_map (step_expiry switch.now.core.forwarding moment) steps.now) }
+{
+    let mut lines = Vec::new(alloc);
+    for step in steps {
+        push_step_expiry(&mut lines, switch, moment, *step)?;
+    }
+    Ok(lines)
+}
+
 impl<L: Lookup> View<L> for FrameView {
     ghost seen = { λ v. fate v.port v.frame.items };
+
+    ghost expiring = { λ v. way_expiring v.port v.frame.items };
 
     fn look(&self, alloc: Global, switch: &Switch<L>) -> Result<Vec<u8>, AllocError> {
         let mut out = Vec::new(alloc);
         push_fate(alloc, &mut out, switch, self.port, &self.frame)?;
         Ok(out)
+    }
+
+    #[tactic(auto, unfolding(crate::specs::Expiring::way_expiring))]
+    fn look_ahead(
+        &self,
+        alloc: Global,
+        switch: &Switch<L>,
+        moment: u64,
+    ) -> Result<Vec<u8>, AllocError> {
+        if check_length(&self.frame).is_err() {
+            return Ok(Vec::new(alloc));
+        }
+        let run = run_frame(alloc, switch, self.port, &self.frame)?;
+        list_expiring(alloc, switch, moment, &run.steps)
     }
 }

@@ -1,6 +1,9 @@
 //! The history of what a switch shows: the messages, rows and times of an event file at which it changes.
 #![tactic(auto)]
 
+mod differing;
+mod entries;
+mod expiring;
 mod fate;
 mod laws;
 mod marks;
@@ -9,6 +12,8 @@ mod telling;
 mod view;
 mod watching;
 
+pub use differing::LineByLine;
+pub use entries::{EntriesView, EntryFilter};
 pub use fate::FrameView;
 pub use laws::fates_between;
 pub use objects::InJson;

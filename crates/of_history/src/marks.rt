@@ -7,8 +7,8 @@ ghost use Rattle.of_history.specs.Changes.{come_line, gone_line, marked_lines, o
 use of_text::{cut, is};
 use std::alloc::AllocError;
 
-// Appends a line behind a mark.
-fn push_marked(out: &mut Vec<u8>, mark: &[u8], line: &[u8]) -> Result<(), AllocError>
+/// Appends a line behind a mark.
+pub fn push_marked(out: &mut Vec<u8>, mark: &[u8], line: &[u8]) -> Result<(), AllocError>
     ensures { OnOk result (out.new.items ≡ out.old.items ++ (mark.now ++ ended line.now)) }
 {
     out.extend_from_slice(mark)?;

@@ -1,7 +1,7 @@
 //! Changes as JSON.
 ghost use Rattle.std.specs.Prelude.{◌≡◌, ◌++◌, OnOk};
 ghost use Rattle.std.specs.Option.{option_copied};
-ghost use Rattle.of_history.specs.ChangeObjects.{cause_members, change_object, lines_member};
+ghost use Rattle.of_history.specs.ChangeObjects.{cause_members, change_object, expired_member, lines_member};
 
 use crate::telling::ChangeTeller;
 use of_explain::push_request;
@@ -11,6 +11,9 @@ use std::alloc::{AllocError, Global};
 
 /// How many spaces there are before a note.
 const INDENT: usize = 4;
+
+/// How many bytes there are before an entry that expires: four spaces and `expired: `.
+const EXPIRED: usize = 13;
 
 // Appends the lines of a text as an array.
 #[tactic(auto, unfolding(of_json::specs::Strings::array_member, crate::specs::ChangeObjects::lines_member))]
@@ -28,19 +31,32 @@ fn push_lines_member(
     Ok(())
 }
 
+// Appends what expires, if something does.
+fn push_expired_member(out: &mut Vec<u8>, expired: &[u8]) -> Result<(), AllocError>
+    ensures { OnOk result (out.new.items ≡ out.old.items ++ expired_member expired.now) }
+{
+    if expired.is_empty() {
+        Ok(())
+    } else {
+        push_lines_member(out, b"expired", EXPIRED, expired)
+    }
+}
+
 // Appends who it was.
 #[tactic(auto, unfolding(crate::specs::ChangeObjects::cause_members))]
 fn push_cause_members(
     alloc: Global,
     out: &mut Vec<u8>,
+    expired: &[u8],
     line: &[u8],
     turn: u64,
     message: Option<&[u8]>,
 ) -> Result<(), AllocError>
-    ensures { OnOk result (out.new.items ≡ out.old.items ++ cause_members line.now turn (option_copied message.entry)) }
+    ensures { OnOk result (out.new.items ≡ out.old.items ++ cause_members expired.now line.now turn (option_copied message.entry)) }
 {
     let Some(message) = message else {
-        return push_string_member(out, b"row", line);
+        push_string_member(out, b"row", line)?;
+        return push_expired_member(out, expired);
     };
     let mut notes = Vec::new(alloc);
     push_request(alloc, &mut notes, message)?;
@@ -61,6 +77,7 @@ impl ChangeTeller for InJson {
         &self,
         alloc: Global,
         out: &mut Vec<u8>,
+        expired: &[u8],
         number: u64,
         line: &[u8],
         turn: u64,
@@ -71,7 +88,7 @@ impl ChangeTeller for InJson {
         out.push(b'{')?;
         push_key(out, b"line")?;
         push_decimal(out, u128::from(number))?;
-        push_cause_members(alloc, out, line, turn, message)?;
+        push_cause_members(alloc, out, expired, line, turn, message)?;
         push_lines_member(out, b"before", 0, old)?;
         push_lines_member(out, b"after", 0, new)?;
         out.extend_from_slice(b"}\n")

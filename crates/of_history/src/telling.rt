@@ -13,11 +13,12 @@ pub trait ChangeTeller {
     /// What is said.
     ghost text: { ChangeText };
 
-    /// Appends it: by the number of the line, the line, the number of the turn in it, its message if it is one, and the view before and after.
+    /// Appends it: by lines about what expires in the row, the number of the line, the line, the number of the turn in it, its message if it is one, and the view before and after.
     fn tell(
         &self,
         alloc: Global,
         out: &mut Vec<u8>,
+        expired: &[u8],
         number: u64,
         line: &[u8],
         turn: u64,
@@ -25,7 +26,7 @@ pub trait ChangeTeller {
         old: &[u8],
         new: &[u8],
     ) -> Result<(), AllocError>
-        ensures { OnOk result (out.new.items ≡ out.old.items ++ text number line.now turn (option_copied message.entry) old.now new.now) };
+        ensures { OnOk result (out.new.items ≡ out.old.items ++ text expired.now number line.now turn (option_copied message.entry) old.now new.now) };
 }
 
 // Appends who it was.
@@ -33,12 +34,13 @@ pub trait ChangeTeller {
 fn push_cause(
     alloc: Global,
     out: &mut Vec<u8>,
+    expired: &[u8],
     number: u64,
     line: &[u8],
     turn: u64,
     message: Option<&[u8]>,
 ) -> Result<(), AllocError>
-    ensures { OnOk result (out.new.items ≡ out.old.items ++ cause_words number line.now turn (option_copied message.entry)) }
+    ensures { OnOk result (out.new.items ≡ out.old.items ++ cause_words expired.now number line.now turn (option_copied message.entry)) }
 {
     out.extend_from_slice(b"line ")?;
     push_decimal(out, u128::from(number))?;
@@ -46,7 +48,7 @@ fn push_cause(
         out.extend_from_slice(b": ")?;
         out.extend_from_slice(line)?;
         out.push(b'\n')?;
-        return Ok(());
+        return out.extend_from_slice(expired);
     };
     out.extend_from_slice(b", message ")?;
     push_decimal(out, u128::from(turn))?;
@@ -67,6 +69,7 @@ impl ChangeTeller for InWords {
         &self,
         alloc: Global,
         out: &mut Vec<u8>,
+        expired: &[u8],
         number: u64,
         line: &[u8],
         turn: u64,
@@ -74,7 +77,7 @@ impl ChangeTeller for InWords {
         old: &[u8],
         new: &[u8],
     ) -> Result<(), AllocError> {
-        push_cause(alloc, out, number, line, turn, message)?;
+        push_cause(alloc, out, expired, number, line, turn, message)?;
         push_both(out, old, new)
     }
 }

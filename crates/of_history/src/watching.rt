@@ -1,5 +1,5 @@
 //! The history of a view of a switch.
-ghost use Rattle.std.specs.Prelude.{◌≡◌, ◌++◌, IfErr, IfOk, OnOk};
+ghost use Rattle.std.specs.Prelude.{◌≡◌, ◌++◌, [], IfErr, IfOk, OnOk};
 ghost use Rattle.std.specs.Option.{option_copied};
 ghost use Rattle.of_text.specs.Lines.{lines_of};
 ghost use Rattle.of_switch.specs.declared.switch_error.SwitchError.TheVariants.{NoMemory};
@@ -10,7 +10,7 @@ ghost use Rattle.of_switch.specs.Runs.{drained, happened};
 ghost use Rattle.of_replay.specs.Rows.{with_bytes};
 ghost use Rattle.of_replay.specs.RowTexts.{row_happened, told};
 ghost use Rattle.of_history.specs.Turns.{HandlesFirst, all_message_turns, event_turns, first_handled, turn_of};
-ghost use Rattle.of_history.specs.Changes.{bad_from, history_of, turns_told, unless_same};
+ghost use Rattle.of_history.specs.Changes.{bad_from, history_of, row_expiring, turns_told, unless_same};
 
 use crate::telling::ChangeTeller;
 use crate::view::View;
@@ -52,13 +52,14 @@ impl<L: Lookup, V: View<L> + Drop, T: ChangeTeller + Drop> Watching<L, V, T> {
     // Looks at the switch after a turn, and says what that changed.
     fn look_again(
         &mut self,
+        expired: &[u8],
         number: u64,
         line: &[u8],
         turn: u64,
         message: Option<&[u8]>,
     ) -> Result<(), AllocError>
         ensures said { OnOk result (self.new.out.items ≡ self.old.out.items ++ unless_same self.old.seen.items self.new.seen.items
-            (T.text number line.now turn (option_copied message.entry) self.old.seen.items self.new.seen.items)) }
+            (T.text expired.now number line.now turn (option_copied message.entry) self.old.seen.items self.new.seen.items)) }
         ensures seen { OnOk result (self.new.seen.items ≡ V.seen self.old.view self.old.switch.core.forwarding) }
         ensures kept { (self.new.switch ≡ self.old.switch) × (self.new.view ≡ self.old.view) }
     {
@@ -69,6 +70,7 @@ impl<L: Lookup, V: View<L> + Drop, T: ChangeTeller + Drop> Watching<L, V, T> {
         self.teller.tell(
             self.alloc,
             &mut self.out,
+            expired,
             number,
             line,
             turn,
@@ -95,7 +97,7 @@ impl<L: Lookup, V: View<L> + Drop, T: ChangeTeller + Drop> Watching<L, V, T> {
     fn tell_messages(&mut self, number: u64, line: &[u8]) -> Result<(), SwitchError>
         requires { self.old.seen.items ≡ V.seen self.old.view self.old.switch.core.forwarding }
         ensures said { OnOk result (self.new.out.items ≡ self.old.out.items
-            ++ turns_told T.text (V.seen self.old.view) number line.now 1 self.old.switch (all_message_turns self.old.switch)) }
+            ++ turns_told (T.text []) (V.seen self.old.view) number line.now 1 self.old.switch (all_message_turns self.old.switch)) }
         ensures switch { OnOk result (self.new.switch ≡ (drained self.old.switch).state) }
         ensures seen { OnOk result (self.new.seen.items ≡ V.seen self.old.view self.new.switch.core.forwarding) }
         ensures view { self.new.view ≡ self.old.view }
@@ -107,7 +109,7 @@ impl<L: Lookup, V: View<L> + Drop, T: ChangeTeller + Drop> Watching<L, V, T> {
         let mut message = Vec::new(self.alloc);
         while self.handle(&mut message)? {
             turn += 1;
-            self.look_again(number, line, turn, Some(&message))?;
+            self.look_again(&[], number, line, turn, Some(&message))?;
         }
         Ok(())
     }
@@ -116,7 +118,7 @@ impl<L: Lookup, V: View<L> + Drop, T: ChangeTeller + Drop> Watching<L, V, T> {
     fn tell_chunk(&mut self, number: u64, line: &[u8], chunk: &[u8]) -> Result<(), SwitchError>
         requires { self.old.seen.items ≡ V.seen self.old.view self.old.switch.core.forwarding }
         ensures said { OnOk result (self.new.out.items ≡ self.old.out.items
-            ++ turns_told T.text (V.seen self.old.view) number line.now 1 self.old.switch (event_turns (Chunk chunk.now) self.old.switch)) }
+            ++ turns_told (T.text []) (V.seen self.old.view) number line.now 1 self.old.switch (event_turns (Chunk chunk.now) self.old.switch)) }
         ensures switch { OnOk result (self.new.switch ≡ (happened (Chunk chunk.now) self.old.switch).state) }
         ensures seen { OnOk result (self.new.seen.items ≡ V.seen self.old.view self.new.switch.core.forwarding) }
         ensures view { self.new.view ≡ self.old.view }
@@ -129,8 +131,51 @@ impl<L: Lookup, V: View<L> + Drop, T: ChangeTeller + Drop> Watching<L, V, T> {
         }
     }
 
-    // A row that is one turn.
+    // What expires in a row.
+    fn expiring(&self, row: Row, bytes: &[u8]) -> Result<Vec<u8>, AllocError>
+        ensures { IfOk result (λ lines. lines.items ≡ row_expiring (V.expiring self.now.view) self.now.switch (with_bytes bytes.now row)) }
+    {
+        match row {
+            Row::Moment { nanos } => {
+                let moment = self.switch.datapath().tables.latest().max(nanos);
+                self.view.look_ahead(self.alloc, &self.switch, moment)
+            }
+            Row::Passed
+            | Row::Connect
+            | Row::Lost
+            | Row::Chunk
+            | Row::Frame { .. }
+            | Row::Ports(_) => Ok(Vec::new(self.alloc)),
+        }
+    }
+
+    // A row that is one turn, in which this expires.
     fn tell_whole(
+        &mut self,
+        expired: &[u8],
+        number: u64,
+        line: &[u8],
+        row: Row,
+        bytes: &[u8],
+    ) -> Result<(), SwitchError>
+        requires { self.old.seen.items ≡ V.seen self.old.view self.old.switch.core.forwarding }
+        ensures said { (event : Event) → with_bytes bytes.now row ≡ Some event → OnOk result (self.new.out.items ≡ self.old.out.items
+            ++ turns_told (T.text expired.now) (V.seen self.old.view) number line.now 1 self.old.switch
+            (turn_of (happened event self.old.switch).report (happened event self.old.switch).state)) }
+        ensures switch { OnOk result (self.new.switch ≡ (row_happened self.old.switch (with_bytes bytes.now row)).state) }
+        ensures seen { OnOk result (self.new.seen.items ≡ V.seen self.old.view self.new.switch.core.forwarding) }
+        ensures view { self.new.view ≡ self.old.view }
+        ensures err { IfErr result (λ e. e ≡ NoMemory) }
+    {
+        match play_row(self.alloc, &mut self.switch, row, bytes) {
+            Ok(_) => Ok(self.look_again(expired, number, line, 1, None)?),
+            Err(SwitchError::NoMemory) => Err(SwitchError::NoMemory),
+            Err(_) => Ok(()),
+        }
+    }
+
+    // The same, with what expires in it.
+    fn tell_single(
         &mut self,
         number: u64,
         line: &[u8],
@@ -139,18 +184,15 @@ impl<L: Lookup, V: View<L> + Drop, T: ChangeTeller + Drop> Watching<L, V, T> {
     ) -> Result<(), SwitchError>
         requires { self.old.seen.items ≡ V.seen self.old.view self.old.switch.core.forwarding }
         ensures said { (event : Event) → with_bytes bytes.now row ≡ Some event → OnOk result (self.new.out.items ≡ self.old.out.items
-            ++ turns_told T.text (V.seen self.old.view) number line.now 1 self.old.switch
-            (turn_of (happened event self.old.switch).report (happened event self.old.switch).state)) }
+            ++ turns_told (T.text (row_expiring (V.expiring self.old.view) self.old.switch (with_bytes bytes.now row))) (V.seen self.old.view)
+            number line.now 1 self.old.switch (turn_of (happened event self.old.switch).report (happened event self.old.switch).state)) }
         ensures switch { OnOk result (self.new.switch ≡ (row_happened self.old.switch (with_bytes bytes.now row)).state) }
         ensures seen { OnOk result (self.new.seen.items ≡ V.seen self.old.view self.new.switch.core.forwarding) }
         ensures view { self.new.view ≡ self.old.view }
         ensures err { IfErr result (λ e. e ≡ NoMemory) }
     {
-        match play_row(self.alloc, &mut self.switch, row, bytes) {
-            Ok(_) => Ok(self.look_again(number, line, 1, None)?),
-            Err(SwitchError::NoMemory) => Err(SwitchError::NoMemory),
-            Err(_) => Ok(()),
-        }
+        let expired = self.expiring(row, bytes)?;
+        self.tell_whole(&expired, number, line, row, bytes)
     }
 
     // Plays the row of a line, and says what its turns changed.
@@ -163,7 +205,7 @@ impl<L: Lookup, V: View<L> + Drop, T: ChangeTeller + Drop> Watching<L, V, T> {
     ) -> Result<(), SwitchError>
         requires { self.old.seen.items ≡ V.seen self.old.view self.old.switch.core.forwarding }
         ensures said { OnOk result (self.new.out.items ≡ self.old.out.items
-            ++ history_of T.text (V.seen self.old.view) number self.old.switch line.now (with_bytes bytes.now row)) }
+            ++ history_of T.text (V.seen self.old.view) (V.expiring self.old.view) number self.old.switch line.now (with_bytes bytes.now row)) }
         ensures switch { OnOk result (self.new.switch ≡ (row_happened self.old.switch (with_bytes bytes.now row)).state) }
         ensures seen { OnOk result (self.new.seen.items ≡ V.seen self.old.view self.new.switch.core.forwarding) }
         ensures view { self.new.view ≡ self.old.view }
@@ -173,7 +215,7 @@ impl<L: Lookup, V: View<L> + Drop, T: ChangeTeller + Drop> Watching<L, V, T> {
             Row::Passed => Ok(()),
             Row::Chunk => self.tell_chunk(number, line, bytes),
             Row::Connect | Row::Lost | Row::Frame { .. } | Row::Moment { .. } | Row::Ports(_) => {
-                self.tell_whole(number, line, row, bytes)
+                self.tell_single(number, line, row, bytes)
             }
         }
     }
@@ -182,7 +224,7 @@ impl<L: Lookup, V: View<L> + Drop, T: ChangeTeller + Drop> Watching<L, V, T> {
     fn tell_lines(&mut self, file: &[u8]) -> Result<Option<u64>, SwitchError>
         requires { self.old.seen.items ≡ V.seen self.old.view self.old.switch.core.forwarding }
         ensures said { OnOk result (self.new.out.items ≡ self.old.out.items
-            ++ told self.old.switch (history_of T.text (V.seen self.old.view)) (lines_of file.now)) }
+            ++ told self.old.switch (history_of T.text (V.seen self.old.view) (V.expiring self.old.view)) (lines_of file.now)) }
         ensures bad { IfOk result (λ bad. bad ≡ bad_from 1 (lines_of file.now)) }
         ensures err { IfErr result (λ e. e ≡ NoMemory) }
     {
@@ -221,7 +263,7 @@ pub fn history<L: Lookup, V: View<L> + Drop, T: ChangeTeller + Drop>(
     teller: T,
     file: &[u8],
 ) -> Result<LogHistory, SwitchError>
-    ensures text { IfOk result (λ h. h.text.items ≡ told (start dpid) (history_of T.text (V.seen view)) (lines_of file.now)) }
+    ensures text { IfOk result (λ h. h.text.items ≡ told (start dpid) (history_of T.text (V.seen view) (V.expiring view)) (lines_of file.now)) }
     ensures bad { IfOk result (λ h. h.bad ≡ bad_from 1 (lines_of file.now)) }
     ensures err { IfErr result (λ e. e ≡ NoMemory) }
 {

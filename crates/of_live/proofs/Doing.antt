@@ -15,7 +15,7 @@ use Rattle.of_replay.specs.WrittenRows.{row_text}
 use Rattle.std.proofs.Common.{Option}
 use Rattle.of_network.specs.declared.peers.Peer.{Peer}
 use Rattle.of_network.specs.Acts.{Act, Records}
-use Rattle.of_live.specs.Turns.{rows_text, sent_in}
+use Rattle.of_live.specs.Turns.{sent_in}
 use Rattle.of_live.proofs.Passing.{records_as, records_more}
 use Rattle.of_live.specs.Working.{Does, LiveWork, logged_text}
 
@@ -26,7 +26,7 @@ run_then [] fs s = refl
 run_then (e ∷ es) fs s =
     ap (λ (r : Run). record { reports = (happened e s).report ∷ r.reports; state = r.state }) (run_then es fs (happened e s).state)
 
-text_then : (keeps : Bool) (es fs : List Event) → logged_text keeps (es ++ fs) ≡ logged_text keeps es ++ logged_text keeps fs
+pub text_then : (keeps : Bool) (es fs : List Event) → logged_text keeps (es ++ fs) ≡ logged_text keeps es ++ logged_text keeps fs
 text_then true es fs =
     ap (flat_map (λ row. row_text row ++ 10 ∷ [])) (map-append Some es fs) ∙ flat_map-append (λ row. row_text row ++ 10 ∷ []) (map Some es) (map Some fs)
 text_then false es fs = refl

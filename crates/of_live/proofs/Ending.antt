@@ -48,4 +48,4 @@ lives_until halt n turns keeps k l l1 l2 a b c so lt ke h =
     halted (Bad number) h = absurd h
     halted Memory h = record { ts = so.ts; are = so.are; ends = inl (few, (h.0, h.1, records_more a b c _ _ so.told_is h.2)) }
     halted Read h = record { ts = so.ts; are = so.are; ends = (few, h.0, records_more a b c _ _ so.told_is h.1) }
-    halted Write h = record { ts = so.ts; are = so.are; ends = (few, h.0, (h.1.0, records_more a b c _ _ so.told_is h.1.1)) }
+    halted Write h = record { ts = so.ts; are = so.are; ends = (few, h.0, (h.1.0, h.1.1, records_more a b c _ _ so.told_is h.1.2)) }

@@ -1,5 +1,6 @@
 mod Passing
 pub mod Doing
+pub mod Messages
 mod Recording
 mod Turning
 pub mod Ending

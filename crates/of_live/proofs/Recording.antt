@@ -12,42 +12,44 @@ use Rattle.of_switch.specs.State.{State}
 use Rattle.of_switch.specs.Steps.{lost}
 use Rattle.of_switch.specs.Runs.{Report, Gives, IsRefused, Run, run, effects_in}
 use Rattle.of_replay.specs.Lexing.{lines_of_file}
-use Rattle.of_replay.specs.Rows.{Rows, rows_of_lines, events_in as row_events}
+use Rattle.of_replay.specs.Rows.{rows_of_lines, events_in as row_events}
 use Rattle.of_replay.specs.WrittenRows.{HasLine, file_text, row_text}
 use Rattle.of_network.specs.Inputs.{Came, Time, Datagram}
 use Rattle.of_network.specs.Peers.{peer_of}
-use Rattle.of_live.specs.Live.{Live, begun, coming_events, events_of, is_lost_first, loss, peers_of, received_datagram}
+use Rattle.of_live.specs.Live.{Live, begun, is_lost_first, loss, peers_of, received_datagram}
+use Rattle.of_live.specs.Hearing.{Hearing, events_of, after_hearing, heard_events}
 use Rattle.of_network.specs.declared.network.Dropped.{Dropped}
 use Rattle.of_network.specs.declared.network.Dropped.TheVariants as dropped
 use Rattle.of_network.specs.declared.peers.Peer.{Peer}
-use Rattle.of_network.specs.Acts.{Act, Logs, Drops, Sends, Writes}
-use Rattle.of_live.specs.Turns.{LiveTurn, LiveTurns, None, Then, turn_acts, closes, dropped_in, dropped_of, drops, live_effects, is_closed, is_written, logs, offered, passed, ran, rows_text, sent_acts, sent_in, sent_to, after_live_turns, writes}
+use Rattle.of_network.specs.Acts.{Act, Drops, Sends, Writes}
+use Rattle.of_live.specs.Turns.{LiveTurn, LiveTurns, None, Then, turn_acts, closes, dropped_in, dropped_of, drops, live_effects, is_closed, is_written, logs, offered, passed, rows_text, sent_acts, sent_in, sent_to, after_live_turns, writes}
 use Rattle.of_live.specs.Recorded.{effects, events, log_of, logged_rows}
 use Rattle.of_live.proofs.Doing.{run_then}
+use Rattle.of_live.proofs.Messages.{heard_state}
 
 -- A LOSS FIRST, which gives nothing
 
 -- the switch after it
 gone : Bool → Live → Live
-gone x l = if x then record l { state = lost l.state; waiting = []; over = false } else l
+gone x l = if x then record l { state = lost l.state; unheard = []; waiting = []; over = false } else l
 
-lost_state : (x : Bool) (came : Came) (l : Live) → (run (loss x ++ coming_events came (gone x l)) l.state).state ≡ (run (coming_events came (gone x l)) (gone x l).state).state
+lost_state : (x : Bool) (es : List Event) (l : Live) → (run (loss x ++ es) l.state).state ≡ (run es (gone x l).state).state
 unfolding gone
-lost_state true came l = refl
-lost_state false came l = refl
+lost_state true es l = refl
+lost_state false es l = refl
 
-lost_effects : (x : Bool) (came : Came) (l : Live) → effects_in (run (loss x ++ coming_events came (gone x l)) l.state).reports ≡ effects_in (run (coming_events came (gone x l)) (gone x l).state).reports
+lost_effects : (x : Bool) (es : List Event) (l : Live) → effects_in (run (loss x ++ es) l.state).reports ≡ effects_in (run es (gone x l).state).reports
 unfolding gone
-lost_effects true came l = refl
-lost_effects false came l = refl
+lost_effects true es l = refl
+lost_effects false es l = refl
 
-turn_state : (came : Came) (l : Live) → (run (events_of came l) l.state).state ≡ (ran came l).state
+turn_state : (h : Hearing) (l : Live) → (run (events_of h l) l.state).state ≡ (after_hearing h l).state
 unfolding gone
-turn_state came l = lost_state (is_lost_first came l) came l
+turn_state h l = lost_state (is_lost_first h.came l) (heard_events h (begun h.came l)) l ∙ sym (heard_state h l)
 
-turn_effects : (came : Came) (l : Live) → effects_in (run (events_of came l) l.state).reports ≡ live_effects came l
+turn_effects : (h : Hearing) (l : Live) → effects_in (run (events_of h l) l.state).reports ≡ live_effects h l
 unfolding gone
-turn_effects came l = lost_effects (is_lost_first came l) came l
+turn_effects h l = lost_effects (is_lost_first h.came l) (heard_events h (begun h.came l)) l
 
 -- TURNS
 
@@ -59,18 +61,18 @@ effects_then (IsRefused refusal ∷ xs) ys = effects_then xs ys
 pub state_is : (l : Live) (ts : LiveTurns) → (after_live_turns l ts).state ≡ (run (events l ts) l.state).state
 state_is l None = refl
 state_is l (Then ts t) =
-    sym (turn_state t.came (after_live_turns l ts))
-    ∙ (ap (λ (s : State). (run (events_of t.came (after_live_turns l ts)) s).state) (state_is l ts)
-    ∙ ap (λ (r : Run). r.state) (sym (run_then (events l ts) (events_of t.came (after_live_turns l ts)) l.state)))
+    sym (turn_state t.hearing (after_live_turns l ts))
+    ∙ (ap (λ (s : State). (run (events_of t.hearing (after_live_turns l ts)) s).state) (state_is l ts)
+    ∙ ap (λ (r : Run). r.state) (sym (run_then (events l ts) (events_of t.hearing (after_live_turns l ts)) l.state)))
 
 pub effects_are : (l : Live) (ts : LiveTurns) → effects l ts ≡ effects_in (run (events l ts) l.state).reports
 effects_are l None = refl
 effects_are l (Then ts t) =
-    let more = events_of t.came (after_live_turns l ts) in
+    let more = events_of t.hearing (after_live_turns l ts) in
     let first = run (events l ts) l.state in
-    ap (λ (es : List Effect). es ++ live_effects t.came (after_live_turns l ts)) (effects_are l ts)
+    ap (λ (es : List Effect). es ++ live_effects t.hearing (after_live_turns l ts)) (effects_are l ts)
     ∙ (ap (λ (es : List Effect). effects_in first.reports ++ es)
-    (sym (turn_effects t.came (after_live_turns l ts)) ∙ ap (λ (s : State). effects_in (run more s).reports) (state_is l ts))
+    (sym (turn_effects t.hearing (after_live_turns l ts)) ∙ ap (λ (s : State). effects_in (run more s).reports) (state_is l ts))
     ∙ (sym (effects_then first.reports (run more first.state).reports)
     ∙ ap (λ (r : Run). effects_in r.reports) (sym (run_then (events l ts) more l.state))))
 
@@ -121,14 +123,14 @@ logged : (es : List Event) → log_of (logs true es) ≡ rows_text es
 logged [] = refl
 logged (e ∷ es) = append-nil (rows_text (e ∷ es))
 
-turn_rows : (t : LiveTurn) (l : Live) → log_of (turn_acts true t l) ≡ rows_text (events_of t.came l)
+turn_rows : (t : LiveTurn) (l : Live) → log_of (turn_acts true t l) ≡ rows_text (events_of t.hearing l)
 turn_rows t l =
-    let front = drops t.came l ++ logs true (events_of t.came l) in
-    none_more (front ++ sent_acts t.came l ++ writes t l) (closes (is_closed t l)) (none_closed (is_closed t l))
-    ∙ (none_more (front ++ sent_acts t.came l) (writes t l) (none_if_written (is_written t.came l) (offered t.came l) t.taken t.failed)
-    ∙ (none_more front (sent_acts t.came l) (none_sends (peers_of t.came (begun t.came l)) (live_effects t.came l))
-    ∙ (joined (drops t.came l) (logs true (events_of t.came l))
-    ∙ (ap (λ bs. bs ++ log_of (logs true (events_of t.came l))) (none_drops t.came (begun t.came l)) ∙ logged (events_of t.came l)))))
+    let front = drops t.hearing.came l ++ logs true (events_of t.hearing l) in
+    none_more (front ++ sent_acts t.hearing l ++ writes t l) (closes (is_closed t l)) (none_closed (is_closed t l))
+    ∙ (none_more (front ++ sent_acts t.hearing l) (writes t l) (none_if_written (is_written t.hearing l) (offered t.hearing l) t.taken t.failed)
+    ∙ (none_more front (sent_acts t.hearing l) (none_sends (peers_of t.hearing.came (begun t.hearing.came l)) (live_effects t.hearing l))
+    ∙ (joined (drops t.hearing.came l) (logs true (events_of t.hearing l))
+    ∙ (ap (λ bs. bs ++ log_of (logs true (events_of t.hearing l))) (none_drops t.hearing.came (begun t.hearing.came l)) ∙ logged (events_of t.hearing l)))))
 
 rows_then : (es fs : List Event) → rows_text (es ++ fs) ≡ rows_text es ++ rows_text fs
 rows_then es fs =
@@ -140,7 +142,7 @@ rows_are l (Then ts t) =
     joined (passed true l ts) (turn_acts true t (after_live_turns l ts))
     ∙ (ap (λ bs. bs ++ log_of (turn_acts true t (after_live_turns l ts))) (rows_are l ts)
     ∙ (ap (λ bs. rows_text (events l ts) ++ bs) (turn_rows t (after_live_turns l ts))
-    ∙ sym (rows_then (events l ts) (events_of t.came (after_live_turns l ts)))))
+    ∙ sym (rows_then (events l ts) (events_of t.hearing (after_live_turns l ts)))))
 
 all_events : (es : List Event) → flat_map row_events (map Some es) ≡ es
 all_events [] = refl

@@ -3,7 +3,8 @@ use Rattle.std.specs.Prelude.{◌≡◌, ◌⊎◌, ℕ, ◌<◌, Bool, true, fa
 use Rattle.of_replay.specs.declared.event_file.Ended.{Ended as Ending}
 use Rattle.of_replay.specs.declared.event_file.Ended.TheVariants.{Done, BadRow, Text, ReadFault, WriteFault, NoMemory}
 use Rattle.of_network.specs.Inputs.{Came, Fault}
-use Rattle.of_live.specs.Live.{Live, events_of}
+use Rattle.of_live.specs.Live.{Live}
+use Rattle.of_live.specs.Hearing.{Hearing, IsHearing, events_of, wanted_of}
 use Rattle.of_network.specs.Acts.{Act, Records, Told, Logs}
 use Rattle.of_live.specs.Turns.{LiveTurns, None, AreLiveTurns, live_turn_count, after_live_turns, passed, drops, rows_text}
 
@@ -14,12 +15,13 @@ LiveEndsSo Done turns keeps l ts l' old new = (live_turn_count ts ≡ turns) × 
 LiveEndsSo (BadRow n) turns keeps l ts l' old new = ⊥
 LiveEndsSo (Text fault) turns keeps l ts l' old new = ⊥
 LiveEndsSo ReadFault turns keeps l ts l' old new =
-    (live_turn_count ts < turns) × (l' ≡ after_live_turns l ts) × (Records old (passed keeps l ts ++ Told Fault ∷ []) new)
+    (live_turn_count ts < turns) × (l' ≡ after_live_turns l ts) × (Records old (passed keeps l ts ++ Told (wanted_of (after_live_turns l ts)) Fault ∷ []) new)
 LiveEndsSo WriteFault turns keeps l ts l' old new =
-    (live_turn_count ts < turns) × (keeps ≡ true) × ((came : Came) × (Records old (passed keeps l ts ++ (Told came ∷ drops came (after_live_turns l ts)
-    ++ Logs (rows_text (events_of came (after_live_turns l ts))) false ∷ [])) new))
+    (live_turn_count ts < turns) × (keeps ≡ true) × ((h : Hearing) × (IsHearing h (after_live_turns l ts)) × (Records old (passed keeps l ts
+    ++ (Told (wanted_of (after_live_turns l ts)) h.came ∷ drops h.came (after_live_turns l ts) ++ Logs (rows_text (events_of h (after_live_turns l ts))) false ∷ [])) new))
 LiveEndsSo NoMemory turns keeps l ts l' old new =
-    ((live_turn_count ts < turns) × ((came : Came) × (some : Bool) × (Records old (passed keeps l ts ++ Told came ∷ (if some then drops came (after_live_turns l ts) else [])) new)))
+    ((live_turn_count ts < turns) × ((came : Came) × (some : Bool) × (Records old (passed keeps l ts
+    ++ Told (wanted_of (after_live_turns l ts)) came ∷ (if some then drops came (after_live_turns l ts) else [])) new)))
     ⊎ ((ts ≡ None) × (new ≡ old))
 
 pub record Lives (ended : Ending) (turns : ℕ) (keeps : Bool) (l l' : Live) (old new : Option (List Act)) : Type 0 where

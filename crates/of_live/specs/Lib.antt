@@ -1,4 +1,5 @@
 pub mod Live
+pub mod Hearing
 pub mod Turns
 pub mod Ends
 pub mod Recorded

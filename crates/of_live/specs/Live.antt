@@ -1,10 +1,10 @@
--- A SWITCH ON A NETWORK: what it holds, and the events of what comes to it. Port N is VXLAN network N (RFC 7348).
+-- A SWITCH ON A NETWORK: what it holds, and what comes to it. Port N is VXLAN network N (RFC 7348).
 use Rattle.std.specs.Prelude.{ℕ, ◌&&◌, ◌||◌, not, Bool, true, false, List, [], ◌∷◌, ◌++◌, Option, Some, None, Result, Ok, Err, if◌then◌else◌}
 use Rattle.of_network.specs.Header.{Encapsulated, carried}
 use Rattle.of_session.specs.Session.{is_disconnected}
 use Rattle.of_ports.specs.Ports.{has_port}
 use Rattle.of_switch.specs.declared.event.Event.{Event}
-use Rattle.of_switch.specs.declared.event.Event.TheVariants.{Connect, Lost, Chunk, Frame, Moment, Ports}
+use Rattle.of_switch.specs.declared.event.Event.TheVariants.{Connect, Lost, Frame, Moment, Ports}
 use Rattle.of_switch.specs.State.{State}
 use Rattle.of_switch.specs.Steps.{lost}
 use Rattle.of_serve.specs.Turns.{due, left}
@@ -21,6 +21,8 @@ pub record Live : Type 0 where
   pub rows : List Event
   -- where the frames of ports go
   pub peers : List Peer
+  -- bytes of the controller that were not handled yet
+  pub unheard : List ℕ
   -- bytes for the controller that its connection has not taken yet
   pub waiting : List ℕ
   -- the moment since which it has taken none of them
@@ -58,9 +60,9 @@ abbrev pub loss : Bool → List Event
 loss true = Lost ∷ []
 loss false = []
 
--- the switch after that; what waited for the connection is lost with it
+-- the switch after that; what waited for the connection, or of it, is lost with it
 abbrev pub begun : Came → Live → Live
-begun came l = if is_lost_first came l then record l { state = lost l.state; waiting = []; over = false } else l
+begun came l = if is_lost_first came l then record l { state = lost l.state; unheard = []; waiting = []; over = false } else l
 
 -- of rows that are written while the switch runs only frames and changes of ports are events
 abbrev pub running_row_events : Event → List Event
@@ -68,18 +70,14 @@ running_row_events (Frame port frame) = Frame port frame ∷ []
 running_row_events (Ports change) = Ports change ∷ []
 running_row_events other = []
 
--- then those of what came. Without a connection there is nobody to hear or to lose.
+-- then those of what came. Without a connection there is nobody to lose. Bytes of the controller wait until they are handled.
 abbrev pub coming_events : Came → Live → List Event
 coming_events (Time now) l = Moment now ∷ due now l.rows
 coming_events (Datagram from bytes) l = frame_event (received_datagram l from (carried bytes))
 coming_events Opened l = Connect ∷ []
-coming_events (Heard bytes) l = if is_connected l then Chunk bytes ∷ [] else []
 coming_events Ended l = loss (is_connected l)
 coming_events (Row event) l = running_row_events event
 coming_events other l = []
-
-abbrev pub events_of : Came → Live → List Event
-events_of came l = loss (is_lost_first came l) ++ coming_events came (begun came l)
 
 abbrev pub rows_after : Came → Live → List Event
 rows_after (Time now) l = left now l.rows
@@ -88,6 +86,11 @@ rows_after other l = l.rows
 abbrev pub peers_of : Came → Live → List Peer
 peers_of (Datagram from bytes) l = peers_after from (received_datagram l from (carried bytes)) l.peers
 peers_of other l = l.peers
+
+-- without a connection bytes are lost
+abbrev pub unheard_of : Came → Live → List ℕ
+unheard_of (Heard bytes) l = if is_connected l then l.unheard ++ bytes else l.unheard
+unheard_of other l = l.unheard
 
 abbrev pub time_of : Came → Live → ℕ
 time_of (Time now) l = now

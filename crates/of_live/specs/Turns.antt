@@ -2,13 +2,10 @@
 use Rattle.std.specs.Prelude.{◌≡◌, ℕ, ◌+◌, ◌-◌, ◌≤◌, nat_lt, nat_le, not, ◌&&◌, ◌||◌, ◌==◌, Bool, true, false, List, [], ◌∷◌, ◌++◌, length, drop, map, Option, Some, None as Nobody, Result, Ok, Err, if◌then◌else◌}
 use Rattle.std.specs.List.{flat_map}
 use Rattle.of_network.specs.Header.{Encapsulated, carried, sent_header}
-use Rattle.of_session.specs.Session.{is_disconnected}
 use Rattle.of_datapath.specs.declared.effect.Effect.{Effect}
-use Rattle.of_datapath.specs.declared.effect.Effect.TheVariants.{Answer, Sent, Closed}
+use Rattle.of_datapath.specs.declared.effect.Effect.TheVariants.{Sent}
 use Rattle.of_switch.specs.declared.event.Event.{Event}
-use Rattle.of_switch.specs.State.{State}
-use Rattle.of_switch.specs.Runs.{Run, run, effects_in}
-use Rattle.of_serve.specs.Turns.{answer_in}
+use Rattle.of_switch.specs.Runs.{run, effects_in}
 use Rattle.of_replay.specs.WrittenRows.{file_text}
 use Rattle.of_network.specs.declared.network.Dropped.{Dropped}
 use Rattle.of_network.specs.declared.network.Dropped.TheVariants as dropped
@@ -16,23 +13,18 @@ use Rattle.of_network.specs.declared.peers.Peer.{Peer}
 use Rattle.of_network.specs.Inputs.{Came, Datagram, Opened, Ended, is_fault, is_ready}
 use Rattle.of_network.specs.Acts.{Act, Told, Drops, Logs, Sends, Writes, Closes}
 use Rattle.of_network.specs.Peers.{peer_of}
-use Rattle.of_live.specs.Live.{Live, received_datagram, is_connected, begun, coming_events, events_of, rows_after, peers_of, time_of}
+use Rattle.of_live.specs.Live.{Live, received_datagram, is_connected, begun, peers_of}
+use Rattle.of_live.specs.Hearing.{Hearing, IsHearing, events_of, after_hearing, heard_events, wanted_of}
 
--- A TURN: what came, and how a write to the connection, if there was one, ended
+-- A TURN: what was heard, and how a write to the connection, if there was one, ended
 pub record LiveTurn : Type 0 where
-  pub came : Came
+  pub hearing : Hearing
   pub taken : ℕ
   pub failed : Bool
 
 -- WHAT ITS EVENTS GIVE, as the abstract switch does them. (A loss gives nothing.)
-abbrev pub ran : Came → Live → Run
-ran came l = let b = begun came l in run (coming_events came b) b.state
-
-abbrev pub live_effects : Came → Live → List Effect
-live_effects came l = effects_in (ran came l).reports
-
-abbrev pub is_connected_after : Came → Live → Bool
-is_connected_after came l = not (is_disconnected (ran came l).state.connection.phase)
+abbrev pub live_effects : Hearing → Live → List Effect
+live_effects h l = let b = begun h.came l in effects_in (run (heard_events h b) b.state).reports
 
 -- a frame that is sent is a datagram to where the port's frames go
 abbrev pub sent_to : ℕ → List ℕ → Option Peer → Act
@@ -43,8 +35,8 @@ abbrev pub sent_in : List Peer → Effect → List Act
 sent_in peers (Sent port frame) = sent_to port frame (peer_of port peers) ∷ []
 sent_in peers other = []
 
-abbrev pub sent_acts : Came → Live → List Act
-sent_acts came l = flat_map (sent_in (peers_of came (begun came l))) (live_effects came l)
+abbrev pub sent_acts : Hearing → Live → List Act
+sent_acts h l = flat_map (sent_in (peers_of h.came (begun h.came l))) (live_effects h l)
 
 abbrev pub dropped_in : Result Encapsulated Dropped → List Act
 dropped_in (Ok d) = []
@@ -81,35 +73,33 @@ has_connection came l = may_write came (begun came l)
 abbrev pub waiting_bytes : Came → Live → List ℕ
 waiting_bytes came l = (begun came l).waiting
 
-abbrev pub offered : Came → Live → List ℕ
-offered came l = waiting_bytes came l ++ flat_map answer_in (live_effects came l)
+abbrev pub offered : Hearing → Live → List ℕ
+offered h l = (after_hearing h l).waiting
 
 -- a connection that did not take all is offered more when it says that it takes bytes again
-abbrev pub is_written : Came → Live → Bool
-is_written came l = has_connection came l && not (has_no_bytes (offered came l)) && (has_no_bytes (waiting_bytes came l) || is_ready came)
+abbrev pub is_written : Hearing → Live → Bool
+is_written h l = has_connection h.came l && not (has_no_bytes (offered h l)) && (has_no_bytes (waiting_bytes h.came l) || is_ready h.came)
 
 abbrev pub is_left : LiveTurn → Live → List ℕ
-is_left t l = if is_written t.came l then drop t.taken (offered t.came l) else offered t.came l
-
-abbrev pub time_at : Came → Live → ℕ
-time_at came l = time_of came (begun came l)
+is_left t l = if is_written t.hearing l then drop t.taken (offered t.hearing l) else offered t.hearing l
 
 abbrev pub since : LiveTurn → Live → ℕ
-since t l = if has_no_bytes (waiting_bytes t.came l) || (is_written t.came l && nat_lt 0 t.taken) then time_at t.came l else (begun t.came l).since
+since t l = let h = after_hearing t.hearing l in
+    if has_no_bytes (waiting_bytes t.hearing.came l) || (is_written t.hearing l && nat_lt 0 t.taken) then h.time else h.since
 
--- a connection that leaves more than 16 MiB, or takes nothing for ten seconds, is given up
+-- a connection that takes nothing of what waits for ten seconds is given up
 abbrev pub is_stuck : List ℕ → (since now : ℕ) → Bool
-is_stuck left since now = nat_lt 16777216 (length left) || (not (has_no_bytes left) && nat_le 10000000000 (now - since))
+is_stuck left since now = not (has_no_bytes left) && nat_le 10000000000 (now - since)
 
 abbrev pub is_given_up : LiveTurn → Live → Bool
-is_given_up t l = (is_written t.came l && t.failed) || is_stuck (is_left t l) (since t l) (time_at t.came l)
+is_given_up t l = (is_written t.hearing l && t.failed) || is_stuck (is_left t l) (since t l) (after_hearing t.hearing l).time
 
 -- it is closed if it was given up, or if the switch closed it
 abbrev pub is_closed : LiveTurn → Live → Bool
-is_closed t l = has_connection t.came l && (is_given_up t l || not (is_connected_after t.came l))
+is_closed t l = has_connection t.hearing.came l && (is_given_up t l || not (is_connected (after_hearing t.hearing l)))
 
 abbrev pub writes : LiveTurn → Live → List Act
-writes t l = if is_written t.came l then Writes (offered t.came l) t.taken t.failed ∷ [] else []
+writes t l = if is_written t.hearing l then Writes (offered t.hearing l) t.taken t.failed ∷ [] else []
 
 abbrev pub closes : Bool → List Act
 closes true = Closes ∷ []
@@ -117,21 +107,18 @@ closes false = []
 
 -- ALL THAT PASSES in a turn: what came is told, and then this
 abbrev pub results : Bool → LiveTurn → Live → List Act
-results keeps t l = drops t.came l ++ logs keeps (events_of t.came l) ++ sent_acts t.came l ++ writes t l ++ closes (is_closed t l)
+results keeps t l = drops t.hearing.came l ++ logs keeps (events_of t.hearing l) ++ sent_acts t.hearing l ++ writes t l ++ closes (is_closed t l)
 
 abbrev pub turn_acts : Bool → LiveTurn → Live → List Act
-turn_acts keeps t l = Told t.came ∷ results keeps t l
+turn_acts keeps t l = Told (wanted_of l) t.hearing.came ∷ results keeps t l
 
 -- and the switch after it
 abbrev pub after_live_turn : LiveTurn → Live → Live
-after_live_turn t l = record {
-  state = (ran t.came l).state;
-  rows = rows_after t.came (begun t.came l);
-  peers = peers_of t.came (begun t.came l);
-  waiting = if is_closed t l || not (has_connection t.came l) then [] else is_left t l;
+after_live_turn t l = let h = after_hearing t.hearing l in let ends = is_closed t l || not (has_connection t.hearing.came l) in record h {
+  unheard = if ends then [] else h.unheard;
+  waiting = if ends then [] else is_left t l;
   since = since t l;
-  time = time_at t.came l;
-  over = is_closed t l && is_connected_after t.came l;
+  over = is_closed t l && is_connected h;
 }
 
 -- TURNS, one after the other
@@ -151,9 +138,9 @@ abbrev pub passed : Bool → Live → LiveTurns → List Act
 passed keeps l None = []
 passed keeps l (Then ts t) = passed keeps l ts ++ turn_acts keeps t (after_live_turns l ts)
 
--- the network did not fail, and a write takes no more than it is offered
+-- the network did not fail, the messages that are to be handled are, and a write takes no more than it is offered
 abbrev pub IsLiveTurn : LiveTurn → Live → Type 0
-IsLiveTurn t l = (is_fault t.came ≡ false) × (t.taken ≤ length (offered t.came l))
+IsLiveTurn t l = (is_fault t.hearing.came ≡ false) × IsHearing t.hearing l × (t.taken ≤ length (offered t.hearing l))
 
 abbrev pub AreLiveTurns : Live → LiveTurns → Type 0
 AreLiveTurns l None = Unit {0}

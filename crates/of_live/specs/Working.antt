@@ -1,15 +1,17 @@
 -- Parts of a turn, for contracts inside this crate.
-use Rattle.std.specs.Prelude.{◌≡◌, ℕ, ◌≤◌, nat_lt, not, ◌&&◌, ◌||◌, ◌==◌, length, drop, Bool, true, false, List, [], ◌∷◌, ◌++◌, Option, Result, Ok, Err, if◌then◌else◌}
+use Rattle.std.specs.Prelude.{◌≡◌, ℕ, ◌≤◌, nat_lt, not, ◌&&◌, ◌||◌, ◌==◌, length, drop, map, Bool, true, false, List, [], ◌∷◌, ◌++◌, Option, Result, Ok, Err, if◌then◌else◌}
 use Rattle.of_replay.specs.declared.halt.Halt.{Halt}
 use Rattle.of_replay.specs.declared.halt.Halt.TheVariants.{Bad, Memory, Read, Write}
 use Rattle.of_switch.specs.declared.event.Event.{Event}
+use Rattle.of_switch.specs.declared.event.Event.TheVariants.{Chunk}
 use Rattle.of_switch.specs.State.{State}
 use Rattle.of_switch.specs.Runs.{Report, run, effects_in}
 use Rattle.of_live.specs.declared.state.Asks.{Asks}
 use Rattle.of_network.specs.Inputs.{Came, Fault, is_ready}
-use Rattle.of_live.specs.Live.{Live, is_connected, begun, events_of, rows_after, peers_of, time_of}
+use Rattle.of_live.specs.Live.{Live, is_connected, begun}
+use Rattle.of_live.specs.Hearing.{Hearing, AreHandled, IsHearing, after_messages, events_of, after_hearing, wanted_of}
 use Rattle.of_network.specs.Acts.{Act, Records, Told, Logs, Writes}
-use Rattle.of_live.specs.Turns.{LiveTurn, IsLiveTurn, turn_acts, after_live_turn, closes, drops, live_effects, has_no_bytes, is_stuck, may_write, offered, ran, results, rows_text}
+use Rattle.of_live.specs.Turns.{LiveTurn, IsLiveTurn, turn_acts, after_live_turn, closes, drops, live_effects, has_no_bytes, is_stuck, may_write, offered, results, rows_text}
 
 -- what events gave, and their rows
 pub record LiveWork : Type 0 where
@@ -25,17 +27,15 @@ pub record Does (keeps : Bool) (events : List Event) (s s' : State) (w w' : Live
   pub reports_are : w'.reports ≡ w.reports ++ (run events s).reports
   pub text_is : w'.text ≡ w.text ++ logged_text keeps events
 
--- what came is heard, and what it gives for the controller waits
-abbrev pub after_hearing : Came → Live → Live
-after_hearing came l = let b = begun came l in record {
-  state = (ran came l).state;
-  rows = rows_after came b;
-  peers = peers_of came b;
-  waiting = offered came l;
-  since = b.since;
-  time = time_of came b;
-  over = b.over;
-}
+-- messages were handled
+pub record HandlesMessages (most : ℕ) (keeps : Bool) (l l' : Live) (w w' : LiveWork) : Type 0 where
+  pub handled : List (List ℕ)
+  pub are : AreHandled most handled l
+  pub live_is : l' ≡ after_messages handled l
+  pub does : Does keeps (map Chunk handled) l.state l'.state w w'
+
+abbrev pub hearing_of : Came → List (List ℕ) → Hearing
+hearing_of came handled = record { came = came; handled = handled }
 
 -- what is known of the connection when what waits is offered to it
 abbrev pub asks_by : Came → Live → Asks
@@ -45,10 +45,12 @@ abbrev pub asks_of : Came → Live → Asks
 asks_of came l = asks_by came (begun came l)
 
 pub record Hears (came : Came) (keeps : Bool) (asks : Asks) (l l' : Live) (w' : LiveWork) : Type 0 where
-  pub live_is : l' ≡ after_hearing came l
+  pub handled : List (List ℕ)
+  pub are : IsHearing (hearing_of came handled) l
+  pub live_is : l' ≡ after_hearing (hearing_of came handled) l
   pub asks_are : asks ≡ asks_of came l
-  pub reports_are : effects_in w'.reports ≡ live_effects came l
-  pub text_is : w'.text ≡ logged_text keeps (events_of came l)
+  pub reports_are : effects_in w'.reports ≡ live_effects (hearing_of came handled) l
+  pub text_is : w'.text ≡ logged_text keeps (events_of (hearing_of came handled) l)
 
 -- OFFERING what waits
 abbrev pub offers : Asks → Live → Bool
@@ -69,6 +71,7 @@ is_closing a failed l = a.is_open && ((failed || is_stuck l.waiting l.since l.ti
 
 abbrev pub after_closing : Asks → Bool → Live → Live
 after_closing a failed l = record l {
+  unheard = if is_closing a failed l || not a.is_open then [] else l.unheard;
   waiting = if is_closing a failed l || not a.is_open then [] else l.waiting;
   over = is_closing a failed l && is_connected l;
 }
@@ -85,14 +88,25 @@ abbrev pub logged : List ℕ → Bool → List Act
 logged text whole = if length text == 0 then [] else Logs text whole ∷ []
 
 -- what came was told, and all that it gives went out, or the run halts
+abbrev pub live_turn_of : Came → List (List ℕ) → ℕ → Bool → LiveTurn
+live_turn_of came handled taken failed = record { hearing = hearing_of came handled; taken = taken; failed = failed }
+
+pub record GoesOut (keeps : Bool) (came : Came) (l l' : Live) (old new : Option (List Act)) : Type 0 where
+  pub handled : List (List ℕ)
+  pub taken : ℕ
+  pub failed : Bool
+  pub hears : IsHearing (hearing_of came handled) l
+  pub fits : taken ≤ length (offered (hearing_of came handled) l)
+  pub live_is : l' ≡ after_live_turn (live_turn_of came handled taken failed) l
+  pub told_is : Records old (results keeps (live_turn_of came handled taken failed) l) new
+
 abbrev pub Passes : Result (Unit {0}) Halt → Bool → Came → Live → Live → (old new : Option (List Act)) → Type 0
-Passes (Ok u) keeps came l l' old new = (taken : ℕ) × (failed : Bool) × (taken ≤ length (offered came l))
-    × (l' ≡ after_live_turn (record { came = came; taken = taken; failed = failed }) l)
-    × Records old (results keeps (record { came = came; taken = taken; failed = failed }) l) new
+Passes (Ok u) keeps came l l' old new = GoesOut keeps came l l' old new
 Passes (Err (Bad n)) keeps came l l' old new = ⊥
 Passes (Err Memory) keeps came l l' old new = (some : Bool) × Records old (if some then drops came l else []) new
 Passes (Err Read) keeps came l l' old new = ⊥
-Passes (Err Write) keeps came l l' old new = (keeps ≡ true) × Records old (drops came l ++ Logs (rows_text (events_of came l)) false ∷ []) new
+Passes (Err Write) keeps came l l' old new = (keeps ≡ true) × ((handled : List (List ℕ)) × (IsHearing (hearing_of came handled) l)
+    × Records old (drops came l ++ Logs (rows_text (events_of (hearing_of came handled) l)) false ∷ []) new)
 
 -- a turn, of which all went out
 pub record GoesOn (keeps : Bool) (l l' : Live) (old new : Option (List Act)) : Type 0 where
@@ -104,9 +118,10 @@ pub record GoesOn (keeps : Bool) (l l' : Live) (old new : Option (List Act)) : T
 -- or the run halts, and nothing of the turn goes out
 abbrev pub LiveHalts : Halt → Bool → Live → Live → (old new : Option (List Act)) → Type 0
 LiveHalts (Bad n) keeps l l' old new = ⊥
-LiveHalts Memory keeps l l' old new = (came : Came) × (some : Bool) × (Records old (Told came ∷ (if some then drops came l else [])) new)
-LiveHalts Read keeps l l' old new = (l' ≡ l) × (Records old (Told Fault ∷ []) new)
-LiveHalts Write keeps l l' old new = (keeps ≡ true) × ((came : Came) × (Records old (Told came ∷ drops came l ++ Logs (rows_text (events_of came l)) false ∷ []) new))
+LiveHalts Memory keeps l l' old new = (came : Came) × (some : Bool) × (Records old (Told (wanted_of l) came ∷ (if some then drops came l else [])) new)
+LiveHalts Read keeps l l' old new = (l' ≡ l) × (Records old (Told (wanted_of l) Fault ∷ []) new)
+LiveHalts Write keeps l l' old new = (keeps ≡ true) × ((h : Hearing) × (IsHearing h l)
+    × (Records old (Told (wanted_of l) h.came ∷ drops h.came l ++ Logs (rows_text (events_of h l)) false ∷ []) new))
 
 abbrev pub Goes : Result (Unit {0}) Halt → Bool → Live → Live → (old new : Option (List Act)) → Type 0
 Goes (Ok u) keeps l l' old new = GoesOn keeps l l' old new

@@ -1,31 +1,38 @@
 //! A switch on a network.
-ghost use Rattle.std.specs.Prelude.{◌≡◌, ◌≤◌, ◌<◌, ◌++◌, ◌∷◌, [], OnOk, IfOk, IfErr, Ok, Err, length, ◌||◌, ◌&&◌, if◌then◌else◌, true, false, not, drop, Bool, List, ℕ};
+ghost use Rattle.std.specs.Prelude.{◌≡◌, ◌≤◌, ◌<◌, ◌++◌, ◌∷◌, [], OnOk, IfOk, IfErr, IfSome, Ok, Err, length, take, ◌||◌, ◌&&◌, if◌then◌else◌, true, false, not, drop, Bool, List, ℕ};
 ghost use Rattle.of_network.specs.Header.{carried};
 ghost use Rattle.of_switch.specs.declared.event.Event.TheVariants.{Chunk, Moment};
 ghost use Rattle.of_switch.specs.Steps.{lost};
 ghost use Rattle.of_switch.specs.Runs.{effects_in};
 ghost use Rattle.of_serve.specs.Turns.{answer_in, due, left};
 ghost use Rattle.std.specs.List.{flat_map};
+ghost use Rattle.std.specs.Option.{option_map};
 ghost use Rattle.of_network.specs.Inputs.{IsInput, came_of};
-ghost use Rattle.of_live.specs.Live.{running_row_events, coming_events, frame_event, is_connected as connected, loss, peers_after, peers_of, received_datagram, rows_after, time_of};
+ghost use Rattle.of_live.specs.Live.{running_row_events, coming_events, frame_event, is_connected as connected, loss, peers_after, peers_of, received_datagram, rows_after, time_of, unheard_of};
+ghost use Rattle.of_live.specs.Hearing.{after_message, first_message, has_room as room_left, most_handled as most_after, next_message, wanted_of};
 ghost use Rattle.of_network.specs.Acts.{Records, Writes};
 ghost use Rattle.of_live.specs.Turns.{closes as closing_acts, dropped_in, dropped_of, drops, is_stuck as stuck, may_write as may_write_after};
-ghost use Rattle.of_live.specs.Working.{Does, Goes, Hears, Passes, Settles, asks_by, is_closing, offered_acts, offered_to, offers, logged_text};
+ghost use Rattle.of_live.specs.Working.{Does, Goes, HandlesMessages, Hears, Passes, Settles, asks_by, is_closing, offered_acts, offered_to, offers, logged_text};
 
-use crate::work::{Work, happen, happen_due, happen_frame};
+use crate::work::{Work, happen, happen_bytes, happen_due, happen_frame};
 use of_classifier::Lookup;
 use of_network::{
-    Dropped, Endpoint, Input, Network, Peer, Written, learn, may_send, peer_of, read_datagram,
+    Dropped, Endpoint, Input, Network, Peer, Wanted, Written, learn, may_send, peer_of,
+    read_datagram,
 };
 use of_replay::Halt;
 use of_serve::Rows;
-use of_switch::{Event, Switch};
-use of_wire::{Bytes, front_of};
+use of_session::{Beginning, Stream};
+use of_switch::{Event, Switch, SwitchError};
+use of_wire::front_of;
 use std::alloc::{AllocError, Global};
 use std::marker::Model;
 
-/// How many bytes may wait for a connection.
-const MOST_WAITING: usize = 16_777_216;
+/// While so many bytes wait for a connection, no message of it is handled.
+const ROOM: usize = 1_048_576;
+
+/// How many messages are handled in a turn at most.
+const MESSAGES: u32 = 64;
 
 /// How many nanoseconds a connection may take nothing, while bytes wait for it.
 const LONGEST_WAIT: u64 = 10_000_000_000;
@@ -36,7 +43,8 @@ pub struct Live<L: Lookup> {
     switch: Switch<L>,
     rows: Rows,
     peers: Vec<Peer>,
-    waiting: Vec<u8>,
+    unheard: Stream,
+    waiting: Stream,
     since: u64,
     time: u64,
     over: bool,
@@ -52,7 +60,8 @@ impl<L: Lookup> Model for Live<L> {
       state = l.switch;
       rows = l.rows;
       peers = l.peers.items;
-      waiting = l.waiting.items;
+      unheard = l.unheard;
+      waiting = l.waiting;
       since = l.since;
       time = l.time;
       over = l.over;
@@ -62,13 +71,14 @@ impl<L: Lookup> Model for Live<L> {
 impl<L: Lookup> Live<L> {
     /// A switch with the rows of an event file, and the peers that are set.
     pub fn new(alloc: Global, switch: Switch<L>, rows: Vec<Event>, peers: Vec<Peer>) -> Self
-        ensures { result ≡ record { state = switch; rows = rows.items; peers = peers.items; waiting = []; since = 0; time = 0; over = false } }
+        ensures { result ≡ record { state = switch; rows = rows.items; peers = peers.items; unheard = []; waiting = []; since = 0; time = 0; over = false } }
     {
         Live {
             switch,
             rows: Rows::new(rows),
             peers,
-            waiting: Vec::new(alloc),
+            unheard: Stream::new(alloc),
+            waiting: Stream::new(alloc),
             since: 0,
             time: 0,
             over: false,
@@ -86,13 +96,14 @@ impl<L: Lookup> Live<L> {
     // The loss of a connection that the switch closed, or in whose place another comes.
     fn begin(&mut self, another: bool, keeps: bool, work: &mut Work) -> Result<(), AllocError>
         ensures live { OnOk result (self.new ≡ (if self.old.over || (another && connected self.old)
-            then record self.old { state = lost self.old.state; waiting = []; over = false } else self.old)) }
+            then record self.old { state = lost self.old.state; unheard = []; waiting = []; over = false } else self.old)) }
         ensures reports { OnOk result (work.new.reports ≡ work.old.reports) }
         ensures text { OnOk result (work.new.text ≡ work.old.text ++ logged_text keeps (loss (self.old.over || (another && connected self.old)))) }
     {
         if self.over || (another && self.switch.is_connected()) {
             work.note_loss(keeps)?;
             self.switch.lost();
+            self.unheard.clear();
             self.waiting.clear();
             self.over = false;
         }
@@ -117,7 +128,7 @@ impl<L: Lookup> Live<L> {
         Asks {
             is_open: self.may_write(input),
             is_ready: input.is_ready(),
-            is_empty: self.waiting.is_empty(),
+            is_empty: self.waiting.left().is_empty(),
         }
     }
 
@@ -168,16 +179,14 @@ impl<L: Lookup> Live<L> {
         }
     }
 
-    // Bytes of the controller; without a connection they are lost.
-    fn take_bytes(&mut self, bytes: &[u8], keeps: bool, work: &mut Work) -> Result<(), AllocError>
-        ensures does { OnOk result (Does keeps (if connected self.old then Chunk bytes.now ∷ [] else []) self.old.state self.new.state work.old work.new) }
-        ensures live { OnOk result (self.new ≡ record self.old { state = self.new.state }) }
+    // Bytes of the controller wait until they are handled; without a connection they are lost.
+    fn take_bytes(&mut self, bytes: &[u8]) -> Result<(), AllocError>
+        ensures { OnOk result (self.new ≡ record self.old { unheard = if connected self.old then self.old.unheard ++ bytes.now else self.old.unheard }) }
     {
-        if !self.switch.is_connected() {
-            return Ok(());
+        if self.switch.is_connected() {
+            self.unheard.feed(bytes)?;
         }
-        let chunk = Event::Chunk(Bytes::from_slice(self.alloc, bytes)?);
-        happen(&mut self.switch, &chunk, keeps, work)
+        Ok(())
     }
 
     // The connection is over, if there is one.
@@ -228,6 +237,7 @@ impl<L: Lookup> Live<L> {
           state = self.new.state;
           rows = rows_after (came_of input.now buffer.now) self.old;
           peers = peers_of (came_of input.now buffer.now) self.old;
+          unheard = unheard_of (came_of input.now buffer.now) self.old;
           time = time_of (came_of input.now buffer.now) self.old;
         }) }
         ensures told { Records (N.told network.old) (dropped_of (came_of input.now buffer.now) self.old) (N.told network.new) }
@@ -239,14 +249,81 @@ impl<L: Lookup> Live<L> {
                 self.take_datagram(*from, front_of(buffer, *length), network, keeps, work)
             }
             Input::Opened => happen(&mut self.switch, &Event::Connect, keeps, work),
-            Input::Heard(length) => self.take_bytes(front_of(buffer, *length), keeps, work),
+            Input::Heard(length) => self.take_bytes(front_of(buffer, *length)),
             Input::Ended => self.take_end(keeps, work),
             Input::Row(row) => self.take_row(row, keeps, work),
             Input::Ready | Input::Nothing | Input::Fault => Ok(()),
         }
     }
 
-    // What came is heard, and what it gives for the controller waits for its connection.
+    // Whether less than 1 MiB waits for the connection.
+    fn has_room(&self) -> bool
+        ensures { result ≡ room_left self.now }
+    {
+        self.waiting.left().len() < ROOM
+    }
+
+    // How many bytes of the controller are a message, or a header that no message has and all behind it.
+    fn message_size(&self) -> Option<usize>
+        ensures message { first_message self.now.unheard ≡ option_map (λ n. take n self.now.unheard) result }
+        ensures fits { IfSome result (λ n. n ≤ length self.now.unheard) }
+    {
+        match self.unheard.front() {
+            Beginning::Message(size) => Some(size),
+            Beginning::Malformed => Some(self.unheard.left().len()),
+            Beginning::Waiting => None,
+        }
+    }
+
+    // How many bytes of the controller are handled next, if some may be.
+    fn next_size(&self) -> Option<usize>
+        ensures message { next_message self.now ≡ option_map (λ n. take n self.now.unheard) result }
+        ensures fits { IfSome result (λ n. (n ≤ length self.now.unheard) × (connected self.now ≡ true)) }
+    {
+        if !self.switch.is_connected() || !self.has_room() {
+            return None;
+        }
+        self.message_size()
+    }
+
+    // A message is handled, and what it gives for the controller waits.
+    fn handle(&mut self, size: usize, keeps: bool, work: &mut Work) -> Result<(), SwitchError>
+        requires fits { size ≤ length self.old.unheard }
+        requires connected { connected self.old ≡ true }
+        ensures live { OnOk result (self.new ≡ after_message (take size self.old.unheard) self.old) }
+        ensures does { OnOk result (Does keeps (Chunk (take size self.old.unheard) ∷ []) self.old.state self.new.state work.old work.new) }
+    {
+        happen_bytes(
+            self.alloc,
+            &mut self.switch,
+            self.unheard.first(size),
+            &mut self.waiting,
+            keeps,
+            work,
+        )?;
+        self.unheard.take(size);
+        Ok(())
+    }
+
+    // Messages are handled, one after the other, until there is no next one, at most so many.
+    fn handle_messages(
+        &mut self,
+        most: u32,
+        keeps: bool,
+        work: &mut Work,
+    ) -> Result<(), SwitchError>
+        ensures { OnOk result (HandlesMessages most keeps self.old self.new work.old work.new) }
+    {
+        for _ in 0..most {
+            let Some(size) = self.next_size() else {
+                return Ok(());
+            };
+            self.handle(size, keeps, work)?;
+        }
+        Ok(())
+    }
+
+    // What came and messages are heard, and what they give for the controller waits for its connection.
     fn hear<N: Network>(
         &mut self,
         input: &Input,
@@ -254,7 +331,7 @@ impl<L: Lookup> Live<L> {
         network: &mut N,
         keeps: bool,
         work: &mut Work,
-    ) -> Result<Asks, AllocError>
+    ) -> Result<Asks, SwitchError>
         requires fits { IsInput input.now }
         requires room { length buffer.now ≡ 65536 }
         requires empty { work.old ≡ record { reports = []; text = [] } }
@@ -267,6 +344,7 @@ impl<L: Lookup> Live<L> {
         let asks = self.asks(input);
         self.take(input, buffer, network, keeps, work)?;
         self.answer(work)?;
+        self.handle_messages(most_handled(input), keeps, work)?;
         Ok(asks)
     }
 
@@ -281,7 +359,7 @@ impl<L: Lookup> Live<L> {
     fn is_offered(&self, asks: Asks) -> bool
         ensures { result ≡ offers asks self.now }
     {
-        asks.is_open && !self.waiting.is_empty() && (asks.is_empty || asks.is_ready)
+        asks.is_open && !self.waiting.left().is_empty() && (asks.is_empty || asks.is_ready)
     }
 
     // Writes what waits to the connection, which takes the first of it.
@@ -292,10 +370,8 @@ impl<L: Lookup> Live<L> {
         ensures told { Records (N.told network.old) (Writes self.old.waiting result.taken result.failed ∷ []) (N.told network.new) }
         ensures keeps { N.keeps network.new ≡ N.keeps network.old }
     {
-        let written = network.write(&self.waiting);
-        let rest = self.waiting.len() - written.taken;
-        self.waiting.rotate_left(written.taken);
-        self.waiting.truncate(rest);
+        let written = network.write(self.waiting.left());
+        self.waiting.take(written.taken);
         written
     }
 
@@ -338,12 +414,11 @@ impl<L: Lookup> Live<L> {
         written
     }
 
-    // Whether so much waits, or so long, that the connection is given up.
+    // Whether the connection has taken nothing for so long that it is given up.
     fn is_stuck(&self) -> bool
         ensures { result ≡ stuck self.now.waiting self.now.since self.now.time }
     {
-        self.waiting.len() > MOST_WAITING
-            || !self.waiting.is_empty() && self.time.saturating_sub(self.since) >= LONGEST_WAIT
+        !self.waiting.left().is_empty() && self.time.saturating_sub(self.since) >= LONGEST_WAIT
     }
 
     // Whether the connection is closed.
@@ -355,12 +430,17 @@ impl<L: Lookup> Live<L> {
 
     // Closes the connection, or keeps it open if there is one.
     fn close_if<N: Network>(&mut self, closes: bool, is_open: bool, network: &mut N)
-        ensures live { self.new ≡ record self.old { waiting = if closes || not is_open then [] else self.old.waiting; over = closes && connected self.old } }
+        ensures live { self.new ≡ record self.old {
+          unheard = if closes || not is_open then [] else self.old.unheard;
+          waiting = if closes || not is_open then [] else self.old.waiting;
+          over = closes && connected self.old;
+        } }
         ensures told { Records (N.told network.old) (closing_acts closes) (N.told network.new) }
         ensures keeps { N.keeps network.new ≡ N.keeps network.old }
     {
         self.over = closes && self.switch.is_connected();
         if closes || !is_open {
+            self.unheard.clear();
             self.waiting.clear();
         }
         if closes {
@@ -404,6 +484,19 @@ impl<L: Lookup> Live<L> {
         Ok(())
     }
 
+    // What is wanted of the network: bytes, unless there is no room for answers or a message waits; and the next turn at once, if a
+    // message may be handled.
+    fn wanted(&self) -> Wanted
+        ensures { result ≡ wanted_of self.now }
+    {
+        let has_room = self.has_room();
+        let has_message = self.message_size().is_some();
+        Wanted {
+            hears: has_room && !has_message,
+            at_once: has_room && has_message,
+        }
+    }
+
     /// A turn: something comes, its events happen, their rows go to the log, and what they give goes out.
     pub fn turn<N: Network>(
         &mut self,
@@ -417,11 +510,21 @@ impl<L: Lookup> Live<L> {
         ensures room { length buffer.new ≡ 65536 }
     {
         work.clear();
-        let input = network.next(buffer);
+        let input = network.next(self.wanted(), buffer);
         if input.is_fault() {
             return Err(Halt::Read);
         }
         self.pass(&input, buffer, network, work)
+    }
+}
+
+// How many messages are handled in the turn in which this comes: none if it may be a frame, so that no frame waits for them.
+fn most_handled(input: &Input) -> u32
+    ensures { (buffer : List ℕ) → result ≡ most_after (came_of input.now buffer) }
+{
+    match input {
+        Input::Datagram { .. } | Input::Row(_) => 0,
+        _ => MESSAGES,
     }
 }
 

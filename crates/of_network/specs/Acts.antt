@@ -2,11 +2,12 @@
 use Rattle.std.specs.Prelude.{◌≡◌, ℕ, Bool, List, ◌++◌, Option, Some, None as Nobody}
 use Rattle.of_network.specs.declared.network.Endpoint.{Endpoint}
 use Rattle.of_network.specs.declared.network.Dropped.{Dropped}
+use Rattle.of_network.specs.declared.network.Wanted.{Wanted}
 use Rattle.of_network.specs.Inputs.{Came}
 
 pub data Act : Type 0 where
-  -- the network told this
-  Told : (came : Came) → Act
+  -- the switch wanted this, and the network told that
+  Told : (wanted : Wanted) → (came : Came) → Act
   -- a datagram, or a frame that should leave, was dropped
   Drops : (why : Dropped) → Act
   -- these rows were to be written to the log, and were or were not

@@ -26,6 +26,15 @@ pub enum Dropped {
     NoPeer,
 }
 
+/// What a switch wants of its network.
+#[derive(Clone, Copy, PartialEq, Eq)]
+pub struct Wanted {
+    /// Whether it hears the controller. If not, the controller's bytes stay in the network.
+    pub hears: bool,
+    /// Whether it has messages to handle. If so, the network does not wait.
+    pub at_once: bool,
+}
+
 /// What the network tells.
 #[derive(Drop)]
 pub enum Input {
@@ -89,12 +98,13 @@ pub trait Network {
     /// Whether it keeps a log.
     ghost keeps: { Self → Bool };
 
-    /// Waits until something comes, or some time has passed, and tells what came. The buffer has 65,536 bytes.
-    fn next(&mut self, buffer: &mut [u8]) -> Input
+    /// Waits until something comes, or some time has passed, and tells what came. It tells bytes of the controller only to a switch
+    /// that hears them, and does not wait if the switch wants the next turn at once. The buffer has 65,536 bytes.
+    fn next(&mut self, wanted: Wanted, buffer: &mut [u8]) -> Input
         requires room { length buffer.old ≡ 65536 }
         ensures fits { IsInput result }
         ensures room { length buffer.new ≡ 65536 }
-        ensures told { Records (told self.old) (Told (came_of result buffer.new) ∷ []) (told self.new) }
+        ensures told { Records (told self.old) (Told wanted (came_of result buffer.new) ∷ []) (told self.new) }
         ensures keeps { keeps self.new ≡ keeps self.old };
 
     /// Whether it keeps a log of the rows of all events.

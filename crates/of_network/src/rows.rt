@@ -2,7 +2,7 @@
 ghost use Rattle.std.specs.Prelude.{◌≡◌, ◌++◌, ◌∷◌, [], OnOk, Some, decimal};
 ghost use Rattle.of_replay.specs.WrittenRows.{bytes_word, change_words, name_word, row_text, state_word};
 ghost use Rattle.of_lines.specs.Lines.{joined};
-ghost use Rattle.of_switch.specs.declared.event.Event.TheVariants.{Frame};
+ghost use Rattle.of_switch.specs.declared.event.Event.TheVariants.{Chunk, Frame};
 ghost use Rattle.hex.specs.Hex.{encode_lower};
 
 use itoa::Buffer;
@@ -104,6 +104,15 @@ pub fn push_frame_row(out: &mut Vec<u8>, port: u32, frame: &[u8]) -> Result<(), 
     Ok(out.push(b'\n')?)
 }
 
+/// Appends the row of bytes of the controller, and LF.
+pub fn push_chunk_row(out: &mut Vec<u8>, bytes: &[u8]) -> Result<(), AllocError>
+    ensures { OnOk result (out.new.items ≡ out.old.items ++ row_text (Some (Chunk bytes.now)) ++ 10 ∷ []) }
+{
+    out.extend_from_slice(b"c ")?;
+    push_bytes(out, bytes)?;
+    Ok(out.push(b'\n')?)
+}
+
 /// Appends the row of an event, and LF.
 pub fn push_row(out: &mut Vec<u8>, event: &Event) -> Result<(), AllocError>
     ensures { OnOk result (out.new.items ≡ out.old.items ++ row_text (Some event.now) ++ 10 ∷ []) }
@@ -111,11 +120,7 @@ pub fn push_row(out: &mut Vec<u8>, event: &Event) -> Result<(), AllocError>
     match event {
         Event::Connect => out.extend_from_slice(b"connect\n"),
         Event::Lost => out.extend_from_slice(b"lost\n"),
-        Event::Chunk(bytes) => {
-            out.extend_from_slice(b"c ")?;
-            push_bytes(out, bytes.as_slice())?;
-            Ok(out.push(b'\n')?)
-        }
+        Event::Chunk(bytes) => push_chunk_row(out, bytes.as_slice()),
         Event::Frame { port, frame } => push_frame_row(out, *port, frame.as_slice()),
         Event::Moment(nanos) => {
             out.extend_from_slice(b"t ")?;

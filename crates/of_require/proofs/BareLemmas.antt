@@ -18,8 +18,10 @@ use Rattle.of_paths.specs.declared.destination.Destination.{Destination}
 use Rattle.of_paths.specs.declared.destination.Destination.TheVariants as places
 use Rattle.of_paths.specs.Places.{leaves_to}
 use Rattle.of_require.specs.declared.requirement.Demand.{Demand}
-use Rattle.of_require.specs.declared.requirement.Demand.TheVariants.{LeavesBy, LeavesOnlyBy, PassesTable}
-use Rattle.of_require.specs.Requirements.{is_done, goes_among, is_dropped, is_nothing}
+use Rattle.of_require.specs.declared.requirement.Demand.TheVariants.{Has, LeavesBy, LeavesOnlyBy, PassesTable}
+use Rattle.of_require.specs.declared.requirement.Quantifier.{Quantifier}
+use Rattle.of_require.specs.Deciding.{is_plain}
+use Rattle.of_require.specs.Requirements.{is_done, goes_among, is_dropped, is_leaving, is_nothing}
 
 -- an item without its frame
 abbrev pub bare : Item → Item
@@ -60,7 +62,7 @@ module _ (p : Packet) where
     bare_emission = bare_by (eqb n OFPP_IN_PORT) (eqb n OFPP_FLOOD || eqb n OFPP_ALL) (eqb n OFPP_CONTROLLER) (eqb n p.ingress)
 
 module _ (ports : List Port) (f g : List ℕ) (port : ℕ) where
-  bare_one : (e : Emission) → map bare (items_of_emission ports e f port) ≡ map bare (items_of_emission ports e g port)
+  pub bare_one : (e : Emission) → map bare (items_of_emission ports e f port) ≡ map bare (items_of_emission ports e g port)
   bare_one (Output packet n max_len) = bare_emission (packet_for packet f port) ports n max_len ∙ sym (bare_emission (packet_for packet g port) ports n max_len)
   bare_one (InvalidTtl packet) = refl
 
@@ -82,7 +84,7 @@ leaves_bare places.Controller (Sent port frame) = refl
 leaves_bare places.Controller (PacketIn p) = refl
 leaves_bare places.Nothing item = refl
 
-goes_bare : (tos : List Destination) (item : Item) → goes_among tos (bare item) ≡ goes_among tos item
+pub goes_bare : (tos : List Destination) (item : Item) → goes_among tos (bare item) ≡ goes_among tos item
 goes_bare [] item = refl
 goes_bare (to ∷ tos) item = rw (leaves_bare to item, goes_bare tos item) refl
 
@@ -98,10 +100,20 @@ module _ (tos : List Destination) where
   dropped_bare : (items : List Item) → is_dropped tos (map bare items) ≡ is_dropped tos items
   dropped_bare items = ap (λ (n : ℕ). (eqb n 0) && list_any is_nothing tos) (length-map items bare)
 
-does_bare : (d : Demand) (lines : List Step) (items : List Item) → is_done d lines (map bare items) ≡ is_done d lines items
-does_bare (LeavesBy tos) lines items = rw (any_bare tos.items items, dropped_bare tos.items items) refl
-does_bare (LeavesOnlyBy tos) lines items = all_bare tos.items items
-does_bare (PassesTable table) lines items = refl
+does_bare : (q : Quantifier) (d : Demand) (port : ℕ) (lines : List Step) (items : List Item) → is_plain d ≡ true → is_done q d port lines (map bare items) ≡ is_done q d port lines items
+does_bare q (LeavesBy tos) port lines items plain = rw (any_bare tos.items items, dropped_bare tos.items items) refl
+does_bare q (LeavesOnlyBy tos) port lines items plain = all_bare tos.items items
+does_bare q (PassesTable table) port lines items plain = refl
+does_bare q (Has tos fields) port lines items plain = absurd cc
 
-pub same_does : (d : Demand) (lines : List Step) (xs ys : List Item) → map bare xs ≡ map bare ys → is_done d lines xs ≡ is_done d lines ys
-same_does d lines xs ys same = sym (does_bare d lines xs) ∙ ap (is_done d lines) same ∙ does_bare d lines ys
+pub same_does : (q : Quantifier) (d : Demand) (port : ℕ) (lines : List Step) (xs ys : List Item) → is_plain d ≡ true → map bare xs ≡ map bare ys → is_done q d port lines xs ≡ is_done q d port lines ys
+same_does q d port lines xs ys plain same = sym (does_bare q d port lines xs plain) ∙ ap (is_done q d port lines) same ∙ does_bare q d port lines ys plain
+
+leaving_bare : (d : Demand) (items : List Item) → is_leaving d (map bare items) ≡ is_leaving d items
+leaving_bare (LeavesBy tos) items = refl
+leaving_bare (LeavesOnlyBy tos) items = refl
+leaving_bare (PassesTable table) items = refl
+leaving_bare (Has tos fields) items = any_bare tos.items items
+
+pub same_leaving : (d : Demand) (xs ys : List Item) → map bare xs ≡ map bare ys → is_leaving d xs ≡ is_leaving d ys
+same_leaving d xs ys same = sym (leaving_bare d xs) ∙ ap (is_leaving d) same ∙ leaving_bare d ys

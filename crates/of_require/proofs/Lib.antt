@@ -1,6 +1,11 @@
 mod BareLemmas
 mod DecidingLemmas
+mod DividingLemmas
+mod FieldLemmas
 mod FileLemmas
+mod HavingLemmas
+mod ListLemmas
+mod PacketLemmas
 mod PortLemmas
 mod ReadingLemmas
 mod RightLemmas

@@ -18,7 +18,7 @@ use Rattle.of_require.proofs.DecidingLemmas.{only_in}
 -- ---- lists of ports
 
 pub no_ports : (w : TheWorld) (r : Requirement) → NoneMatch w r (λ q. Contains [] q)
-no_ports w r frame port there received matched = absurd (omega (arith, there.1))
+no_ports w r frame port there received matched leaving = absurd (omega (arith, there.1))
 
 pub one_more_port : (items : List Port) (i : ℕ) (d : Port) → i < length items → map number_of_port (take (i + 1) items) ≡ map number_of_port (take i items) ++ (get_or items i d).number ∷ []
 one_more_port items i d lt =
@@ -41,7 +41,7 @@ number_listed (p ∷ ports) n q h = by_test (eqb p.number n) refl (number_listed
 
 -- by a port that does not receive no frame comes in
 pub none_received : (w : TheWorld) (r : Requirement) (port : ℕ) → (IsReceivingPort w.ports port → ⊥) → NoneMatch w r (λ q. Contains (port ∷ []) q)
-none_received w r port silent frame q there received matched =
+none_received w r port silent frame q there received matched leaving =
     let at : q ≡ port = only_in port q there in
     silent (subst (IsReceivingPort w.ports) at (record { port = received.ingress; there = received.there; receives = received.receives }))
 
@@ -50,5 +50,5 @@ none_received w r port silent frame q there received matched =
 pub all_ports : (w : TheWorld) (r : Requirement) (steps : ℕ) (d : Decision) → IsDecisionFor (map number_of_port w.ports) w r steps d → IsDecision w r steps d
 all_ports w r steps (Frame shown) h = h
 all_ports w r steps NoFrame h = λ frame port any deciding. h frame port (number_listed w.ports port deciding.about.received.ingress deciding.about.received.there) deciding
-all_ports w r steps NoneMatches h = λ frame port any received matched. h frame port (number_listed w.ports port received.ingress received.there) received matched
-all_ports w r steps Undecided h = h
+all_ports w r steps NoneMatches h = λ frame port any received matched leaving. h frame port (number_listed w.ports port received.ingress received.there) received matched leaving
+all_ports w r steps (Undecided port) h = h

@@ -1,5 +1,5 @@
 -- Requirements in words, one word after the other.
-use Rattle.std.proofs.Common.{◌≡◌, ◌<◌, ℕ, eqb, Bool, true, false, List, [], ◌∷◌, ◌++◌, length, Result, Ok, Err, refl, sym, ap, ◌∙◌}
+use Rattle.std.proofs.Common.{◌≡◌, ◌<◌, ℕ, eqb, Bool, false, List, [], ◌∷◌, ◌++◌, length, Result, Ok, Err, refl, sym, ap, ◌∙◌}
 use Rattle.std.specs.Prelude.{if◌then◌else◌, is_err, is_ok}
 use Rattle.std.proofs.lemmas.List.{append_assoc, append-nil}
 use Rattle.of_ovs_words.specs.Outcomes.{◌>>=◌}
@@ -9,7 +9,7 @@ use Rattle.of_paths.specs.declared.destination.Destination.{Destination}
 use Rattle.of_require.specs.declared.refusal.NoRequirement.{NoRequirement}
 use Rattle.of_require.specs.declared.refusal.NoRequirement.TheVariants.{NoMemory, Refused}
 use Rattle.of_require.specs.Reading.{place_named, places_in}
-use Rattle.of_require.specs.Refusals.{LineRefusal, LineStops, each_said, word_refused}
+use Rattle.of_require.specs.Refusals.{LineRefusal, LineStops, each_said}
 
 -- ---- what each of some says, behind what those before it say
 

@@ -54,4 +54,4 @@ module _ (w : TheWorld) (r : Requirement) (steps : ℕ) where
   right (Frame shown) h = by_frame r.quantifier refl shown.frame.items shown.in_port h.0
   right NoFrame h = by_none r.quantifier refl h
   right NoneMatches h = by_none r.quantifier refl (no_match w r (λ port. ⊤) h)
-  right Undecided h = tt
+  right (Undecided port) h = tt

@@ -1,22 +1,48 @@
--- For contracts inside this crate: classes of frames that decide a requirement.
-use Rattle.std.specs.Prelude.{◌≡◌, ℕ, Bool, true, false, List, [], ◌∷◌}
-use Rattle.std.specs.List.{Contains}
+-- For contracts inside this crate: classes of frames that decide a requirement, and sets of frames whose packets have the same fields.
+use Rattle.std.specs.Prelude.{◌≡◌, ◌≤◌, ◌<◌, ◌^◌, ◌⊎◌, ℕ, Bool, true, false, not, List, [], ◌∷◌, length}
+use Rattle.std.specs.Global.{Vec}
+use Rattle.std.specs.List.{Contains, list_all}
+use Rattle.of_oxm.specs.declared.match_field.MatchField.{MatchField}
+use Rattle.of_oxm.specs.Relations.{matches_map}
+use Rattle.of_rewrite.specs.Frames.{IsFrame}
+use Rattle.of_symbolic.specs.declared.pulling.Pulled.{Pulled}
+use Rattle.of_symbolic.specs.declared.pulling.Pulled.TheVariants.{Never, When}
+use Rattle.of_symbolic.specs.Actions.{frame_of_actions}
+use Rattle.of_symbolic.specs.Parts.{received_fields}
+use Rattle.of_symbolic.specs.Pulling.{IsTrueOfFrames}
+use Rattle.of_symbolic_run.specs.declared.finding.FrameFound.TheVariants as found
+use Rattle.of_symbolic_run.specs.declared.frame_set.FrameSet.{FrameSet}
+use Rattle.of_symbolic_run.specs.declared.state.Emission.{Emission}
+use Rattle.of_symbolic_run.specs.FrameSets.{FindsFrame, InFrames}
+use Rattle.of_symbolic_run.specs.PortNumbers.{IsReceivingPort, came_in_by}
+use Rattle.of_symbolic_run.specs.Received.{items_at}
+use Rattle.of_machine.specs.declared.data.Step.{Step}
 use Rattle.of_machine.specs.declared.data.Item.{Item}
 use Rattle.of_machine.specs.TheWorld.{TheWorld}
 use Rattle.of_paths.specs.declared.path.Path.{Path}
+use Rattle.of_paths.specs.declared.destination.Destination.{Destination}
 use Rattle.of_paths.specs.declared.path.PathClass.{PathClass}
+use Rattle.of_paths.specs.declared.path.Merging.TheVariants as merging
+use Rattle.of_paths.specs.declared.path.Paths.{Paths}
+use Rattle.of_paths.specs.Paths.{ArePaths, InClasses, InPaths, IsPath, IsPathClass}
 use Rattle.of_require.specs.declared.deciding.Decision.{Decision}
 use Rattle.of_require.specs.declared.deciding.Shown.{Shown}
+use Rattle.of_require.specs.declared.deciding.Sought.{Sought}
+use Rattle.of_require.specs.declared.deciding.Sought.TheVariants.{Frame, NoFrame, Undecided}
+use Rattle.of_require.specs.declared.requirement.Demand.{Demand}
+use Rattle.of_require.specs.declared.requirement.Demand.TheVariants.{Has}
 use Rattle.of_require.specs.declared.requirement.Requirement.{Requirement}
-use Rattle.of_require.specs.Decisions.{IsDecisionAmong, decides}
+use Rattle.of_require.specs.Decisions.{IsDeciding, IsDecisionAmong, decides}
+use Rattle.of_require.specs.Packets.{IsUnknownAmong, IsUnknownPacket, IsUnknownPath, packet_actions}
+use Rattle.of_require.specs.Requirements.{is_leaving}
 
-abbrev pub first_decides : Requirement → List Path → List Item → Bool
-first_decides r [] items = false
-first_decides r (p ∷ rest) items = decides r p.steps.items items
+abbrev pub first_decides : Requirement → ℕ → List Path → List Item → Bool
+first_decides r in_port [] items = false
+first_decides r in_port (p ∷ rest) items = decides r in_port p.steps.items items
 
 -- the frame of the class decides it, by the steps of its first path
 abbrev pub class_decides : Requirement → PathClass → Bool
-class_decides r c = first_decides r c.paths.items c.items.items
+class_decides r c = first_decides r c.in_port c.paths.items c.items.items
 
 -- it is the frame of the class, which decides
 pub record IsShownOf (r : Requirement) (c : PathClass) (shown : Shown) : Type 0 where
@@ -28,3 +54,110 @@ pub record IsShownOf (r : Requirement) (c : PathClass) (shown : Shown) : Type 0 
 -- what is decided for the frames that come in by the ports of a list
 abbrev pub IsDecisionFor : List ℕ → TheWorld → Requirement → ℕ → Decision → Type 0
 IsDecisionFor ports w r steps decision = IsDecisionAmong (λ port. Contains ports port) w r steps decision
+
+-- a demand without fields
+abbrev pub is_plain : Demand → Bool
+is_plain (Has places fields) = false
+is_plain other = true
+
+-- no class has a frame that the requirement is about
+abbrev pub none_leaves : Requirement → List PathClass → Bool
+none_leaves r classes = list_all (λ c. not (is_leaving r.demand c.items.items)) classes
+
+-- ---- what is found among some frames: one of them, which was run, decides; or none does; or it is unknown
+
+abbrev pub IsSought : TheWorld → Requirement → (List ℕ → ℕ → Type 0) → Type 0 → Sought → Type 0
+IsSought w r among unknown (Frame shown) = IsDeciding w r shown.frame.items shown.in_port × (shown.items.items ≡ items_at w shown.frame.items shown.in_port)
+IsSought w r among unknown NoFrame = (frame : List ℕ) (port : ℕ) → among frame port → IsDeciding w r frame port → ⊥
+IsSought w r among unknown Undecided = unknown
+
+-- among the frames of classes, which come in by a port
+abbrev pub IsSoughtInClasses : TheWorld → Requirement → ℕ → List PathClass → Sought → Type 0
+IsSoughtInClasses w r steps classes sought =
+    (port : ℕ) (found : Paths) → IsReceivingPort w.ports port → port < 2 ^ 32 → ArePaths merging.Each w (came_in_by port ∷ r.within.items) steps found → found.classes.items ≡ classes →
+    IsSought w r (λ frame q. (q ≡ port) × InClasses classes frame q) (IsUnknownAmong r.demand steps classes) sought
+
+-- among those of a path, if these fields are asked of what leaves
+abbrev pub IsSoughtInPath : TheWorld → Requirement → List MatchField → ℕ → Path → Sought → Type 0
+IsSoughtInPath w r fields steps p sought =
+    (port : ℕ) (places : Vec Destination) → IsReceivingPort w.ports port → port < 2 ^ 32 → IsPath w (came_in_by port ∷ r.within.items) p → r.demand ≡ Has places fields →
+    IsSought w r (λ frame q. (q ≡ port) × InFrames p.frames frame q) (IsUnknownPath fields steps p) sought
+
+-- among those of the one path of a class; none of the others decides if nothing leaves
+abbrev pub IsSoughtInClass : TheWorld → Requirement → List MatchField → ℕ → PathClass → Sought → Type 0
+IsSoughtInClass w r fields steps c sought =
+    (port : ℕ) (places : Vec Destination) → IsReceivingPort w.ports port → port < 2 ^ 32 → IsPathClass w (came_in_by port ∷ r.within.items) c → length c.paths.items ≡ 1 → r.demand ≡ Has places fields →
+    IsSought w r (λ frame q. (q ≡ port) × InPaths c.paths.items frame q) ((p : Path) × Contains c.paths.items p × IsUnknownPath fields steps p) sought
+
+abbrev pub IsSoughtInEach : TheWorld → Requirement → List MatchField → ℕ → List PathClass → Sought → Type 0
+IsSoughtInEach w r fields steps classes NoFrame = (c : PathClass) → Contains classes c → IsSoughtInClass w r fields steps c NoFrame
+IsSoughtInEach w r fields steps classes sought = (c : PathClass) × Contains classes c × IsSoughtInClass w r fields steps c sought
+
+-- what was found if no frame decides: it is known of all, or not
+abbrev pub found_so_far : Bool → Sought
+found_so_far true = NoFrame
+found_so_far false = Undecided
+
+-- ---- conditions on the frames that came in, for packets to have fields
+
+-- a packet has them exactly if this is so of the frame that came in
+pub record IsAskedBy (fields : List MatchField) (e : Emission) (asked : Pulled) : Type 0 where
+  pub frame : (f : List ℕ) → IsFrame f → IsFrame (frame_of_actions (packet_actions e) f)
+  pub is : IsTrueOfFrames (packet_actions e) 0 fields asked
+
+-- it never has them, or asks one of these lists of conditions
+abbrev pub AsksOneOf : List MatchField → List (Vec MatchField) → Emission → Type 0
+AsksOneOf fields lists e = IsAskedBy fields e Never ⊎ ((m : Vec MatchField) × Contains lists m × IsAskedBy fields e (When m))
+
+abbrev pub AreAsked : List MatchField → List Emission → List (Vec MatchField) → Type 0
+AreAsked fields emitted lists = (e : Emission) → Contains emitted e → AsksOneOf fields lists e
+
+abbrev pub SomeUnknown : List MatchField → List Emission → Type 0
+SomeUnknown fields emitted = (e : Emission) × Contains emitted e × IsUnknownPacket fields e
+
+-- ---- sets of frames, divided by such conditions
+
+abbrev pub InSomeSet : List FrameSet → List ℕ → ℕ → Type 0
+InSomeSet sets frame port = (s : FrameSet) × Contains sets s × InFrames s frame port
+
+abbrev pub AreAllIn : FrameSet → FrameSet → Type 0
+AreAllIn s old = (frame : List ℕ) (port : ℕ) → InFrames s frame port → InFrames old frame port
+
+-- the conditions match each frame of the set, or none
+abbrev pub AreOneWay : List MatchField → FrameSet → Type 0
+AreOneWay m s =
+    ((frame : List ℕ) (port : ℕ) → InFrames s frame port → matches_map m (received_fields frame port) ≡ true)
+    ⊎ ((frame : List ℕ) (port : ℕ) → InFrames s frame port → matches_map m (received_fields frame port) ≡ false)
+
+-- all frames of some sets, by whether conditions match
+pub record AreDivided (m : List MatchField) (old new : List FrameSet) : Type 0 where
+  pub within : (s : FrameSet) → Contains new s → AreOneWay m s × ((o : FrameSet) × Contains old o × AreAllIn s o)
+  pub all : (frame : List ℕ) (port : ℕ) → IsFrame frame → InSomeSet old frame port → InSomeSet new frame port
+
+-- all frames of a set, by each of these lists of conditions
+pub record AreDividedByAll (lists : List (Vec MatchField)) (old : FrameSet) (new : List FrameSet) : Type 0 where
+  pub within : (s : FrameSet) → Contains new s → AreAllIn s old
+  pub ways : (s : FrameSet) → Contains new s → (m : Vec MatchField) → Contains lists m → AreOneWay m.items s
+  pub all : (frame : List ℕ) (port : ℕ) → IsFrame frame → InFrames old frame port → InSomeSet new frame port
+
+-- ---- searches in sets of frames with these steps
+
+-- a frame of the set that is found, as a switch may receive it
+pub record IsFrameFoundIn (s : FrameSet) (frame : List ℕ) (port : ℕ) : Type 0 where
+  pub frame_is : IsFrame frame
+  pub short : length frame ≤ 9216
+  pub within : InFrames s frame port
+  pub fits : port < 2 ^ 32
+
+-- a frame decides, which was run; or the set has none, or one that was run does not; or none was found
+abbrev pub IsSoughtInSet : TheWorld → Requirement → List Step → ℕ → FrameSet → Sought → Type 0
+IsSoughtInSet w r lines steps s (Frame shown) =
+    IsFrameFoundIn s shown.frame.items shown.in_port × (shown.items.items ≡ items_at w shown.frame.items shown.in_port) × (decides r shown.in_port lines shown.items.items ≡ true)
+IsSoughtInSet w r lines steps s NoFrame =
+    ((frame : List ℕ) (port : ℕ) → IsFrame frame → InFrames s frame port → ⊥)
+    ⊎ ((frame : List ℕ) × (port : ℕ) × IsFrameFoundIn s frame port × (decides r port lines (items_at w frame port) ≡ false))
+IsSoughtInSet w r lines steps s Undecided = FindsFrame s steps found.Undecided
+
+abbrev pub IsSoughtInSets : TheWorld → Requirement → List Step → ℕ → List FrameSet → Sought → Type 0
+IsSoughtInSets w r lines steps sets NoFrame = (s : FrameSet) → Contains sets s → IsSoughtInSet w r lines steps s NoFrame
+IsSoughtInSets w r lines steps sets sought = (s : FrameSet) × Contains sets s × IsSoughtInSet w r lines steps s sought

@@ -1,12 +1,12 @@
 -- THE REPORT ON REQUIREMENTS AS XML, as JUnit writes the results of tests: a test case for each requirement, which fails if the requirement does not hold.
-use Rattle.std.specs.Prelude.{ℕ, ◌==◌, List, [], ◌∷◌, ◌++◌, length, codes, decimal, if◌then◌else◌}
+use Rattle.std.specs.Prelude.{ℕ, ◌==◌, List, [], ◌∷◌, ◌++◌, length, codes, if◌then◌else◌}
 use Rattle.std.specs.List.{flat_map}
 use Rattle.of_values.specs.Origins.{printable}
 use Rattle.of_require.specs.declared.answers.Answer.{Answer}
 use Rattle.of_require.specs.declared.deciding.Verdict.{Verdict}
 use Rattle.of_require.specs.declared.deciding.Verdict.TheVariants.{Fails, Holds, Undecided}
 use Rattle.of_require.specs.Answers.{count_verdicts, verdict_of}
-use Rattle.of_require.specs.Words.{why_decided}
+use Rattle.of_require.specs.Words.{numbered_text, why_decided}
 
 -- a character of an attribute's value, which is between apostrophes
 abbrev pub xml_character : ℕ → List ℕ
@@ -22,9 +22,6 @@ abbrev pub outcome_element : Verdict → List ℕ → List ℕ
 outcome_element Holds why = []
 outcome_element Fails why = codes "<failure>" ++ why ++ codes "</failure>"
 outcome_element Undecided why = codes "<error>" ++ why ++ codes "</error>"
-
-unfoldable pub numbered_text : List ℕ → ℕ → List ℕ
-numbered_text text n = text ++ decimal n
 
 unfoldable pub test_case : Answer → List ℕ
 test_case a =

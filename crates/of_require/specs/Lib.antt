@@ -1,7 +1,9 @@
 pub mod OneProof
 pub mod Requirements
+pub mod Packets
 pub mod Decisions
 pub mod Deciding
+pub mod Fields
 pub mod Refusals
 pub mod Reading
 pub mod RequirementFiles

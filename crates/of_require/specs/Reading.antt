@@ -1,6 +1,7 @@
 -- REQUIREMENTS IN WORDS, one a line: `no frame ip,nw_src=10.0.9.0/24 leaves by 2,3,4`. Words are separated by spaces. A match has the words of
 -- ovs-fields(7), with commas between them.
 use Rattle.std.specs.Prelude.{ℕ, ◌==◌, ◌||◌, Bool, true, false, List, [], ◌∷◌, length, codes, Result, Ok, Err, if◌then◌else◌}
+use Rattle.std.specs.List.{list_any}
 use Rattle.std.specs.Str.{bytes_eq}
 use Rattle.of_wire.specs.declared.limits.TheConstants.{OFPP_CONTROLLER, TABLES}
 use Rattle.of_actions.specs.PortNumbers.{is_number as is_port_number}
@@ -22,7 +23,9 @@ use Rattle.of_require.specs.declared.requirement.Demand.TheVariants as demands
 use Rattle.of_require.specs.declared.requirement.Quantifier.{Quantifier}
 use Rattle.of_require.specs.declared.requirement.Quantifier.TheVariants.{AtLeastOne, Each, No}
 use Rattle.of_require.specs.declared.requirement.Requirement.{Requirement}
+use Rattle.of_require.specs.Fields.{is_match}
 use Rattle.of_require.specs.Refusals.{LineRefusal, each_said, word_refused}
+use Rattle.of_require.specs.Requirements.{is_nothing}
 
 -- ---- words
 
@@ -42,6 +45,12 @@ behind_word text = behind 32 (unspaced text)
 abbrev pub behind_expected : List ℕ → Why → List ℕ → Result (List ℕ) LineRefusal
 behind_expected name why text = if bytes_eq (first_word_in text) name then Ok (behind_word text) else word_refused (first_word_in text) why
 
+-- ---- matches
+
+abbrev pub match_refused : Result (List MatchField) WordRefusal → Result (List MatchField) LineRefusal
+match_refused (Ok fields) = Ok fields
+match_refused (Err r) = word_refused r.word (whys.Match r.why)
+
 -- ---- places: `2,3,controller`
 
 abbrev pub place_at : List ℕ → Result ℕ WordWhy → Result Destination LineRefusal
@@ -58,17 +67,19 @@ place_named word = if bytes_eq word (codes "drop") then Ok Nothing else place_at
 abbrev pub places_in : List ℕ → Result (List Destination) LineRefusal
 places_in text = if length text == 0 then word_refused text whys.Place else each_said place_named (words_from 0 text)
 
--- ---- what frames do: `leaves by 2,3`, `leaves only by 2,controller` or `passes table 1`
+-- ---- what frames do: `leaves by 2,3`, `leaves only by 2,controller`, `leaving by 3 has eth_dst=02:00:00:00:00:03` or `passes table 1`
 
 pub data SaidDemand : Type 0 where
   LeavesBy : List Destination → SaidDemand
   LeavesOnlyBy : List Destination → SaidDemand
   PassesTable : ℕ → SaidDemand
+  Has : List Destination → List MatchField → SaidDemand
 
 abbrev pub view_demand : Demand → SaidDemand
 view_demand (demands.LeavesBy places) = LeavesBy places.items
 view_demand (demands.LeavesOnlyBy places) = LeavesOnlyBy places.items
 view_demand (demands.PassesTable table) = PassesTable table
+view_demand (demands.Has places fields) = Has places.items fields
 
 abbrev pub table_named : List ℕ → Result ℕ WordWhy → Result ℕ LineRefusal
 table_named word (Err why) = word_refused word whys.Table
@@ -87,9 +98,27 @@ passing_said text =
     behind_expected (codes "table") whys.Demand text
     >>= λ rest. table_named (first_word_in rest) (numbered TABLES (first_word_in rest)) >>= λ table. Ok (PassesTable table, behind_word rest)
 
+-- something leaves by these
+abbrev pub exits_in : List ℕ → Result (List Destination) LineRefusal
+exits_in text = places_in text >>= λ places. if list_any is_nothing places then word_refused text whys.NoPlace else Ok places
+
+-- one field at least
+abbrev pub fields_worded : List ℕ → Result (List MatchField) LineRefusal
+fields_worded text =
+    if length text == 0 then word_refused text whys.Fields
+    else match_refused (conditions_in_words text) >>= λ fields. if is_match fields then Ok fields else word_refused text whys.Fields
+
+abbrev pub having_said : List ℕ → Result (SaidDemand × List ℕ) LineRefusal
+having_said text =
+    behind_expected (codes "by") whys.Demand text
+    >>= λ rest. exits_in (first_word_in rest)
+    >>= λ places. behind_expected (codes "has") whys.Demand (behind_word rest)
+    >>= λ last. fields_worded (first_word_in last) >>= λ fields. Ok (Has places fields, behind_word last)
+
 abbrev pub demand_said : List ℕ → Result (SaidDemand × List ℕ) LineRefusal
 demand_said text =
     if bytes_eq (first_word_in text) (codes "leaves") then leaving_said (behind_word text)
+    else if bytes_eq (first_word_in text) (codes "leaving") then having_said (behind_word text)
     else if bytes_eq (first_word_in text) (codes "passes") then passing_said (behind_word text)
     else word_refused (first_word_in text) whys.Demand
 
@@ -109,11 +138,7 @@ ending_said text =
 -- ---- the frames: those of a match, or all
 
 abbrev pub is_demand_word : List ℕ → Bool
-is_demand_word word = bytes_eq word (codes "leaves") || bytes_eq word (codes "passes")
-
-abbrev pub match_refused : Result (List MatchField) WordRefusal → Result (List MatchField) LineRefusal
-match_refused (Ok fields) = Ok fields
-match_refused (Err r) = word_refused r.word (whys.Match r.why)
+is_demand_word word = bytes_eq word (codes "leaves") || bytes_eq word (codes "leaving") || bytes_eq word (codes "passes")
 
 abbrev pub match_said : List ℕ → Result (List MatchField × List ℕ) LineRefusal
 match_said text =

@@ -6,7 +6,8 @@ use Rattle.of_json.specs.Parts.{key, listed, number_member, text_member, truth_m
 use Rattle.of_json.specs.Strings.{array_member, string_member}
 use Rattle.of_require.specs.declared.answers.Answer.{Answer}
 use Rattle.of_require.specs.declared.deciding.Decision.{Decision}
-use Rattle.of_require.specs.declared.deciding.Decision.TheVariants.{Frame, NoneMatches}
+use Rattle.of_require.specs.declared.deciding.Decision.TheVariants.{Frame, NoneMatches, Undecided as NotKnown}
+use Rattle.of_require.specs.declared.deciding.Shown.{Shown}
 use Rattle.of_require.specs.declared.deciding.Verdict.{Verdict}
 use Rattle.of_require.specs.declared.deciding.Verdict.TheVariants.{Fails, Holds, Undecided}
 use Rattle.of_require.specs.Answers.{verdict_of}
@@ -20,9 +21,13 @@ abbrev pub may_match : Decision → Bool
 may_match NoneMatches = false
 may_match other = true
 
--- the frame that decides, and what leaves
+-- the frame that decides, and what leaves; or the port of frames of which it is not known
+unfoldable pub frame_members : Shown → List ℕ
+frame_members shown = number_member (codes "in_port") shown.in_port ++ text_member (codes "frame") (encode_lower shown.frame.items) ++ items_member (codes "items") shown.items.items
+
 unfoldable pub shown_members : Decision → List ℕ
-shown_members (Frame shown) = number_member (codes "in_port") shown.in_port ++ text_member (codes "frame") (encode_lower shown.frame.items) ++ items_member (codes "items") shown.items.items
+shown_members (Frame shown) = frame_members shown
+shown_members (NotKnown port) = number_member (codes "in_port") port
 shown_members other = []
 
 unfoldable pub line_members : Answer → List ℕ

@@ -33,11 +33,17 @@ in_words (Some words) = frame_words_line words
 unfoldable pub deciding_frame_words : Shown → List ℕ
 deciding_frame_words s = frame_line s.in_port s.frame.items ++ in_words (frame_words_of s.in_port s.frame.items) ++ side_words (codes "    ") s.items.items
 
+unfoldable pub numbered_text : List ℕ → ℕ → List ℕ
+numbered_text text n = text ++ decimal n
+
+unfoldable pub undecided_port_line : ℕ → List ℕ
+undecided_port_line port = numbered_text (codes "    it is not known of all frames that come in by port ") port ++ (codes " and match; `ofswitch paths --match` says why" ++ 10 ∷ [])
+
 unfoldable pub decision_words : Decision → List ℕ
 decision_words (Frame shown) = deciding_frame_words shown
 decision_words NoFrame = []
 decision_words NoneMatches = codes "    the switch receives no frame that matches" ++ 10 ∷ []
-decision_words Undecided = codes "    it is not known of all frames that match; `ofswitch paths --match` says why" ++ 10 ∷ []
+decision_words (Undecided port) = undecided_port_line port
 
 -- why a requirement is met or not: one about some frame may fail since there is none
 unfoldable pub why_decided : Verdict → Decision → List ℕ

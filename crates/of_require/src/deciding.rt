@@ -1,5 +1,5 @@
 //! Whether a switch meets a requirement.
-ghost use Rattle.std.specs.Prelude.{◌≡◌, ◌∷◌, ◌++◌, [], ℕ, List, IfNone, IfOk, IfSome, false, true};
+ghost use Rattle.std.specs.Prelude.{◌≡◌, ◌∷◌, ◌++◌, [], ℕ, List, IfNone, IfOk, IfSome, false, not, true};
 ghost use Rattle.std.specs.List.{Contains};
 ghost use Rattle.of_regions.specs.Conditions.{AreConditions};
 ghost use Rattle.of_datapath.specs.Datapath.{world_of};
@@ -7,16 +7,18 @@ ghost use Rattle.of_datapath.specs.Numbers.{forwarding_of};
 ghost use Rattle.of_machine.specs.TheWorld.{TheWorld};
 ghost use Rattle.of_symbolic_run.specs.PortNumbers.{came_in_by};
 ghost use Rattle.of_paths.specs.declared.path.PathClass.{PathClass as APathClass};
-ghost use Rattle.of_require.specs.Deciding.{IsDecisionFor, IsShownOf, class_decides as decided_by_class};
+ghost use Rattle.of_require.specs.Deciding.{IsDecisionFor, IsShownOf, IsSoughtInClass, IsSoughtInClasses, IsSoughtInEach, class_decides as decided_by_class, found_so_far, is_plain, none_leaves as none_leaves_by};
 ghost use Rattle.of_require.specs.Decisions.{IsDecision, verdict_by};
+ghost use Rattle.of_require.specs.Requirements.{is_leaving as is_leaving_by};
 ghost use Rattle.of_require.specs.declared.requirement.Requirement.{Requirement as ARequirement};
 
-use crate::doing::decides;
-use crate::requirement::{Quantifier, Requirement};
+use crate::doing::{decides, is_leaving};
+use crate::packets::seek_in_path;
+use crate::requirement::{Demand, Quantifier, Requirement};
 use of_classifier::Lookup;
 use of_datapath::Datapath;
 use of_machine::Items;
-use of_oxm::MatchField;
+use of_oxm::{Match, MatchField};
 use of_paths::{Merging, PathClass, Paths, ingress_conditions, paths};
 use of_symbolic_run::receiving_port;
 use std::alloc::{AllocError, Global};
@@ -38,7 +40,18 @@ pub enum Decision {
     NoFrame,
     /// No frame does, since the conditions match no frame that the switch receives.
     NoneMatches,
-    /// It is not known of all frames.
+    /// It is not known of all frames that come in by this port.
+    Undecided(u32),
+}
+
+// What is found among some frames.
+#[derive(Drop)]
+pub enum Sought {
+    // This one decides the requirement.
+    Frame(Shown),
+    // None does.
+    NoFrame,
+    // It is not known of all.
     Undecided,
 }
 
@@ -70,7 +83,7 @@ fn class_decides(requirement: &Requirement, class: &PathClass) -> bool
 {
     match class.paths.as_slice() {
         [] => false,
-        [path, ..] => decides(requirement, &path.steps, &class.items),
+        [path, ..] => decides(requirement, class.in_port, &path.steps, &class.items),
     }
 }
 
@@ -97,6 +110,107 @@ fn deciding_frame(requirement: &Requirement, classes: Vec<PathClass>) -> Option<
     None
 }
 
+// A frame of a class that decides a requirement about fields of what leaves.
+fn seek_in_class<L: Lookup>(
+    alloc: Global,
+    datapath: &Datapath<L>,
+    requirement: &Requirement,
+    fields: &Match,
+    class: PathClass,
+    steps: usize,
+) -> Result<Sought, AllocError>
+    ensures { IfOk result (IsSoughtInClass (world_of (forwarding_of datapath.now)) requirement.now fields.now steps class) }
+{
+    if !is_leaving(&requirement.demand, &class.items) {
+        return Ok(Sought::NoFrame);
+    }
+    let mut paths = class.paths;
+    match paths.pop() {
+        None => Ok(Sought::NoFrame),
+        Some(path) => {
+            let sought = seek_in_path(alloc, datapath, requirement, fields, path, steps)?;
+            Ok(sought)
+        }
+    }
+}
+
+// What was found if no frame decides so far: it is known of all, or not.
+fn sought_so_far(is_known: bool) -> Sought
+    ensures { result ≡ found_so_far is_known }
+{
+    if is_known {
+        Sought::NoFrame
+    } else {
+        Sought::Undecided
+    }
+}
+
+// A frame of some classes that decides a requirement about fields of what leaves.
+fn seek_packets<L: Lookup>(
+    alloc: Global,
+    datapath: &Datapath<L>,
+    requirement: &Requirement,
+    fields: &Match,
+    classes: Vec<PathClass>,
+    steps: usize,
+) -> Result<Sought, AllocError>
+    ensures { IfOk result (IsSoughtInEach (world_of (forwarding_of datapath.now)) requirement.now fields.now steps classes.items) }
+{
+    let mut is_known = true;
+    for class in classes {
+        match seek_in_class(alloc, datapath, requirement, fields, class, steps)? {
+            Sought::NoFrame => {}
+            Sought::Undecided => is_known = false,
+            Sought::Frame(shown) => return Ok(Sought::Frame(shown)),
+        }
+    }
+    Ok(sought_so_far(is_known))
+}
+
+// A frame of some classes, which come in by one port, that decides a requirement that asks no fields: the frames that were run show it.
+fn sought_among(requirement: &Requirement, classes: Vec<PathClass>) -> Sought
+    ensures { (w : TheWorld) (steps : ℕ) → is_plain requirement.now.demand ≡ true → IsSoughtInClasses w requirement.now steps classes.items result }
+{
+    match deciding_frame(requirement, classes) {
+        Some(shown) => Sought::Frame(shown),
+        None => Sought::NoFrame,
+    }
+}
+
+// A frame of some classes, which come in by one port, that decides a requirement.
+fn seek<L: Lookup>(
+    alloc: Global,
+    datapath: &Datapath<L>,
+    requirement: &Requirement,
+    classes: Vec<PathClass>,
+    steps: usize,
+) -> Result<Sought, AllocError>
+    ensures { IfOk result (IsSoughtInClasses (world_of (forwarding_of datapath.now)) requirement.now steps classes.items) }
+{
+    match &requirement.demand {
+        Demand::Has { fields, .. } => {
+            let sought = seek_packets(alloc, datapath, requirement, fields, classes, steps)?;
+            Ok(sought)
+        }
+        Demand::LeavesBy(_) => Ok(sought_among(requirement, classes)),
+        Demand::LeavesOnlyBy(_) => Ok(sought_among(requirement, classes)),
+        Demand::PassesTable(_) => Ok(sought_among(requirement, classes)),
+    }
+}
+
+fn leaves(requirement: &Requirement, class: &PathClass) -> bool
+    ensures { result ≡ is_leaving_by requirement.now.demand class.now.items.items }
+{
+    is_leaving(&requirement.demand, &class.items)
+}
+
+// Whether no class has a frame that the requirement is about.
+fn none_leaves(requirement: &Requirement, classes: &[PathClass]) -> bool
+    ensures { result ≡ none_leaves_by requirement.now classes.now }
+{
+    classes.iter().all(|class| !leaves(requirement, class))
+}
+
 // What is found of the frames that come in by a port. They are divided by their steps, and each set of frames has a frame that was run: what the others
 // do, and by which ports they leave, is the same.
 fn decide_at<L: Lookup>(
@@ -113,12 +227,15 @@ fn decide_at<L: Lookup>(
     }
     let within = conditions_at(alloc, requirement, port)?;
     let Paths { classes, undecided } = paths(alloc, datapath, &within, Merging::Each, steps)?;
-    let none_matches = classes.is_empty();
-    if let Some(shown) = deciding_frame(requirement, classes) {
-        return Ok(Decision::Frame(shown));
+    let none_matches = none_leaves(requirement, &classes);
+    let sought = seek(alloc, datapath, requirement, classes, steps)?;
+    match sought {
+        Sought::Frame(shown) => return Ok(Decision::Frame(shown)),
+        Sought::Undecided => return Ok(Decision::Undecided(port)),
+        Sought::NoFrame => {}
     }
     if !undecided.is_empty() {
-        return Ok(Decision::Undecided);
+        return Ok(Decision::Undecided(port));
     }
     if none_matches {
         Ok(Decision::NoneMatches)
@@ -132,13 +249,17 @@ fn joined(so_far: Decision, next: Decision) -> Decision
     ensures { (ports others : List ℕ) (w : TheWorld) (r : ARequirement) (steps : ℕ) → IsDecisionFor ports w r steps so_far →
         IsDecisionFor others w r steps next → IsDecisionFor (ports ++ others) w r steps result }
 {
-    match (so_far, next) {
-        (Decision::Frame(shown), _) | (_, Decision::Frame(shown)) => Decision::Frame(shown),
-        (Decision::Undecided, _) | (_, Decision::Undecided) => Decision::Undecided,
-        (Decision::NoneMatches, Decision::NoneMatches) => Decision::NoneMatches,
-        (Decision::NoFrame, Decision::NoFrame)
-        | (Decision::NoFrame, Decision::NoneMatches)
-        | (Decision::NoneMatches, Decision::NoFrame) => Decision::NoFrame,
+    match so_far {
+        Decision::Frame(shown) => Decision::Frame(shown),
+        Decision::Undecided(port) => match next {
+            Decision::Frame(shown) => Decision::Frame(shown),
+            _ => Decision::Undecided(port),
+        },
+        Decision::NoneMatches => next,
+        Decision::NoFrame => match next {
+            Decision::NoneMatches => Decision::NoFrame,
+            other => other,
+        },
     }
 }
 
@@ -170,7 +291,7 @@ impl Decision {
         ensures { result ≡ verdict_by quantifier self.now }
     {
         let by_frame = match self {
-            Decision::Undecided => return Verdict::Undecided,
+            Decision::Undecided(_) => return Verdict::Undecided,
             Decision::Frame(_) => true,
             Decision::NoFrame | Decision::NoneMatches => false,
         };

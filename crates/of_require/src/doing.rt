@@ -1,12 +1,14 @@
 //! What a frame does, by the steps and the items of its run.
-ghost use Rattle.std.specs.Prelude.{◌≡◌};
+ghost use Rattle.std.specs.Prelude.{◌≡◌, ◌&&◌, ◌||◌, not};
 ghost use Rattle.std.specs.List.{list_all, list_any};
 ghost use Rattle.of_paths.specs.Places.{leaves_to};
 ghost use Rattle.of_require.specs.Decisions.{decides as decides_by};
-ghost use Rattle.of_require.specs.Requirements.{is_done as does_by, goes_among, is_counted as is_counted_by, is_dropped as is_dropped_by, is_expiry, is_lookup_in, is_nothing};
+ghost use Rattle.of_require.specs.Requirements.{is_done as does_by, frame_has as frame_has_fields, goes_among, has_fields as has_fields_by, have as have_by, is_counted as is_counted_by, is_dropped as is_dropped_by, is_expiry, is_leaving as is_leaving_by, is_lookup_in, is_nothing, item_frame as frame_in};
 
 use crate::requirement::{Demand, Quantifier, Requirement};
+use of_headers::read_inside;
 use of_machine::{Item, Step};
+use of_oxm::{Match, matches};
 use of_paths::Destination;
 
 fn leaves(item: &Item, to: Destination) -> bool
@@ -32,8 +34,8 @@ fn is_no_place(to: Destination) -> bool
     matches!(to, Destination::Nothing)
 }
 
-// Whether one of the places is that nothing leaves.
-fn names_nothing(places: &[Destination]) -> bool
+/// Whether one of the places is that nothing leaves.
+pub fn names_nothing(places: &[Destination]) -> bool
     ensures { result ≡ list_any is_nothing places.now }
 {
     places.iter().any(|to| is_no_place(*to))
@@ -89,14 +91,92 @@ fn some_expires(steps: &[Step]) -> bool
     steps.iter().any(|step| expires(step))
 }
 
-// Whether a frame with these steps, for which these items are emitted, does it.
-fn is_done(demand: &Demand, steps: &[Step], items: &[Item]) -> bool
-    ensures { result ≡ does_by demand.now steps.now items.now }
+fn item_frame(item: &Item) -> &[u8]
+    ensures { result.now ≡ frame_in item.now }
+{
+    match item {
+        Item::Sent { frame, .. } => frame.as_slice(),
+        Item::PacketIn(packet) => packet.frame.as_slice(),
+    }
+}
+
+// Whether a frame has these fields.
+fn frame_has(fields: &Match, in_port: u32, frame: &[u8]) -> bool
+    ensures { result ≡ frame_has_fields fields.now in_port frame.now }
+{
+    match read_inside(frame, in_port, 0) {
+        Ok(headers) => matches(fields, &headers.key()),
+        Err(_) => false,
+    }
+}
+
+fn has_fields(fields: &Match, in_port: u32, item: &Item) -> bool
+    ensures { result ≡ has_fields_by fields.now in_port item.now }
+{
+    frame_has(fields, in_port, item_frame(item))
+}
+
+// Whether an item goes to one of these places, and its frame has the fields.
+fn leaves_with(item: &Item, places: &[Destination], fields: &Match, in_port: u32) -> bool
+    ensures { result ≡ (goes_among places.now item.now && has_fields_by fields.now in_port item.now) }
+{
+    goes(item, places) && has_fields(fields, in_port, item)
+}
+
+// Whether its frame has the fields, if it goes to one of these places.
+fn leaves_as_asked(item: &Item, places: &[Destination], fields: &Match, in_port: u32) -> bool
+    ensures { result ≡ (not (goes_among places.now item.now) || has_fields_by fields.now in_port item.now) }
+{
+    !goes(item, places) || has_fields(fields, in_port, item)
+}
+
+fn all_have(items: &[Item], places: &[Destination], fields: &Match, in_port: u32) -> bool
+    ensures { result ≡ list_all (λ item. not (goes_among places.now item) || has_fields_by fields.now in_port item) items.now }
+{
+    items
+        .iter()
+        .all(|item| leaves_as_asked(item, places, fields, in_port))
+}
+
+fn some_has(items: &[Item], places: &[Destination], fields: &Match, in_port: u32) -> bool
+    ensures { result ≡ list_any (λ item. goes_among places.now item && has_fields_by fields.now in_port item) items.now }
+{
+    items
+        .iter()
+        .any(|item| leaves_with(item, places, fields, in_port))
+}
+
+// Whether what leaves by these places has the fields: all of it, or some.
+fn have(
+    quantifier: Quantifier,
+    places: &[Destination],
+    fields: &Match,
+    in_port: u32,
+    items: &[Item],
+) -> bool
+    ensures { result ≡ have_by quantifier places.now fields.now in_port items.now }
+{
+    match quantifier {
+        Quantifier::Each => all_have(items, places, fields, in_port),
+        Quantifier::No | Quantifier::AtLeastOne => some_has(items, places, fields, in_port),
+    }
+}
+
+// Whether a frame that came in by this port, with these steps, for which these items are emitted, does it.
+fn is_done(
+    quantifier: Quantifier,
+    demand: &Demand,
+    in_port: u32,
+    steps: &[Step],
+    items: &[Item],
+) -> bool
+    ensures { result ≡ does_by quantifier demand.now in_port steps.now items.now }
 {
     match demand {
         Demand::LeavesBy(places) => leaves_some(items, places) || is_dropped(items, places),
         Demand::LeavesOnlyBy(places) => leaves_only(items, places),
         Demand::PassesTable(table) => passes(steps, *table),
+        Demand::Has { places, fields } => have(quantifier, places, fields, in_port, items),
     }
 }
 
@@ -107,11 +187,29 @@ fn is_counted(except_expired: bool, steps: &[Step]) -> bool
     !(except_expired && some_expires(steps))
 }
 
-/// Whether a frame with these steps and items decides a requirement that is about it.
-pub fn decides(requirement: &Requirement, steps: &[Step], items: &[Item]) -> bool
-    ensures { result ≡ decides_by requirement.now steps.now items.now }
+/// Whether a requirement about what leaves by some places is about a frame for which these items are emitted.
+pub fn is_leaving(demand: &Demand, items: &[Item]) -> bool
+    ensures { result ≡ is_leaving_by demand.now items.now }
 {
-    let is_done = is_done(&requirement.demand, steps, items);
+    match demand {
+        Demand::Has { places, .. } => leaves_some(items, places),
+        _ => true,
+    }
+}
+
+/// Whether a frame that came in by this port, with these steps and items, decides a requirement whose conditions match it.
+pub fn decides(requirement: &Requirement, in_port: u32, steps: &[Step], items: &[Item]) -> bool
+    ensures { result ≡ decides_by requirement.now in_port steps.now items.now }
+{
+    let is_about = is_counted(requirement.except_expired, steps)
+        && is_leaving(&requirement.demand, items);
+    let is_done = is_done(
+        requirement.quantifier,
+        &requirement.demand,
+        in_port,
+        steps,
+        items,
+    );
     let wanted = requirement.quantifier != Quantifier::Each;
-    is_counted(requirement.except_expired, steps) && is_done == wanted
+    is_about && is_done == wanted
 }

@@ -1,9 +1,9 @@
 //! The report on requirements as JSON.
 ghost use Rattle.std.specs.Prelude.{◌≡◌, ◌++◌, IfOk, OnOk};
-ghost use Rattle.of_require.specs.RequirementsJson.{answer_object, line_members, may_match as may_match_so, requirements_member, shown_members, requirement_verdict_members, verdict_name as name_of_verdict};
+ghost use Rattle.of_require.specs.RequirementsJson.{answer_object, frame_members, line_members, may_match as may_match_so, requirements_member, shown_members, requirement_verdict_members, verdict_name as name_of_verdict};
 
 use crate::answers::Answer;
-use crate::deciding::{Decision, Verdict};
+use crate::deciding::{Decision, Shown, Verdict};
 use of_json::{
     push_array_member, push_bytes_member, push_items_member, push_key, push_number_member,
     push_string_member, push_text_member, push_truth_member,
@@ -27,6 +27,15 @@ fn may_match(decision: &Decision) -> bool
     !matches!(decision, Decision::NoneMatches)
 }
 
+#[tactic(auto, unfolding(crate::specs::RequirementsJson::frame_members))]
+fn push_frame_members(alloc: Global, out: &mut Vec<u8>, shown: &Shown) -> Result<(), AllocError>
+    ensures { OnOk result (out.new.items ≡ out.old.items ++ frame_members shown.now) }
+{
+    push_number_member(out, b"in_port", u128::from(shown.in_port))?;
+    push_bytes_member(alloc, out, b"frame", &shown.frame)?;
+    push_items_member(alloc, out, b"items", &shown.items)
+}
+
 #[tactic(auto, unfolding(crate::specs::RequirementsJson::shown_members))]
 fn push_shown_members(
     alloc: Global,
@@ -35,12 +44,11 @@ fn push_shown_members(
 ) -> Result<(), AllocError>
     ensures { OnOk result (out.new.items ≡ out.old.items ++ shown_members decision.now) }
 {
-    let Decision::Frame(shown) = decision else {
-        return Ok(());
-    };
-    push_number_member(out, b"in_port", u128::from(shown.in_port))?;
-    push_bytes_member(alloc, out, b"frame", &shown.frame)?;
-    push_items_member(alloc, out, b"items", &shown.items)
+    match decision {
+        Decision::Frame(shown) => push_frame_members(alloc, out, shown),
+        Decision::Undecided(port) => push_number_member(out, b"in_port", u128::from(*port)),
+        Decision::NoFrame | Decision::NoneMatches => Ok(()),
+    }
 }
 
 #[tactic(auto, unfolding(crate::specs::RequirementsJson::line_members))]

@@ -1,12 +1,12 @@
 //! The report on requirements as XML, as JUnit writes the results of tests.
 ghost use Rattle.std.specs.Prelude.{◌≡◌, ◌++◌, IfOk, OnOk};
 ghost use Rattle.std.specs.List.{flat_map};
-ghost use Rattle.of_require.specs.JUnit.{numbered_text, outcome_element, requirements_junit, suite_head, test_case, xml_character};
+ghost use Rattle.of_require.specs.JUnit.{outcome_element, requirements_junit, suite_head, test_case, xml_character};
 ghost use Rattle.of_require.specs.Words.{why_decided};
 
 use crate::answers::{Answer, count};
 use crate::deciding::{Decision, Verdict};
-use crate::words::push_why;
+use crate::words::{push_numbered, push_why};
 use of_values::{printable, push_decimal};
 use std::alloc::{AllocError, Global};
 
@@ -55,14 +55,6 @@ fn push_outcome(
             out.extend_from_slice(b"</error>")
         }
     }
-}
-
-#[tactic(auto, unfolding(crate::specs::JUnit::numbered_text))]
-fn push_numbered(out: &mut Vec<u8>, text: &[u8], number: usize) -> Result<(), AllocError>
-    ensures { OnOk result (out.new.items ≡ out.old.items ++ numbered_text text.now number) }
-{
-    out.extend_from_slice(text)?;
-    push_decimal(out, number as u128)
 }
 
 #[tactic(auto, unfolding(crate::specs::JUnit::test_case))]

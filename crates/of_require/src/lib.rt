@@ -4,10 +4,12 @@
 mod answers;
 mod deciding;
 mod doing;
+mod fields;
 mod json;
 mod junit;
 mod laws;
 mod line;
+mod packets;
 mod reading;
 mod refusal;
 mod requirement;

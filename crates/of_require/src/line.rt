@@ -1,15 +1,13 @@
 //! Requirements of a file.
 ghost use Rattle.std.specs.Prelude.{◌≡◌, ◌++◌, map, IfErr, IfOk, OnOk, Ok};
 ghost use Rattle.of_regions.specs.Conditions.{AreConditions};
-ghost use Rattle.of_frame_words.specs.Conditions.{conditions_in_words};
-ghost use Rattle.of_require.specs.Reading.{is_demand_word as is_demand_name, match_refused, match_said, quantifier_named, requirement_said, view_requirement};
+ghost use Rattle.of_require.specs.Reading.{is_demand_word as is_demand_name, match_said, quantifier_named, requirement_said, view_requirement};
 ghost use Rattle.of_require.specs.RequirementFiles.{AddsLine, FileStops, StopsAt, is_passed_or_blank as is_no_requirement, line_said, requirements_in, view_line};
 ghost use Rattle.of_require.specs.Refusals.{LineStops};
 
-use crate::reading::{behind_expected, first_word, read_demand, read_ending, unspaced};
-use crate::refusal::{NoRequirement, NoRequirements, Refusal, Why, refuse};
+use crate::reading::{behind_expected, first_word, read_demand, read_ending, read_match, unspaced};
+use crate::refusal::{NoRequirement, NoRequirements, Why, refuse};
 use crate::requirement::{Quantifier, Requirement};
-use of_frame_words::{NoFrame, read_conditions};
 use of_lines::{cut, is, is_passed_over};
 use of_oxm::MatchField;
 use std::alloc::Global;
@@ -26,22 +24,7 @@ pub struct Line {
 fn is_demand_word(word: &[u8]) -> bool
     ensures { result ≡ is_demand_name word.now }
 {
-    is(word, b"leaves") || is(word, b"passes")
-}
-
-fn read_match(alloc: Global, word: &[u8]) -> Result<Vec<MatchField>, NoRequirement>
-    ensures is { IfOk result (λ fields. match_refused (conditions_in_words word.now) ≡ Ok fields.items) }
-    ensures conditions { IfOk result (λ fields. AreConditions fields.items) }
-    ensures stopped { IfErr result (LineStops (match_refused (conditions_in_words word.now))) }
-{
-    match read_conditions(alloc, word) {
-        Ok(fields) => Ok(fields),
-        Err(NoFrame::NoMemory) => Err(NoRequirement::NoMemory),
-        Err(NoFrame::Refused(refusal)) => Err(NoRequirement::Refused(Refusal {
-            word: refusal.word,
-            why: Why::Match(refusal.why),
-        })),
-    }
+    is(word, b"leaves") || is(word, b"leaving") || is(word, b"passes")
 }
 
 // The frames that a requirement is about, and the text behind them.

@@ -1,17 +1,21 @@
 //! Requirements in words.
 ghost use Rattle.std.specs.Prelude.{◌≡◌, ◌≤◌, ◌<◌, length, codes, IfErr, IfOk, Ok};
-ghost use Rattle.of_require.specs.Reading.{behind_expected as behind_expected_word, behind_word, by_said, demand_said, end_said, ending_said, frames_said, is_blank as is_blank_text, is_demand_word, leaving_said, match_said, passing_said, place_named, places_in as places_in_words, quantifier_named, requirement_said, table_named, unspaced as unspaced_text, view_demand, view_requirement, first_word_in};
+ghost use Rattle.of_require.specs.Reading.{behind_expected as behind_expected_word, behind_word, by_said, demand_said, end_said, ending_said, exits_in as exits_in_words, fields_worded as fields_in_words, frames_said, having_said, is_blank as is_blank_text, is_demand_word, leaving_said, match_refused, match_said, passing_said, place_named, places_in as places_in_words, quantifier_named, requirement_said, table_named, unspaced as unspaced_text, view_demand, view_requirement, first_word_in};
 ghost use Rattle.of_require.specs.Reading.SaidDemand.{LeavesBy, LeavesOnlyBy};
+ghost use Rattle.of_regions.specs.Conditions.{AreConditions};
+ghost use Rattle.of_frame_words.specs.Conditions.{conditions_in_words};
 ghost use Rattle.of_ovs_words.specs.Outcomes.{numbered as numbered_in};
 ghost use Rattle.of_require.specs.Refusals.{LineStops};
 
-use crate::refusal::{NoRequirement, Why, refuse};
+use crate::doing::names_nothing;
+use crate::fields::match_of;
+use crate::refusal::{NoRequirement, Refusal, Why, refuse};
 use crate::requirement::{Demand, Quantifier, Requirement};
 use of_actions::is_number;
 use of_frame_words::{NoFrame, read_conditions};
 use of_lines::{cut, is};
 use of_ovs_words::{cut_word, numbered, port_in};
-use of_oxm::MatchField;
+use of_oxm::{Match, MatchField};
 use of_paths::Destination;
 use of_wire::limits::{OFPP_CONTROLLER, TABLES};
 use std::alloc::{AllocError, Global};
@@ -51,6 +55,21 @@ pub fn behind_expected<'a>(
         Ok(rest)
     } else {
         Err(refuse(alloc, word, why))
+    }
+}
+
+pub fn read_match(alloc: Global, word: &[u8]) -> Result<Vec<MatchField>, NoRequirement>
+    ensures is { IfOk result (λ fields. match_refused (conditions_in_words word.now) ≡ Ok fields.items) }
+    ensures conditions { IfOk result (λ fields. AreConditions fields.items) }
+    ensures stopped { IfErr result (LineStops (match_refused (conditions_in_words word.now))) }
+{
+    match read_conditions(alloc, word) {
+        Ok(fields) => Ok(fields),
+        Err(NoFrame::NoMemory) => Err(NoRequirement::NoMemory),
+        Err(NoFrame::Refused(refusal)) => Err(NoRequirement::Refused(Refusal {
+            word: refusal.word,
+            why: Why::Match(refusal.why),
+        })),
     }
 }
 
@@ -143,6 +162,46 @@ fn read_passing<'a>(alloc: Global, text: &'a [u8]) -> Result<(Demand, &'a [u8]),
     Ok((Demand::PassesTable(table), rest))
 }
 
+// Places by which something leaves.
+fn exits_in(alloc: Global, text: &[u8]) -> Result<Vec<Destination>, NoRequirement>
+    ensures is { IfOk result (λ places. exits_in_words text.now ≡ Ok places.items) }
+    ensures stopped { IfErr result (LineStops (exits_in_words text.now)) }
+{
+    let places = places_in(alloc, text)?;
+    if names_nothing(&places) {
+        return Err(refuse(alloc, text, Why::NoPlace));
+    }
+    Ok(places)
+}
+
+fn fields_in(alloc: Global, text: &[u8]) -> Result<Match, NoRequirement>
+    ensures is { IfOk result (λ fields. fields_in_words text.now ≡ Ok fields) }
+    ensures stopped { IfErr result (LineStops (fields_in_words text.now)) }
+{
+    if text.is_empty() {
+        return Err(refuse(alloc, text, Why::Fields));
+    }
+    let fields = read_match(alloc, text)?;
+    match match_of(fields) {
+        Some(fields) => Ok(fields),
+        None => Err(refuse(alloc, text, Why::Fields)),
+    }
+}
+
+// What is behind `leaving`, and the text behind it.
+fn read_having<'a>(alloc: Global, text: &'a [u8]) -> Result<(Demand, &'a [u8]), NoRequirement>
+    ensures is { IfOk result (λ read. having_said text.now ≡ Ok (view_demand read.0, read.1.now)) }
+    ensures stopped { IfErr result (LineStops (having_said text.now)) }
+{
+    let rest = behind_expected(alloc, text, b"by", Why::Demand)?;
+    let (word, rest) = first_word(rest);
+    let places = exits_in(alloc, word)?;
+    let rest = behind_expected(alloc, rest, b"has", Why::Demand)?;
+    let (word, rest) = first_word(rest);
+    let fields = fields_in(alloc, word)?;
+    Ok((Demand::Has { places, fields }, rest))
+}
+
 // What frames do, and the text behind it.
 pub fn read_demand<'a>(alloc: Global, text: &'a [u8]) -> Result<(Demand, &'a [u8]), NoRequirement>
     ensures is { IfOk result (λ read. demand_said text.now ≡ Ok (view_demand read.0, read.1.now)) }
@@ -151,6 +210,8 @@ pub fn read_demand<'a>(alloc: Global, text: &'a [u8]) -> Result<(Demand, &'a [u8
     let (word, rest) = first_word(text);
     if is(word, b"leaves") {
         read_leaving(alloc, rest)
+    } else if is(word, b"leaving") {
+        read_having(alloc, rest)
     } else if is(word, b"passes") {
         read_passing(alloc, rest)
     } else {

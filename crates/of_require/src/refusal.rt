@@ -11,10 +11,14 @@ use thiserror::Error;
 pub enum Why {
     #[error("a requirement begins with `no frame`, `each frame` or `some frame`")]
     Beginning,
-    #[error("expected `leaves by PLACES`, `leaves only by PLACES` or `passes table N`")]
+    #[error("expected `leaves by PLACES`, `leaves only by PLACES`, `leaving by PLACES has FIELDS` or `passes table N`")]
     Demand,
     #[error("a place is the number of a port, `controller` or `drop`; with commas and without spaces between them")]
     Place,
+    #[error("something leaves by a place here: the number of a port or `controller`, not `drop`")]
+    NoPlace,
+    #[error("expected fields that what leaves has, such as `eth_dst=02:00:00:00:00:03`")]
+    Fields,
     #[error("expected a table, 0 to 15")]
     Table,
     #[error("expected `except ttl` or the end of the line")]

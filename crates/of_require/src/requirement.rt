@@ -2,7 +2,7 @@
 ghost use Rattle.of_regions.specs.Conditions.{AreConditions};
 ghost use Rattle.of_require.specs.OneProof.{are_conditions_prop};
 
-use of_oxm::MatchField;
+use of_oxm::{Match, MatchField};
 use of_paths::Destination;
 
 /// How many of the frames a requirement is about.
@@ -25,6 +25,12 @@ pub enum Demand {
     LeavesOnlyBy(Vec<Destination>),
     /// A lookup of it is in this table.
     PassesTable(u8),
+    /// What leaves by one of these places has these fields: all of it, if each frame is to do so, else some of it. A requirement that demands this is
+    /// about the frames of which something leaves by one of these places.
+    Has {
+        places: Vec<Destination>,
+        fields: Match,
+    },
 }
 
 /// What frames do that a switch receives (OpenFlow 1.3.5, 5.1).

@@ -1,7 +1,7 @@
 //! The report on requirements in words.
 ghost use Rattle.std.specs.Prelude.{◌≡◌, ◌++◌, option_map, IfOk, OnOk};
 ghost use Rattle.std.specs.List.{flat_map};
-ghost use Rattle.of_require.specs.Words.{answer_words, counted_noun, decision_words, in_words, is_told as is_told_by, is_told_always as is_told_in_short, requirements_summary, requirements_words, deciding_frame_words, verdict_counts, verdict_line, verdict_said, why_decided, frame_words_line};
+ghost use Rattle.of_require.specs.Words.{answer_words, counted_noun, decision_words, in_words, is_told as is_told_by, is_told_always as is_told_in_short, requirements_summary, requirements_words, deciding_frame_words, verdict_counts, verdict_line, numbered_text, undecided_port_line, verdict_said, why_decided, frame_words_line};
 
 use crate::answers::{Answer, count};
 use crate::deciding::{Decision, Shown, Verdict};
@@ -63,6 +63,27 @@ fn push_shown(alloc: Global, out: &mut Vec<u8>, shown: &Shown) -> Result<(), All
     push_side(alloc, out, b"    ", &shown.items)
 }
 
+/// Appends a text, and a number.
+#[tactic(auto, unfolding(crate::specs::Words::numbered_text))]
+pub fn push_numbered(out: &mut Vec<u8>, text: &[u8], number: usize) -> Result<(), AllocError>
+    ensures { OnOk result (out.new.items ≡ out.old.items ++ numbered_text text.now number) }
+{
+    out.extend_from_slice(text)?;
+    push_decimal(out, number as u128)
+}
+
+fn push_undecided(out: &mut Vec<u8>, port: u32) -> Result<(), AllocError>
+    ensures { OnOk result (out.new.items ≡ out.old.items ++ undecided_port_line port) }
+{
+    push_numbered(
+        out,
+        b"    it is not known of all frames that come in by port ",
+        port as usize,
+    )?;
+    out.extend_from_slice(b" and match; `ofswitch paths --match` says why\n")?;
+    Ok(())
+}
+
 #[tactic(auto, unfolding(crate::specs::Words::decision_words))]
 fn push_decision(alloc: Global, out: &mut Vec<u8>, decision: &Decision) -> Result<(), AllocError>
     ensures { OnOk result (out.new.items ≡ out.old.items ++ decision_words decision.now) }
@@ -73,9 +94,7 @@ fn push_decision(alloc: Global, out: &mut Vec<u8>, decision: &Decision) -> Resul
         Decision::NoneMatches => {
             out.extend_from_slice(b"    the switch receives no frame that matches\n")
         }
-        Decision::Undecided => out.extend_from_slice(
-            b"    it is not known of all frames that match; `ofswitch paths --match` says why\n",
-        ),
+        Decision::Undecided(port) => push_undecided(out, *port),
     }
 }
 

@@ -2,3 +2,4 @@ pub mod FileRows
 pub mod Pauses
 pub mod Calls
 pub mod Refusals
+pub mod Silence

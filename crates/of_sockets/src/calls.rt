@@ -22,6 +22,12 @@ pub enum Ending {
     WriteFailed,
     /// A write waited for too long: the controller does not read.
     ReadsNothing,
+    /// Its first message was not whole in time.
+    NoHello,
+    /// Nothing was heard of it for as long as the user allows.
+    Idle,
+    /// Nothing was heard of it for some time, and another one came.
+    GaveWay,
 }
 
 impl Display for Ending {
@@ -32,6 +38,9 @@ impl Display for Ending {
             Ending::ReadFailed => "a read failed",
             Ending::WriteFailed => "a write failed",
             Ending::ReadsNothing => "it reads no answers",
+            Ending::NoHello => "no HELLO came within 10 s",
+            Ending::Idle => "nothing was heard of it for as long as --idle says",
+            Ending::GaveWay => "nothing was heard of it, and another one came",
         })
     }
 }

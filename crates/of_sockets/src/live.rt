@@ -1,15 +1,13 @@
 //! The network of `live`: datagrams, a controller, a clock, rows of standard input and a log.
 
-mod controller;
 mod endpoints;
 mod lines;
-mod log;
 mod network;
 mod outside;
 mod port_rows;
 mod standard_rows;
 mod tunnel;
 
-pub use endpoints::endpoint_of;
+pub use endpoints::{endpoint_of, is_own};
 pub use network::Sockets;
 pub use port_rows::PortRows;

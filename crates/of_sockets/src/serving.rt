@@ -1,64 +1,254 @@
-//! Controllers over TCP, and the machine's clock.
-ghost use Rattle.std.specs.Prelude.{◌≡◌, ◌≢◌, ◌≤◌, None as NotTold, IfOk};
+//! Controllers over TCP, for a switch that serves them.
+ghost use Rattle.std.specs.Prelude.{◌≡◌, ◌<◌, ◌≤◌, None as NotTold, IfOk, IfSome, length};
+ghost use Rattle.of_replay.specs.Told.{IsReading};
 
-use crate::{Ending, Pauses, Refusals, RefusedRow, ending_of, is_nobody, read_some, write_some};
-use of_command_line::Meeting;
+use crate::controller::Controller;
+use crate::course::{Course, Journal};
+use crate::event_log::EventLog;
+use crate::machine::Machine;
+use crate::opening::{Unopened, opened};
+use crate::teller::Teller;
+use mio::{Events, Poll};
+use of_command_line::{Meeting, Serve};
+use of_network::Input;
 use of_replay::{Reading, Writing};
-use of_serve::{Accepted, Clock, Peers};
-use std::net::{SocketAddr, TcpListener, TcpStream};
-use std::time::{Duration, Instant};
-use std::{io, thread};
+use of_serve::{Accepted, Peers};
+use of_switch::Event;
+use of_wire::front_of;
+use std::alloc::Global;
+use std::cell::Cell;
+use std::io;
+use std::time::Duration;
 
-/// How many milliseconds a read waits, so that flows expire and frames of the event file are received in time.
-const READ_WAIT: u64 = 10;
+/// How many nanoseconds a read waits at most, if the read before it found nothing.
+const READ_WAIT: u64 = 2_000_000_000;
 
-/// How many milliseconds a write waits for a controller that reads nothing, before the connection counts as lost.
-const WRITE_WAIT: u64 = 10_000;
+/// How many nanoseconds a write waits for a controller that reads nothing, before the connection counts as lost.
+const WRITE_WAIT: u64 = 10_000_000_000;
 
-/// How many milliseconds a call of a controller waits for its answer.
-const DIAL_WAIT: u64 = 5_000;
+/// How many nanoseconds a wait takes at most, so that what the clock decides is seen in time.
+const STEP: u64 = 100_000_000;
 
-/// How controllers and the switch find each other.
+/// What connects a switch with its controllers, one at a time.
 #[derive(Drop)]
-enum Door {
-    Listening(TcpListener),
-    Dialing { address: SocketAddr, pauses: Pauses },
+struct Channel<'r> {
+    teller: &'r Teller<'r>,
+    machine: &'r Machine<'r>,
+    poll: Poll,
+    events: Events<Global>,
+    controller: Controller<'r>,
+    is_dialing: bool,
+    // another controller came in place of the one that was served, and its accept is still to come
+    is_met: bool,
+    // whether the next read may wait: after a wait what the time brought goes out first
+    may_wait: bool,
+    course: Course,
+    journal: Journal<'r>,
 }
 
-impl Door {
-    // A controller that came, or None where nobody did.
-    fn meet(&mut self, rt: &HostRuntime) -> io::Result<Option<(TcpStream, SocketAddr)>> {
-        match self {
-            Door::Listening(listener) => match listener.accept() {
-                Ok(met) => Ok(Some(met)),
-                Err(error) if is_nobody(error.kind()) => Ok(None),
-                Err(error) => Err(error),
-            },
-            Door::Dialing { address, pauses } => {
-                match TcpStream::connect_timeout(rt, address, Duration::from_millis(DIAL_WAIT)) {
-                    Ok(stream) => {
-                        pauses.reset();
-                        Ok(Some((stream, *address)))
-                    }
-                    Err(_) => {
-                        thread::sleep(rt, Duration::from_millis(pauses.next()));
-                        Ok(None)
-                    }
+impl<'r> Channel<'r> {
+    // Begins to listen, if controllers connect to the switch.
+    fn new(
+        teller: &'r Teller<'r>,
+        machine: &'r Machine<'r>,
+        asked: &Serve,
+        course: Course,
+        has_failed: &'r Cell<bool>,
+    ) -> Result<Self, Unopened> {
+        let poll = opened(Poll::new(teller.rt), "wait for sockets")?;
+        let events = Events::with_capacity(teller.rt.alloc(), 16);
+        let events = opened(events.map_err(io::Error::from), "wait for sockets")?;
+        let (meeting, idle, quiet) = (asked.meeting, asked.idle, asked.quiet);
+        let controller = Controller::new(teller, meeting, idle, quiet, poll.registry());
+        let controller = opened(controller, "listen")?;
+        let log = EventLog::begin(teller, &asked.log, asked.dpid)?;
+        Ok(Channel {
+            teller,
+            machine,
+            poll,
+            events,
+            controller,
+            is_dialing: matches!(meeting, Meeting::Dial(_)),
+            is_met: false,
+            may_wait: false,
+            course,
+            journal: Journal::new(teller, log, has_failed),
+        })
+    }
+
+    // Waits until something may come, for so many nanoseconds at most, and returns whether it could.
+    fn wait(&mut self, most: u64) -> bool {
+        let timeout = Duration::from_nanos(most.min(STEP));
+        match self.poll.poll(&mut self.events, Some(timeout)) {
+            Ok(()) => {
+                for event in self.events.iter() {
+                    self.controller.wake(event);
                 }
+                true
+            }
+            Err(error) => {
+                let _ = eprintln!(self.teller; "cannot wait for sockets: {error}");
+                false
             }
         }
     }
+
+    // Waits, unless something may come at once.
+    fn wait_unless_ready(&mut self, most: u64) -> bool {
+        let is_ready = self.controller.is_ready(true);
+        self.wait(if is_ready { 0 } else { most })
+    }
+
+    // A controller that comes; or Nothing after a call that nobody answered, and the pause after it.
+    fn meet(&mut self) -> Accepted {
+        self.controller.close();
+        let due = self.controller.due();
+        for _ in 0..u64::MAX {
+            let now = self.machine.now();
+            if self.is_dialing && self.controller.has_called(due, now) {
+                break;
+            }
+            if let Some(Input::Opened) = self.controller.meet_next(now, self.poll.registry()) {
+                return Accepted::Open;
+            }
+            if !self.wait_unless_ready(STEP) {
+                return Accepted::Fault;
+            }
+        }
+        Accepted::Nothing
+    }
+
+    // The connection that begins, whose row is written.
+    fn opened(&mut self) -> Accepted {
+        self.is_met = false;
+        self.may_wait = false;
+        self.journal.push(&Event::Connect);
+        if self.journal.write() {
+            Accepted::Open
+        } else {
+            Accepted::Fault
+        }
+    }
+
+    // The next controller, which may have come already.
+    fn accept(&mut self) -> Accepted {
+        if self.journal.has_failed() {
+            return Accepted::Fault;
+        }
+        if self.is_met {
+            return self.opened();
+        }
+        match self.meet() {
+            Accepted::Open => self.opened(),
+            other => other,
+        }
+    }
+
+    // What comes of the connection now; None if nothing does.
+    fn heard(&mut self, buffer: &mut [u8]) -> Option<Reading>
+        requires room { length buffer.old ≡ 65536 }
+        ensures room { length buffer.new ≡ 65536 }
+        ensures fits { IfSome result (λ reading. IsReading reading 65536) }
+    {
+        let now = self.machine.now();
+        match self
+            .controller
+            .next(true, now, self.poll.registry(), buffer)?
+        {
+            Input::Heard(n) if n > 0 => Some(Reading::Bytes(n)),
+            Input::Ended => Some(Reading::End),
+            Input::Opened => {
+                self.is_met = true;
+                Some(Reading::End)
+            }
+            _ => None,
+        }
+    }
+
+    // What the connection says by this moment, in nanoseconds.
+    fn hear(&mut self, until: u64, buffer: &mut [u8]) -> Reading
+        requires room { length buffer.old ≡ 65536 }
+        ensures room { length buffer.new ≡ 65536 }
+        ensures fits { IsReading result 65536 }
+    {
+        for _ in 0..u64::MAX {
+            let now = self.machine.now();
+            if !self.wait_unless_ready(until.saturating_sub(now)) {
+                return Reading::Fault;
+            }
+            if let Some(reading) = self.heard(buffer) {
+                return reading;
+            }
+            if now >= until && !self.controller.is_ready(true) {
+                break;
+            }
+        }
+        Reading::Nothing
+    }
+
+    // The rows of what was heard, and of what was before it in the turn.
+    fn note(&mut self, reading: Reading, buffer: &[u8]) -> bool
+        requires fits { IsReading reading (length buffer.now) }
+    {
+        match reading {
+            Reading::Bytes(n) => self.journal.push_chunk(front_of(buffer, n)),
+            Reading::End | Reading::Fault => self.journal.push(&Event::Lost),
+            Reading::Nothing => {}
+        }
+        self.journal.write()
+    }
+
+    // A read, which waits if the one before it found nothing without waiting, until the next row of the file is due at most.
+    fn read(&mut self, buffer: &mut [u8]) -> Reading
+        requires room { length buffer.old ≡ 65536 }
+        ensures room { length buffer.new ≡ 65536 }
+        ensures fits { IsReading result 65536 }
+    {
+        let told = self.machine.told();
+        self.course.pass(told, &mut self.journal);
+        let until = if self.may_wait {
+            self.course.next_due(told.saturating_add(READ_WAIT))
+        } else {
+            0
+        };
+        let reading = self.hear(until, buffer);
+        self.may_wait = !self.may_wait && reading == Reading::Nothing;
+        if !self.note(reading, buffer) {
+            return Reading::Fault;
+        }
+        reading
+    }
+
+    // Some of the bytes, one at least; None if the connection takes none for too long, and then it ends.
+    fn write(&mut self, bytes: &[u8]) -> Option<usize>
+        requires { 0 < length bytes.now }
+        ensures fits { IfSome result (λ n. (0 < n) × (n ≤ length bytes.now)) }
+    {
+        if self.journal.has_failed() {
+            return None;
+        }
+        let begun = self.machine.now();
+        for _ in 0..u64::MAX {
+            let written = self.controller.write(bytes);
+            if written.taken > 0 {
+                return Some(written.taken);
+            }
+            let waited = self.machine.now().saturating_sub(begun);
+            if written.failed || waited >= WRITE_WAIT || !self.wait(STEP) {
+                break;
+            }
+        }
+        self.controller.close();
+        self.journal.push(&Event::Lost);
+        self.journal.write();
+        None
+    }
 }
 
-/// Controllers that connect by TCP, or one that is dialed. What they sent and took is not recorded.
+/// Controllers that connect by TCP, or one that is called. What they sent and took is not recorded.
 #[derive(Drop)]
 pub struct Sockets<'r> {
-    rt: &'r HostRuntime,
-    door: Door,
-    stream: Option<TcpStream>,
-    // whether the end of the connection was said
-    ended: bool,
-    quiet: bool,
+    channel: Channel<'r>,
     accepts: u64,
     reads: u64,
     accept_failures: u64,
@@ -66,82 +256,25 @@ pub struct Sockets<'r> {
     ghost few: { accept_failures ≤ accepts },
 }
 
-// Answers go out at once, a read does not wait for long, and a write not forever.
-fn prepare(stream: &TcpStream) -> io::Result<()> {
-    stream.set_nodelay(true)?;
-    stream.set_write_timeout(Some(Duration::from_millis(WRITE_WAIT)))?;
-    stream.set_read_timeout(Some(Duration::from_millis(READ_WAIT)))
-}
-
 impl<'r> Sockets<'r> {
-    /// Begins to listen, where controllers connect to the switch.
-    pub fn new(rt: &'r HostRuntime, meeting: Meeting, quiet: bool) -> io::Result<Self>
+    /// Begins to listen, if controllers connect to the switch, and then the log, if there is to be one. `has_failed` becomes true if the
+    /// log cannot be written.
+    pub fn new(
+        teller: &'r Teller<'r>,
+        machine: &'r Machine<'r>,
+        asked: &Serve,
+        course: Course,
+        has_failed: &'r Cell<bool>,
+    ) -> Result<Self, Unopened>
         ensures { IfOk result (λ s. (s.accepts ≡ 0) × (s.reads ≡ 0) × (s.accept_failures ≡ 0) × (s.write_failures ≡ 0)) }
     {
-        let door = match meeting {
-            Meeting::Listen(address) => Door::Listening(TcpListener::bind(rt, address)?),
-            Meeting::Dial(address) => Door::Dialing {
-                address,
-                pauses: Pauses::new(),
-            },
-        };
         Ok(Sockets {
-            rt,
-            door,
-            stream: None,
-            ended: true,
-            quiet,
+            channel: Channel::new(teller, machine, asked, course, has_failed)?,
             accepts: 0,
             reads: 0,
             accept_failures: 0,
             write_failures: 0,
         })
-    }
-}
-
-impl Sockets<'_> {
-    // Says on standard error what became of the connection, once.
-    fn say_end(&mut self, why: Ending)
-        ensures same { (self.new.accepts ≡ self.old.accepts) × (self.new.reads ≡ self.old.reads) × (self.new.accept_failures ≡ self.old.accept_failures) ×
-            (self.new.write_failures ≡ self.old.write_failures) }
-        ensures stream { self.new.stream ≡ self.old.stream }
-    {
-        if !self.quiet && !self.ended {
-            let _ = eprintln!(self.rt; "connection ended: {why}");
-        }
-        self.ended = true;
-    }
-
-    // Gives the connection up: its stream is closed.
-    fn give_up(&mut self)
-        ensures closed { self.new.stream ≡ NotTold }
-        ensures same { (self.new.accepts ≡ self.old.accepts) × (self.new.reads ≡ self.old.reads) × (self.new.accept_failures ≡ self.old.accept_failures) ×
-            (self.new.write_failures ≡ self.old.write_failures) }
-    {
-        self.say_end(Ending::BySwitch);
-        self.stream = None;
-    }
-
-    // The connection that begins, if somebody came.
-    fn begin(&mut self, met: Option<(TcpStream, SocketAddr)>) -> Accepted
-        requires closed { self.old.stream ≡ NotTold }
-        ensures met { result ≢ Accepted.Fault }
-        ensures closed { result ≡ Accepted.Nothing → self.new.stream ≡ NotTold }
-        ensures same { (self.new.accepts ≡ self.old.accepts) × (self.new.reads ≡ self.old.reads) × (self.new.accept_failures ≡ self.old.accept_failures) ×
-            (self.new.write_failures ≡ self.old.write_failures) }
-    {
-        let Some((stream, address)) = met else {
-            return Accepted::Nothing;
-        };
-        if prepare(&stream).is_err() {
-            return Accepted::Nothing;
-        }
-        self.stream = Some(stream);
-        self.ended = false;
-        if !self.quiet {
-            let _ = eprintln!(self.rt; "connection with {address}");
-        }
-        Accepted::Open
     }
 }
 
@@ -160,12 +293,11 @@ impl Peers for Sockets<'_> {
 
     fn accept(&mut self) -> Accepted {
         self.accepts += 1;
-        self.give_up();
-        match self.door.meet(self.rt) {
-            Ok(met) => self.begin(met),
-            Err(error) => {
+        match self.channel.accept() {
+            Accepted::Open => Accepted::Open,
+            Accepted::Nothing => Accepted::Nothing,
+            Accepted::Fault => {
                 self.accept_failures += 1;
-                let _ = eprintln!(self.rt; "cannot accept: {error}");
                 Accepted::Fault
             }
         }
@@ -173,74 +305,16 @@ impl Peers for Sockets<'_> {
 
     fn read(&mut self, buffer: &mut [u8]) -> Reading {
         self.reads += 1;
-        let Some(stream) = &mut self.stream else {
-            return Reading::End;
-        };
-        let reading = read_some(stream, buffer);
-        if let Some(why) = ending_of(reading) {
-            self.say_end(why);
-        }
-        reading
+        self.channel.read(buffer)
     }
 
     fn write(&mut self, bytes: &[u8]) -> Writing {
-        if let Some(stream) = &mut self.stream {
-            match write_some(stream, bytes) {
-                Ok(n) => return Writing::Wrote(n),
-                Err(why) => self.say_end(why),
+        match self.channel.write(bytes) {
+            Some(n) => Writing::Wrote(n),
+            None => {
+                self.write_failures += 1;
+                Writing::Fault
             }
         }
-        self.write_failures += 1;
-        Writing::Fault
-    }
-}
-
-// Says the refused rows that are due by now on standard error.
-fn say_refused(rt: &HostRuntime, refusals: &mut Refusals, now: u64) {
-    for _ in 0..u64::MAX {
-        let Some(RefusedRow { line, why, .. }) = refusals.next_due(now) else {
-            break;
-        };
-        let _ = eprintln!(rt; "row {line} refused: {why}");
-    }
-}
-
-/// The machine's clock, from its creation on. What it said is not kept.
-#[derive(Drop)]
-pub struct MachineClock<'r> {
-    rt: &'r HostRuntime,
-    start: Option<Instant>,
-    // what it said last
-    last: u64,
-    // those of the event file, to be said when their time has come
-    refusals: Option<Refusals>,
-}
-
-impl<'r> MachineClock<'r> {
-    /// A clock that says the refused rows that are due before it tells the time to a turn.
-    pub fn new(rt: &'r HostRuntime, refusals: Option<Refusals>) -> Self {
-        MachineClock {
-            rt,
-            start: Instant::now(rt).ok(),
-            last: 0,
-            refusals,
-        }
-    }
-}
-
-impl Clock for MachineClock<'_> {
-    ghost times = { λ _. NotTold };
-
-    // Where the machine's clock fails, it is as late as it was.
-    fn now(&mut self) -> u64 {
-        if let Some(start) = &self.start {
-            if let Ok(passed) = start.elapsed(self.rt) {
-                self.last = u64::try_from(passed.as_nanos()).unwrap_or(self.last);
-            }
-        }
-        if let Some(refusals) = &mut self.refusals {
-            say_refused(self.rt, refusals, self.last);
-        }
-        self.last
     }
 }

@@ -1,15 +1,15 @@
 //! A network in memory, which tells what its script says and records what passes.
-ghost use Rattle.std.specs.Prelude.{◌≡◌, ◌≤◌, ◌∷◌, ◌++◌, [], length, take, Some, IfOk, IsTrue};
-ghost use Rattle.of_test_peers.specs.Network.{act_of, passed_acts};
-ghost use Rattle.of_network.specs.Inputs.{Datagram, Fault, Heard};
+ghost use Rattle.std.specs.Prelude.{◌≡◌, ◌≤◌, ◌∷◌, ◌++◌, [], length, take, Some, IfOk, IfSome, IsTrue};
+ghost use Rattle.of_test_peers.specs.Network.{act_of, came_of_line, passed_acts};
+ghost use Rattle.of_network.specs.Inputs.{Fault, IsInput, came_of};
 ghost use Rattle.of_network.specs.Acts.{Act, Logs, Records, Sends, Told, Writes};
 
-use of_network::{Dropped, Endpoint, Input, Network, Written};
+use of_network::{Dropped, Endpoint, Input, Network, Wanted, Written};
 use of_switch::{Event, PortChange};
 use of_wire::Bytes;
 use std::alloc::{AllocError, Global};
 
-/// What a script tells at one time.
+/// What a network tells at one time.
 #[derive(Drop)]
 pub enum Line {
     Time(u64),
@@ -21,24 +21,17 @@ pub enum Line {
     /// Somebody writes the row of this change.
     Port(PortChange),
     Nothing,
+    Fault,
 }
 
 /// What passed between a network and a switch.
 #[derive(Drop)]
 pub enum Passed {
-    /// The network told one of these.
-    Time(u64),
-    Datagram {
-        from: Endpoint,
-        bytes: Bytes,
+    /// The switch wanted this, and the network told that.
+    Told {
+        wanted: Wanted,
+        line: Line,
     },
-    Opened,
-    Heard(Bytes),
-    Ended,
-    Ready,
-    Port(PortChange),
-    Nothing,
-    Fault,
     /// A datagram, or a frame that should leave, was dropped.
     Dropped(Dropped),
     /// Rows were to be written to the log.
@@ -73,12 +66,12 @@ pub struct Taking {
     pub log_fails: bool,
 }
 
-/// A network that tells the lines of a script, one after the other, and then fails.
+/// A network that tells the lines of a script, one after the other, and then fails. While the switch does not hear bytes of its
+/// controller, it tells nothing in their place.
 #[derive(Drop)]
 pub struct MemoryNetwork {
+    // those that were not told yet, the last one first
     script: Vec<Line>,
-    // how many lines were told
-    at: usize,
     taking: Taking,
     /// What passed, in order.
     pub passed: Vec<Passed>,
@@ -134,21 +127,30 @@ fn sent(alloc: Global, to: Endpoint, header: &[u8], frame: &[u8]) -> Result<Pass
     })
 }
 
-// The record of a datagram that came.
-fn datagram(alloc: Global, from: Endpoint, bytes: &[u8]) -> Result<Passed, AllocError>
-    ensures { IfOk result (λ p. act_of p ≡ Told (Datagram from bytes.now)) }
+// What a line tells, with its bytes in the buffer; None if they do not fit.
+fn tell(line: &Line, buffer: &mut [u8]) -> Option<Input>
+    requires { length buffer.old ≡ 65536 }
+    ensures told { IfSome result (λ input. IsInput input × (came_of input buffer.new ≡ came_of_line line.now)) }
+    ensures room { length buffer.new ≡ length buffer.old }
 {
-    Ok(Passed::Datagram {
-        from,
-        bytes: Bytes::from_slice(alloc, bytes)?,
-    })
-}
-
-// The record of bytes of the controller.
-fn heard(alloc: Global, bytes: &[u8]) -> Result<Passed, AllocError>
-    ensures { IfOk result (λ p. act_of p ≡ Told (Heard bytes.now)) }
-{
-    Ok(Passed::Heard(Bytes::from_slice(alloc, bytes)?))
+    match line {
+        Line::Time(now) => Some(Input::Time(*now)),
+        Line::Opened => Some(Input::Opened),
+        Line::Ended => Some(Input::Ended),
+        Line::Ready => Some(Input::Ready),
+        Line::Nothing => Some(Input::Nothing),
+        Line::Fault => Some(Input::Fault),
+        Line::Port(change) => Some(Input::Row(Event::Ports(*change))),
+        Line::Heard(bytes) => {
+            fill(buffer, bytes.as_slice()).then_some(Input::Heard(bytes.len()))
+        }
+        Line::Datagram { from, bytes } => {
+            fill(buffer, bytes.as_slice()).then_some(Input::Datagram {
+                from: *from,
+                length: bytes.len(),
+            })
+        }
+    }
 }
 
 impl MemoryNetwork {
@@ -157,9 +159,10 @@ impl MemoryNetwork {
         ensures told { passed_acts result ≡ Some [] }
         ensures keeps { result.taking ≡ taking }
     {
+        let mut script = script;
+        script.reverse();
         MemoryNetwork {
             script,
-            at: 0,
             taking,
             passed: Vec::new(alloc),
             is_whole: true,
@@ -181,13 +184,27 @@ impl MemoryNetwork {
         }
     }
 
-    // The script tells nothing more, or what does not fit.
-    fn fail(&mut self) -> Input
-        ensures input { result ≡ Input.Fault }
-        ensures told { Records (passed_acts self.old) (Told Fault ∷ []) (passed_acts self.new) }
+    // What is told to a switch that hears its controller or does not.
+    fn next_line(&mut self, hears: bool) -> Line
+        ensures told { passed_acts self.new ≡ passed_acts self.old }
         ensures taking { self.new.taking ≡ self.old.taking }
     {
-        self.note(Ok(Passed::Fault));
+        match self.script.last() {
+            Some(Line::Heard(_)) if !hears => Line::Nothing,
+            _ => self.script.pop().unwrap_or(Line::Fault),
+        }
+    }
+
+    // The network fails.
+    fn fail(&mut self, wanted: Wanted) -> Input
+        ensures input { result ≡ Input.Fault }
+        ensures told { Records (passed_acts self.old) (Told wanted Fault ∷ []) (passed_acts self.new) }
+        ensures taking { self.new.taking ≡ self.old.taking }
+    {
+        self.note(Ok(Passed::Told {
+            wanted,
+            line: Line::Fault,
+        }));
         Input::Fault
     }
 }
@@ -197,40 +214,12 @@ impl Network for MemoryNetwork {
 
     ghost keeps = { λ n. n.taking.has_log };
 
-    fn next(&mut self, buffer: &mut [u8]) -> Input {
-        let Some(line) = self.script.get(self.at) else {
-            return self.fail();
+    fn next(&mut self, wanted: Wanted, buffer: &mut [u8]) -> Input {
+        let line = self.next_line(wanted.hears);
+        let Some(input) = tell(&line, buffer) else {
+            return self.fail(wanted);
         };
-        let (made, input) = match line {
-            Line::Time(now) => (Ok(Passed::Time(*now)), Input::Time(*now)),
-            Line::Opened => (Ok(Passed::Opened), Input::Opened),
-            Line::Ended => (Ok(Passed::Ended), Input::Ended),
-            Line::Ready => (Ok(Passed::Ready), Input::Ready),
-            Line::Nothing => (Ok(Passed::Nothing), Input::Nothing),
-            Line::Port(change) => (Ok(Passed::Port(*change)), Input::Row(Event::Ports(*change))),
-            Line::Heard(bytes) => {
-                if !fill(buffer, bytes.as_slice()) {
-                    return self.fail();
-                }
-                let length = bytes.len();
-                (heard(self.alloc, bytes.as_slice()), Input::Heard(length))
-            }
-            Line::Datagram { from, bytes } => {
-                if !fill(buffer, bytes.as_slice()) {
-                    return self.fail();
-                }
-                let length = bytes.len();
-                (
-                    datagram(self.alloc, *from, bytes.as_slice()),
-                    Input::Datagram {
-                        from: *from,
-                        length,
-                    },
-                )
-            }
-        };
-        self.at += 1;
-        self.note(made);
+        self.note(Ok(Passed::Told { wanted, line }));
         input
     }
 

@@ -13,6 +13,8 @@ use of_replay::streams::ReaderSource;
 use of_replay::{Ended, READ_SIZE, ended_by, read_file, switch_of_config, zeros};
 use of_sockets::StandardInput;
 use of_switch::Switch;
+use of_text::cut;
+use of_wire::front_of;
 use std::alloc::{AllocError, Global};
 use std::fs::File;
 use std::io::{self, Read};
@@ -46,6 +48,20 @@ impl Read for Opened<'_> {
             Opened::Input(input) => input.read(buf),
         }
     }
+}
+
+/// The datapath_id that the first line of a log says: `# replay with --dpid N`. None for what is no file, whose bytes come only once.
+pub fn said_dpid(rt: &HostRuntime, path: &str) -> Option<u64> {
+    if !std::fs::metadata(rt, path).ok()?.is_file() {
+        return None;
+    }
+    let mut start = [0; 64];
+    let count = File::open(rt, path).ok()?.read(&mut start).ok()?;
+    let (line, _) = cut(front_of(&start, count), b'\n');
+    let number = std::str::from_utf8(line)
+        .ok()?
+        .strip_prefix("# replay with --dpid ")?;
+    u64::from_str_radix(number, 10).ok()
 }
 
 /// Why a file is not read, or describes no switch.

@@ -1,10 +1,12 @@
-//! Histories of frames.
+//! Histories of frames and of flow entries.
 use crate::files::{NoFile, bytes_of};
 use crate::hinting::Seen;
 use crate::lookups::Lookups;
-use of_command_line::{HistoryAsked, HistoryOf};
+use of_command_line::{EntriesAsked, HistoryAsked, HistoryOf};
 use of_frame_words::frame_words;
-use of_history::{FrameView, InJson, InWords, LogHistory, history};
+use of_history::{
+    EntriesView, EntryFilter, FrameView, InJson, InWords, LineByLine, LogHistory, history,
+};
 use of_replay::streams::WriterSink;
 use of_replay::{Ended, Row, read_row, write_all};
 use of_switch::SwitchError;
@@ -61,7 +63,7 @@ fn push_asked(alloc: Global, out: &mut Vec<u8>, of: &FrameView) -> Result<(), Al
 }
 
 // The history of a frame over these rows, in words below the frame, or as JSON.
-fn history_text(
+fn frame_history(
     alloc: Global,
     asked: &HistoryAsked,
     view: FrameView,
@@ -80,49 +82,72 @@ fn history_text(
     })
 }
 
-// Prints it.
-fn write_history(
-    rt: &HostRuntime,
+fn view_of(of: &EntriesAsked) -> Result<EntriesView, AllocError> {
+    Ok(EntriesView {
+        filter: EntryFilter {
+            table: of.table,
+            priority: of.priority,
+            cookie: of.cookie,
+            cookie_mask: of.cookie_mask,
+        },
+        fields: of.fields.clone()?,
+    })
+}
+
+// The history of flow entries over these rows, in words or as JSON.
+fn entries_history(
+    alloc: Global,
     asked: &HistoryAsked,
-    view: FrameView,
+    of: &EntriesAsked,
     rows: &[u8],
-) -> Result<Ended, SwitchError> {
-    let told = history_text(rt.alloc(), asked, view, rows)?;
+) -> Result<LogHistory, SwitchError> {
+    let view = view_of(of)?;
+    if asked.json {
+        return history::<Lookups, _, _>(alloc, asked.dpid, view, LineByLine(InJson), rows);
+    }
+    history::<Lookups, _, _>(alloc, asked.dpid, view, LineByLine(InWords), rows)
+}
+
+// Prints a history.
+fn write_history(rt: &HostRuntime, told: &LogHistory) -> Ended {
     let mut writer = WriterSink::new(rt.stdout());
     if !write_all(&mut writer, &told.text) {
-        return Ok(Ended::WriteFault);
+        return Ended::WriteFault;
     }
     match told.bad {
-        Some(number) => Ok(Ended::BadRow(number)),
-        None => Ok(Ended::Done),
+        Some(number) => Ended::BadRow(number),
+        None => Ended::Done,
     }
 }
 
-// The same of the frame that is asked for; None where a row is no frame.
+// Prints the history that is asked for; None if a row is no frame.
 fn recount(
     rt: &HostRuntime,
     asked: &HistoryAsked,
     bytes: &[u8],
 ) -> Result<Option<Ended>, SwitchError> {
-    match &asked.of {
+    let alloc = rt.alloc();
+    let told = match &asked.of {
         HistoryOf::Frame { port, frame } => {
             let view = FrameView {
                 port: *port,
                 frame: frame.clone()?,
             };
-            Ok(Some(write_history(rt, asked, view, bytes)?))
+            frame_history(alloc, asked, view, bytes)?
         }
         HistoryOf::Row(row) => {
             let (rows, line) = split_at_row(bytes, *row);
-            match frame_in_row(rt.alloc(), line)? {
-                Some(view) => Ok(Some(write_history(rt, asked, view, rows)?)),
-                None => Ok(None),
-            }
+            let Some(view) = frame_in_row(alloc, line)? else {
+                return Ok(None);
+            };
+            frame_history(alloc, asked, view, rows)?
         }
-    }
+        HistoryOf::Entries(of) => entries_history(alloc, asked, of, bytes)?,
+    };
+    Ok(Some(write_history(rt, &told)))
 }
 
-/// Prints the history of a frame in an event file.
+/// Prints the history of a frame, or of flow entries, in an event file.
 pub fn recounted(rt: &HostRuntime, asked: &HistoryAsked) -> Result<HistoryVerdict, NoFile> {
     let seen = Seen::whole(bytes_of(rt, asked.file.as_str())?);
     match recount(rt, asked, seen.bytes()) {

@@ -20,14 +20,14 @@ mod tracing;
 
 use crate::checking::{CheckVerdict, checked};
 use crate::diffing::diffed;
-use crate::files::{NoFile, Opened, bytes_of, open, read_whole};
+use crate::files::{NoFile, Opened, bytes_of, open, read_whole, said_dpid};
 use crate::history::{HistoryVerdict, recounted};
 use crate::lookups::Lookups;
 use crate::paths::{NoPaths, divided};
 use crate::tracing::{TraceVerdict, traced};
 use hinting::{Seen, Watched, say_hint, say_refusal, say_unread};
 use importing::{NotImported, imported, imported_as_json};
-use live::live_rows;
+use live::{are_peers, live_rows};
 use of_command_line::{
     Check, Diff, FileRun, HistoryAsked, Live, NoRequest, PathsAsked, ReplayOutput, Request, Run,
     Serve, Trace, read_request,
@@ -38,7 +38,7 @@ use of_import::Mode;
 use of_paths_report::PathsVerdict;
 use of_replay::streams::{ReaderSource, WriterSink};
 use of_replay::{Ended, Plain, RowPrinter, Sink, Source, asm, dis, print_file, status};
-use of_sockets::{ended_unopened, read_rows};
+use of_sockets::{Teller, ended_unopened, read_rows};
 use of_switch::Event;
 use of_text::TextFault;
 use say::{Unsaid, said};
@@ -168,11 +168,26 @@ fn run_file(rt: &HostRuntime, asked: &FileRun) -> ExitCode {
     let path = asked.file.as_str();
     match open(rt, path) {
         Ok(Opened::File(file)) => {
+            say_other_switch(rt, path, &asked.run);
             let ended = run(rt, &asked.run, file);
             end_file(rt, path, &seen_again(rt, path, &ended), &ended)
         }
         Ok(Opened::Input(input)) => run_over(rt, asked, input),
         Err(error) => end_unopened(rt, path, &error),
+    }
+}
+
+// A log says in its first line how to replay it. If that is with another datapath_id, standard error says so.
+fn say_other_switch(rt: &HostRuntime, path: &str, run: &Run) {
+    let Run::Replay { dpid, .. } = run else {
+        return;
+    };
+    if let Some(said) = said_dpid(rt, path) {
+        if said != *dpid {
+            let _ = eprintln!(rt;
+                "the first line of {path} says --dpid {said}, and this is --dpid {dpid}"
+            );
+        }
     }
 }
 
@@ -277,22 +292,37 @@ fn rows_of(rt: &HostRuntime, events: Option<&str>) -> Result<Vec<Event>, ExitCod
 
 fn run_serve(rt: &HostRuntime, asked: &Serve) -> ExitCode {
     match rows_of(rt, asked.events.as_ref().map(|path| path.as_str())) {
-        Ok(rows) => end_serving(rt, serve_rows(rt, asked, rows)),
+        Ok(rows) => {
+            let teller = Teller::new(rt);
+            let ended = serve_rows(&teller, asked, rows);
+            end_serving(&teller, ended)
+        }
         Err(code) => code,
     }
 }
 
 fn run_live(rt: &HostRuntime, asked: &Live) -> ExitCode {
     match rows_of(rt, asked.events.as_ref().map(|path| path.as_str())) {
-        Ok(rows) => end_serving(rt, live_rows(rt, asked, rows)),
+        Ok(rows) => {
+            let teller = Teller::new(rt);
+            if !are_peers(&teller, asked, &rows) {
+                return ExitCode::from(BAD_ARGUMENTS);
+            }
+            let ended = live_rows(&teller, asked, rows);
+            end_serving(&teller, ended)
+        }
         Err(code) => code,
     }
 }
 
 // None, if it did not begin, and said why.
-fn end_serving(rt: &HostRuntime, ended: Option<Ended>) -> ExitCode {
+fn end_serving(teller: &Teller<'_>, ended: Option<Ended>) -> ExitCode {
     match ended {
-        Some(ended) => end(rt, &ended),
+        Some(Ended::Done) => ExitCode::SUCCESS,
+        Some(ended) => {
+            let _ = eprintln!(teller; "{ended}");
+            ExitCode::from(status(&ended))
+        }
         None => ExitCode::from(FAILED),
     }
 }

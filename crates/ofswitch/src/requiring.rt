@@ -79,7 +79,8 @@ fn push_line_ports(ports: &mut Vec<u32>, line: &Line) -> Result<(), AllocError> 
         }
     }
     match &line.requirement.demand {
-        Demand::LeavesBy(places) | Demand::LeavesOnlyBy(places) => push_places(ports, places),
+        Demand::LeavesBy(places) | Demand::LeavesOnlyBy(places) | Demand::Has { places, .. } =>
+            push_places(ports, places),
         Demand::PassesTable(_) => Ok(()),
     }
 }

@@ -18,9 +18,18 @@ pub enum Unsaid {
     Ended(Ended),
 }
 
-// Whether a word is hexadecimal digits, of a header at least, and not the name of a file.
-fn is_hex(word: &[u8]) -> bool {
-    word.len() >= 16 && word.iter().all(|byte| byte.is_ascii_hexdigit())
+// The digits of a word that has hexadecimal digits and is not the name of a file: with 0x, of a header at least, or those of version 4.
+fn digits_of(word: &[u8]) -> Option<&[u8]> {
+    let (digits, is_marked) = match word.strip_prefix(b"0x") {
+        Some(rest) => (rest, true),
+        None => (word, false),
+    };
+    let is_long = is_marked || digits.len() >= 16 || digits.starts_with(b"04");
+    if is_long && digits.iter().all(|b| b.is_ascii_hexdigit() || *b == b' ') {
+        Some(digits)
+    } else {
+        None
+    }
 }
 
 // Bytes from hexadecimal digits, with white space between them or not.
@@ -50,8 +59,8 @@ fn is_text(bytes: &[u8]) -> bool {
 
 // A file has the bytes themselves, or hexadecimal digits.
 fn messages_of(rt: &HostRuntime, word: &str) -> Result<Vec<u8>, Unsaid> {
-    if word != "-" && is_hex(word.as_bytes()) {
-        return bytes_from(rt, word.as_bytes());
+    if let Some(digits) = digits_of(word.as_bytes()) {
+        return bytes_from(rt, digits);
     }
     match bytes_of(rt, word) {
         Ok(bytes) if is_text(&bytes) => bytes_from(rt, &bytes),

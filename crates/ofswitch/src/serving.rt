@@ -6,10 +6,12 @@ use of_command_line::Serve;
 use of_replay::Ended;
 use of_replay::streams::WriterSink;
 use of_serve::serve_on;
-use of_sockets::Refusals;
-use of_sockets::serving::{MachineClock, Sockets};
+use of_sockets::serving::Sockets;
+use of_sockets::{Course, Machine, MachineClock, Output, Refusals, Teller, said};
 use of_switch::{Event, Switch};
-use std::alloc::AllocError;
+use of_wire::Bytes;
+use std::alloc::{AllocError, Global};
+use std::cell::Cell;
 
 // The rows of the file that are refused, unless nothing is to be said. None where the file does not give its lines again, as
 // standard input does not.
@@ -22,18 +24,52 @@ fn refusals_of(rt: &HostRuntime, asked: &Serve, rows: &[Event]) -> Option<Refusa
     Refusals::new::<Lookups>(rt.alloc(), &file, rows).ok()
 }
 
-/// Serves controllers on a new switch, with the events of a file. None, with a line on standard error, if it cannot begin.
-pub fn serve_rows(rt: &HostRuntime, asked: &Serve, rows: Vec<Event>) -> Option<Ended> {
-    let seed = draw_seed(rt)?;
-    let mut peers = match Sockets::new(rt, asked.meeting, asked.quiet) {
-        Ok(peers) => peers,
-        Err(error) => {
-            let _ = eprintln!(rt; "cannot listen: {error}");
-            return None;
+// The same row once more. The rows of an event file are those of frames, ports and times.
+fn copied(alloc: Global, row: &Event) -> Result<Event, AllocError> {
+    Ok(match row {
+        Event::Frame { port, frame } => Event::Frame {
+            port: *port,
+            frame: Bytes::from_slice(alloc, frame.as_slice())?,
+        },
+        Event::Moment(nanos) => Event::Moment(*nanos),
+        Event::Ports(change) => Event::Ports(*change),
+        Event::Connect => Event::Connect,
+        Event::Lost => Event::Lost,
+        Event::Chunk(bytes) => Event::Chunk(Bytes::from_slice(alloc, bytes.as_slice())?),
+    })
+}
+
+// The rows once more, for the log; without one only their times matter.
+fn course_of(alloc: Global, rows: &[Event], keeps: bool) -> Result<Course, AllocError> {
+    let mut all = Vec::new(alloc);
+    for row in rows {
+        if keeps || matches!(row, Event::Moment(_)) {
+            all.push(copied(alloc, row)?)?;
         }
+    }
+    Ok(Course::new(all))
+}
+
+/// Serves controllers on a new switch, with the events of a file. None, with a line on standard error, if it cannot begin.
+pub fn serve_rows(teller: &Teller<'_>, asked: &Serve, rows: Vec<Event>) -> Option<Ended> {
+    let rt = teller.rt;
+    let seed = draw_seed(rt)?;
+    let machine = Machine::new(rt);
+    let has_failed = Cell::new(false);
+    let Ok(course) = course_of(rt.alloc(), &rows, asked.log.is_some()) else {
+        return Some(Ended::NoMemory);
     };
-    let mut clock = MachineClock::new(rt, refusals_of(rt, asked, &rows));
-    let mut out = WriterSink::new(rt.stdout());
+    let sockets = Sockets::new(teller, &machine, asked, course, &has_failed);
+    if sockets.is_err() {
+        let _ = said(teller, sockets);
+        return None;
+    }
+    let mut peers = sockets.ok()?;
+    let mut clock = MachineClock::new(teller, &machine, refusals_of(rt, asked, &rows));
+    let mut out = WriterSink::new(Output {
+        out: rt.stdout(),
+        has_failed: &has_failed,
+    });
     let switch = match Switch::<Lookups>::with_seed(rt.alloc(), asked.dpid, seed) {
         Ok(switch) => switch,
         Err(AllocError) => return Some(Ended::NoMemory),
@@ -47,5 +83,8 @@ pub fn serve_rows(rt: &HostRuntime, asked: &Serve, rows: Vec<Event>) -> Option<E
         asked.turns,
         &mut out,
     );
+    if ended == Ended::Done {
+        let _ = eprintln!(teller; "all {} turns are used (--turns)", asked.turns);
+    }
     Some(ended)
 }

@@ -1,63 +1,41 @@
 //! The network of a live switch: sockets and a log.
 ghost use Rattle.std.specs.Prelude.{◌≡◌, None as NotTold};
 
-use super::log::write_rows;
 use super::outside::Outside;
 use super::port_rows::PortRows;
+use crate::event_log::EventLog;
+use crate::opening::{Unopened, said};
+use crate::teller::Teller;
 use of_command_line::Live as Asked;
-use of_network::{Dropped, Endpoint, Input, Network, Written};
-use std::fs::File;
-use std::io;
+use of_network::{Dropped, Endpoint, Input, Network, Wanted, Written};
 
 /// Sockets, a clock and a log. What passed is not recorded.
 #[derive(Drop)]
 pub struct Sockets<'r> {
-    rt: &'r HostRuntime,
     outside: Outside<'r>,
-    log: Option<File>,
+    log: Option<EventLog<'r>>,
     keeps: bool,
-}
-
-// What could not be opened, and why.
-#[derive(Drop)]
-pub struct Unopened {
-    pub what: &'static str,
-    pub why: io::Error,
 }
 
 impl<'r> Sockets<'r> {
     /// Opens the sockets and the log. None, with a line on standard error, if one does not open.
-    pub fn begin(rt: &'r HostRuntime, asked: &Asked, ports: Option<PortRows<'r>>) -> Option<Self> {
-        match Sockets::new(rt, asked, ports) {
-            Ok(sockets) => Some(sockets),
-            Err(Unopened { what, why }) => {
-                let _ = eprintln!(rt; "cannot {what}: {why}");
-                None
-            }
-        }
+    pub fn begin(
+        teller: &'r Teller<'r>,
+        asked: &Asked,
+        ports: Option<PortRows<'r>>,
+    ) -> Option<Self> {
+        said(teller, Sockets::new(teller, asked, ports))
     }
 
     fn new(
-        rt: &'r HostRuntime,
+        teller: &'r Teller<'r>,
         asked: &Asked,
         ports: Option<PortRows<'r>>,
     ) -> Result<Self, Unopened> {
-        let outside = Outside::new(rt, asked, ports)?;
-        let log = match &asked.log {
-            Some(path) => match File::create(rt, path.as_str()) {
-                Ok(file) => Some(file),
-                Err(why) => {
-                    return Err(Unopened {
-                        what: "write the log",
-                        why,
-                    });
-                }
-            },
-            None => None,
-        };
+        let outside = Outside::new(teller, asked, ports)?;
+        let log = EventLog::begin(teller, &asked.log, asked.dpid)?;
         let keeps = log.is_some();
         Ok(Sockets {
-            rt,
             outside,
             log,
             keeps,
@@ -75,8 +53,8 @@ impl Network for Sockets<'_> {
 
     ghost keeps = { λ s. s.keeps };
 
-    fn next(&mut self, buffer: &mut [u8]) -> Input {
-        self.outside.next(buffer)
+    fn next(&mut self, wanted: Wanted, buffer: &mut [u8]) -> Input {
+        self.outside.next(wanted, buffer)
     }
 
     fn is_logged(&self) -> bool {
@@ -84,15 +62,9 @@ impl Network for Sockets<'_> {
     }
 
     fn log(&mut self, rows: &[u8]) -> bool {
-        let Some(log) = &mut self.log else {
-            return true;
-        };
-        match write_rows(log, rows) {
-            Ok(()) => true,
-            Err(error) => {
-                let _ = eprintln!(self.rt; "cannot write the log: {error}");
-                false
-            }
+        match &mut self.log {
+            Some(log) => log.write(rows),
+            None => true,
         }
     }
 

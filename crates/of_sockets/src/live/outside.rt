@@ -2,14 +2,15 @@
 ghost use Rattle.std.specs.Prelude.{◌≡◌, ◌<◌, ◌≤◌, length, IfSome};
 ghost use Rattle.of_network.specs.Inputs.{IsInput};
 
-use super::controller::{CONNECTION, Controller, DOOR};
-use super::network::Unopened;
 use super::port_rows::PortRows;
 use super::standard_rows::{Given, ROWS, StandardRows};
-use super::tunnel::Tunnel;
+use super::tunnel::{Received, Tunnel};
+use crate::controller::Controller;
+use crate::opening::{Unopened, opened};
+use crate::teller::Teller;
 use mio::{Events, Interest, Poll, Token};
 use of_command_line::Live as Asked;
-use of_network::{Dropped, Endpoint, Input, Written};
+use of_network::{Dropped, Endpoint, Input, Wanted, Written};
 use of_switch::Event;
 use std::alloc::Global;
 use std::io;
@@ -29,10 +30,10 @@ const LOOKS: u32 = 32;
 /// Sockets and a clock.
 #[derive(Drop)]
 pub struct Outside<'r> {
-    rt: &'r HostRuntime,
+    teller: &'r Teller<'r>,
     poll: Poll,
     events: Events<Global>,
-    tunnel: Tunnel,
+    tunnel: Tunnel<'r>,
     controller: Controller<'r>,
     rows: Option<StandardRows<'r>>,
     // how many rows may come before the next datagram
@@ -51,49 +52,36 @@ pub struct Outside<'r> {
     no_peer: u64,
 }
 
-// What could not be done.
-fn unopened<T: Drop>(opened: io::Result<T>, what: &'static str) -> Result<T, Unopened> {
-    match opened {
-        Ok(it) => Ok(it),
-        Err(why) => Err(Unopened { what, why }),
-    }
-}
-
 impl<'r> Outside<'r> {
     /// Opens the sockets. The rows of ports are those that are watched for refusals.
     pub fn new(
-        rt: &'r HostRuntime,
+        teller: &'r Teller<'r>,
         asked: &Asked,
         ports: Option<PortRows<'r>>,
     ) -> Result<Self, Unopened> {
-        let poll = unopened(Poll::new(rt), "wait for sockets")?;
-        let events = match Events::with_capacity(rt.alloc(), 16) {
-            Ok(events) => events,
-            Err(error) => {
-                return Err(Unopened {
-                    what: "wait for sockets",
-                    why: io::Error::from(error),
-                });
-            }
-        };
-        let mut tunnel = unopened(Tunnel::new(rt, asked.tunnel), "receive datagrams")?;
+        let rt = teller.rt;
+        let poll = opened(Poll::new(rt), "wait for sockets")?;
+        let events = Events::with_capacity(rt.alloc(), 16);
+        let events = opened(events.map_err(io::Error::from), "wait for sockets")?;
+        let mut tunnel = opened(Tunnel::new(rt, asked.tunnel), "receive datagrams")?;
         let registered = poll
             .registry()
             .register(tunnel.socket(), TUNNEL, Interest::READABLE);
-        unopened(registered, "receive datagrams")?;
-        let controller = Controller::new(rt, asked.meeting, asked.quiet, poll.registry());
-        let controller = unopened(controller, "listen")?;
+        opened(registered, "receive datagrams")?;
+        let (meeting, idle, quiet) = (asked.meeting, asked.idle, asked.quiet);
+        let controller = Controller::new(teller, meeting, idle, quiet, poll.registry());
+        let controller = opened(controller, "listen")?;
         let rows = if asked.rows {
-            Some(unopened(
-                StandardRows::new(rt, poll.registry()),
+            Some(opened(
+                StandardRows::new(teller, poll.registry()),
                 "wait for standard input",
             )?)
         } else {
             None
         };
-        let start = unopened(Instant::now(rt), "read the clock")?;
+        let start = opened(Instant::now(rt), "read the clock")?;
         Ok(Outside {
-            rt,
+            teller,
             poll,
             events,
             tunnel,
@@ -112,8 +100,26 @@ impl<'r> Outside<'r> {
         })
     }
 
-    // A datagram, if there may be one; for some time after the last one it looks again and again.
-    fn look(&mut self, buffer: &mut [u8]) -> Option<Input>
+    // A datagram, unless the switch itself sent it.
+    fn taken(&mut self, received: Received) -> Input
+        requires { received.length ≤ 65536 }
+        ensures { IsInput result }
+    {
+        let Received {
+            length,
+            from,
+            is_own,
+        } = received;
+        if is_own {
+            self.count(Dropped::OtherPeer);
+            return Input::Nothing;
+        }
+        Input::Datagram { from, length }
+    }
+
+    // A datagram, if there may be one; for some time after the last one it looks again and again, unless the switch has messages to
+    // handle.
+    fn look(&mut self, wanted: Wanted, buffer: &mut [u8]) -> Option<Input>
         requires { length buffer.old ≡ 65536 }
         ensures room { length buffer.new ≡ 65536 }
         ensures fits { IfSome result IsInput }
@@ -121,11 +127,11 @@ impl<'r> Outside<'r> {
         if self.tunnel.is_tired() || !self.tunnel.is_ready() && self.looks >= LOOKS {
             return None;
         }
-        if let Some((length, from)) = self.tunnel.receive(buffer) {
+        if let Some(received) = self.tunnel.receive(buffer) {
             self.looks = 0;
-            return Some(Input::Datagram { from, length });
+            return Some(self.taken(received));
         }
-        if self.looks >= LOOKS {
+        if self.looks >= LOOKS || wanted.at_once {
             return None;
         }
         self.looks += 1;
@@ -152,16 +158,19 @@ impl<'r> Outside<'r> {
     }
 
     // A controller, rows and datagrams, by turns; None if nothing came.
-    fn ready(&mut self, buffer: &mut [u8]) -> Option<Input>
+    fn ready(&mut self, wanted: Wanted, buffer: &mut [u8]) -> Option<Input>
         requires { length buffer.old ≡ 65536 }
         ensures room { length buffer.new ≡ 65536 }
         ensures fits { IfSome result IsInput }
     {
         if self.is_controllers_turn {
             self.is_controllers_turn = false;
-            let input = self
-                .controller
-                .next(self.time.unwrap_or(0), self.poll.registry(), buffer);
+            let input = self.controller.next(
+                wanted.hears,
+                self.time.unwrap_or(0),
+                self.poll.registry(),
+                buffer,
+            );
             if input.is_some() {
                 return input;
             }
@@ -170,12 +179,13 @@ impl<'r> Outside<'r> {
         if row.is_some() {
             return row;
         }
-        self.look(buffer)
+        self.look(wanted, buffer)
     }
 
     // Waits until something may come, or some time has passed.
-    fn wait(&mut self) -> io::Result<()> {
-        let is_ready = self.controller.is_ready()
+    fn wait(&mut self, wanted: Wanted) -> io::Result<()> {
+        let is_ready = wanted.at_once
+            || self.controller.is_ready(wanted.hears)
             || self.tunnel.is_ready()
             || self.rows.as_ref().is_some_and(|rows| rows.is_ready());
         let timeout = if is_ready { 0 } else { IDLE };
@@ -184,17 +194,12 @@ impl<'r> Outside<'r> {
         for event in self.events.iter() {
             match event.token() {
                 TUNNEL => self.tunnel.wake(),
-                DOOR => self.controller.wake_door(),
-                CONNECTION => self.controller.wake(
-                    event.is_readable() || event.is_read_closed() || event.is_error(),
-                    event.is_writable() || event.is_error(),
-                ),
                 ROWS => {
                     if let Some(rows) = &mut self.rows {
                         rows.wake();
                     }
                 }
-                _ => {}
+                _ => self.controller.wake(event),
             }
         }
         self.rows_left = ROWS_A_TURN;
@@ -208,7 +213,7 @@ impl<'r> Outside<'r> {
         ensures { IsInput result }
     {
         let before = self.time.unwrap_or(0);
-        let now = match self.start.elapsed(self.rt) {
+        let now = match self.start.elapsed(self.teller.rt) {
             Ok(passed) => u64::try_from(passed.as_nanos()).unwrap_or(before),
             Err(_) => before,
         };
@@ -220,7 +225,7 @@ impl<'r> Outside<'r> {
     }
 
     /// What comes next: first the time, so that the first rows of the event file happen before anything else.
-    pub fn next(&mut self, buffer: &mut [u8]) -> Input
+    pub fn next(&mut self, wanted: Wanted, buffer: &mut [u8]) -> Input
         requires { length buffer.old ≡ 65536 }
         ensures room { length buffer.new ≡ 65536 }
         ensures fits { IsInput result }
@@ -228,13 +233,13 @@ impl<'r> Outside<'r> {
         if self.time.is_none() {
             return self.tell_time();
         }
-        if let Some(input) = self.ready(buffer) {
+        if let Some(input) = self.ready(wanted, buffer) {
             return input;
         }
-        match self.wait() {
+        match self.wait(wanted) {
             Ok(()) => self.tell_time(),
             Err(error) => {
-                let _ = eprintln!(self.rt; "cannot wait for sockets: {error}");
+                let _ = eprintln!(self.teller; "cannot wait for sockets: {error}");
                 Input::Fault
             }
         }
@@ -286,7 +291,7 @@ impl<'r> Outside<'r> {
         ];
         for (count, what) in counts {
             if count > 0 {
-                let _ = eprintln!(self.rt; "dropped: {count} {what}");
+                let _ = eprintln!(self.teller; "dropped: {count} {what}");
             }
         }
     }

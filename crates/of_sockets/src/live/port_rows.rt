@@ -1,4 +1,5 @@
 //! Rows of ports that the switch refuses.
+use crate::teller::Teller;
 use crate::{later_of, refusal_of, row_numbers};
 use of_classifier::Scan;
 use of_switch::{Event, PortChange, Switch};
@@ -17,7 +18,7 @@ struct DueRow {
 /// The ports that there are by all rows until now. Only rows add and remove ports, so a switch of its own refuses the same rows.
 #[derive(Drop)]
 pub struct PortRows<'r> {
-    rt: &'r HostRuntime,
+    teller: &'r Teller<'r>,
     switch: Switch<Scan>,
     // those of the event file, and how many of them came
     rows: Vec<DueRow>,
@@ -26,11 +27,11 @@ pub struct PortRows<'r> {
 
 impl<'r> PortRows<'r> {
     /// The ports that are there before the first row.
-    pub fn new(rt: &'r HostRuntime, first: &[Event]) -> Result<Self, AllocError> {
+    pub fn new(teller: &'r Teller<'r>, first: &[Event]) -> Result<Self, AllocError> {
         let mut ports = PortRows {
-            rt,
-            switch: Switch::<Scan>::new(rt.alloc(), 1)?,
-            rows: Vec::new(rt.alloc()),
+            teller,
+            switch: Switch::<Scan>::new(teller.rt.alloc(), 1)?,
+            rows: Vec::new(teller.rt.alloc()),
             came: 0,
         };
         for event in first {
@@ -43,7 +44,7 @@ impl<'r> PortRows<'r> {
 
     /// The rows of the bytes of an event file, which are these events.
     pub fn read(&mut self, file: &[u8], events: &[Event]) -> Result<(), AllocError> {
-        let lines = row_numbers(self.rt.alloc(), file)?;
+        let lines = row_numbers(self.teller.rt.alloc(), file)?;
         let mut due: u64 = 0;
         for (event, line) in events.iter().zip(lines.iter()) {
             if let Event::Ports(change) = event {
@@ -65,7 +66,7 @@ impl<'r> PortRows<'r> {
                 return;
             }
             if let Ok(Some(why)) = refusal_of(&mut self.switch, row.change) {
-                let _ = eprintln!(self.rt; "row {} refused: {why}", row.line);
+                let _ = eprintln!(self.teller; "row {} refused: {why}", row.line);
             }
             self.came = self.came.saturating_add(1);
         }
@@ -74,7 +75,7 @@ impl<'r> PortRows<'r> {
     /// Says that a row of standard input is refused, if it is.
     pub fn play(&mut self, number: u64, change: PortChange) {
         if let Ok(Some(why)) = refusal_of(&mut self.switch, change) {
-            let _ = eprintln!(self.rt; "standard input: row {number} refused: {why}");
+            let _ = eprintln!(self.teller; "standard input: row {number} refused: {why}");
         }
     }
 }

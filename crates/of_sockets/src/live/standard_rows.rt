@@ -2,6 +2,7 @@
 ghost use Rattle.std.specs.Prelude.{◌≡◌, length};
 
 use super::lines::Lines;
+use crate::teller::Teller;
 use mio::unix::SourceFd;
 use mio::{Interest, Registry, Token};
 use of_network::{RunningRow, read_running_row};
@@ -18,7 +19,7 @@ const STANDARD_INPUT: RawFd = 0;
 /// Rows on standard input.
 #[derive(Drop)]
 pub struct StandardRows<'r> {
-    rt: &'r HostRuntime,
+    teller: &'r Teller<'r>,
     input: Stdin,
     lines: Lines,
     // the bytes of a frame
@@ -42,7 +43,7 @@ pub enum Given {
 
 impl<'r> StandardRows<'r> {
     /// Waits for rows.
-    pub fn new(rt: &'r HostRuntime, registry: &Registry) -> io::Result<Self> {
+    pub fn new(teller: &'r Teller<'r>, registry: &Registry) -> io::Result<Self> {
         let descriptor = STANDARD_INPUT;
         let registered = registry.register(&mut SourceFd(&descriptor), ROWS, Interest::READABLE);
         let is_file = match registered {
@@ -52,10 +53,10 @@ impl<'r> StandardRows<'r> {
             Err(error) => return Err(error),
         };
         Ok(StandardRows {
-            rt,
-            input: rt.stdin(),
-            lines: Lines::new(rt.alloc()),
-            frame: Vec::new(rt.alloc()),
+            teller,
+            input: teller.rt.stdin(),
+            lines: Lines::new(teller.rt.alloc()),
+            frame: Vec::new(teller.rt.alloc()),
             number: 0,
             is_readable: is_file,
             is_file,
@@ -88,7 +89,7 @@ impl<'r> StandardRows<'r> {
             Ok(0) => self.end(),
             Ok(count) => {
                 if self.lines.push(front_of(buffer, count)).is_err() {
-                    let _ = eprintln!(self.rt; "standard input: out of memory");
+                    let _ = eprintln!(self.teller; "standard input: out of memory");
                     self.end();
                 }
             }
@@ -96,7 +97,7 @@ impl<'r> StandardRows<'r> {
                 if error.kind() == ErrorKind::Interrupted
                     || error.kind() == ErrorKind::WouldBlock => {}
             Err(error) => {
-                let _ = eprintln!(self.rt; "cannot read standard input: {error}");
+                let _ = eprintln!(self.teller; "cannot read standard input: {error}");
                 self.end();
             }
         }
@@ -111,7 +112,7 @@ impl<'r> StandardRows<'r> {
         let descriptor = STANDARD_INPUT;
         let again = registry.reregister(&mut SourceFd(&descriptor), ROWS, Interest::READABLE);
         if let Err(error) = again {
-            let _ = eprintln!(self.rt; "cannot wait for standard input: {error}");
+            let _ = eprintln!(self.teller; "cannot wait for standard input: {error}");
             self.end();
         }
     }
@@ -123,7 +124,7 @@ impl<'r> StandardRows<'r> {
             RunningRow::Happens(event) => Given::Row { number, event },
             RunningRow::Skipped => Given::Nothing,
             RunningRow::Bad => {
-                let _ = eprintln!(self.rt;
+                let _ = eprintln!(self.teller;
                     "standard input: bad row {number}: only rows of frames (`f`) and ports (`port`) can come while the switch runs"
                 );
                 Given::Nothing
@@ -135,7 +136,7 @@ impl<'r> StandardRows<'r> {
     fn take(&mut self) -> Option<Given> {
         let line = self.lines.first()?;
         let length = line.len();
-        let row = read_running_row(self.rt.alloc(), line, &mut self.frame);
+        let row = read_running_row(self.teller.rt.alloc(), line, &mut self.frame);
         if !self.lines.pass(length) {
             return Some(Given::Nothing);
         }
@@ -143,7 +144,7 @@ impl<'r> StandardRows<'r> {
         match row {
             Ok(row) => Some(self.given(row)),
             Err(_) => {
-                let _ = eprintln!(self.rt;
+                let _ = eprintln!(self.teller;
                     "standard input: row {} left out: out of memory",
                     self.number
                 );
@@ -162,7 +163,7 @@ impl<'r> StandardRows<'r> {
         }
         if self.lines.leave_out() {
             self.number = self.number.saturating_add(1);
-            let _ = eprintln!(self.rt;
+            let _ = eprintln!(self.teller;
                 "standard input: bad row {}: longer than any row",
                 self.number
             );

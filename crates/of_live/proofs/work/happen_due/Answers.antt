@@ -1,7 +1,7 @@
-use Rattle.std.proofs.Common.{◌≡◌, ◌++◌, ◌∙◌, ap, refl, sym, rules, List, append_assoc, [], subst}
+use Rattle.std.proofs.Common.{◌≡◌, ◌++◌, ◌∙◌, ap, refl, sym, List, append_assoc, [], subst}
 use Rattle.std.proofs.lemmas.List.{append-nil}
 use Rattle.of_switch.specs.declared.event.Event.{Event}
-use Rattle.of_serve.specs.Turns.{events_of_row, due, left}
+use Rattle.of_serve.specs.Turns.{events_of_row, due}
 use Rattle.of_serve.proofs.TurnLemmas.{due_none, left_none, due_waits, left_waits, due_acts, left_acts}
 use Rattle.of_live.specs.Working.{Does}
 use Rattle.of_live.proofs.Doing.{does_none, does_more}

@@ -1,4 +1,4 @@
-use Rattle.std.proofs.Common.{◌∙◌, ap, sym}
+use Rattle.std.proofs.Common.{◌∙◌}
 use Rattle.of_live.proofs.Doing.{sent}
 use Rattle.of_live.proofs.work.send_reports.Goals as goal
 

@@ -1,5 +1,5 @@
-use Rattle.of_require.proofs.DecidingLemmas.{none_match_more}
+use Rattle.of_require.proofs.DecidingLemmas.{joined_none}
 use Rattle.of_require.proofs.deciding.joined.Goals as goal
 
-pub returns-in-NoneMatches-NoneMatches : goal.returns-in-NoneMatches-NoneMatches
-returns-in-NoneMatches-NoneMatches c ports others w r steps first second = none_match_more w r ports others (rw c.in-NoneMatches-NoneMatches.is-0 at first) (rw c.in-NoneMatches-NoneMatches.is-1 at second)
+pub returns-in-NoneMatches : goal.returns-in-NoneMatches
+returns-in-NoneMatches c ports others w r steps first second = joined_none w r ports others steps c.args.next (rw c.in-NoneMatches.is at first) second

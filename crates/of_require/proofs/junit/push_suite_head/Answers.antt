@@ -1,6 +1,7 @@
 use Rattle.std.proofs.Common.{◌∙◌, ◌++◌, ◌∷◌, ℕ, List, [], ap, append_assoc, sym}
 use Rattle.std.specs.Prelude.{codes}
-use Rattle.of_require.specs.JUnit.{numbered_text, suite_head}
+use Rattle.of_require.specs.JUnit.{suite_head}
+use Rattle.of_require.specs.Words.{numbered_text}
 use Rattle.of_require.proofs.junit.push_suite_head.Goals as goal
 
 pub returns : goal.returns

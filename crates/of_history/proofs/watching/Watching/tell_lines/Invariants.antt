@@ -10,8 +10,8 @@ invariant-loop-rest g l = record {
   fresh : l.self.seen.items ≡ g.V.View.seen l.fn.self.view l.self.switch.core.forwarding;
   few : l.number + length l.rest ≤ length l.file + 1;
   bad : bad_from l.number (lines_of l.rest) ≡ bad_from 1 (lines_of l.file);
-  text : l.self.out.items ++ told_from (history_of g.T.ChangeTeller.text (g.V.View.seen l.fn.self.view)) l.number (lines_of l.rest) l.self.switch
-      ≡ l.fn.self.out.items ++ told l.fn.self.switch (history_of g.T.ChangeTeller.text (g.V.View.seen l.fn.self.view)) (lines_of l.file);
+  text : l.self.out.items ++ told_from (history_of g.T.ChangeTeller.text (g.V.View.seen l.fn.self.view) (g.V.View.expiring l.fn.self.view)) l.number (lines_of l.rest) l.self.switch
+      ≡ l.fn.self.out.items ++ told l.fn.self.switch (history_of g.T.ChangeTeller.text (g.V.View.seen l.fn.self.view) (g.V.View.expiring l.fn.self.view)) (lines_of l.file);
 }
 
 abbrev pub decreases-loop-rest : goal.decreases-loop-rest

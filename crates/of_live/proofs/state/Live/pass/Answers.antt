@@ -1,10 +1,15 @@
-use Rattle.std.proofs.Common.{◌≡◌, ◌∙◌, ap, sym, Ok, Err}
-use Rattle.of_replay.specs.declared.halt.Halt.TheVariants.{Memory, Write}
+use Rattle.std.proofs.Common.{◌≡◌, ◌∙◌, ap, sym}
 use Rattle.of_live.specs.Live.{Live}
 use Rattle.of_network.specs.Inputs.{came_of}
-use Rattle.of_live.specs.Working.{Passes}
-use Rattle.of_live.proofs.Turning.{passes_on, no_log, no_memory}
+use Rattle.of_live.proofs.Turning.{passes_on, no_log}
 use Rattle.of_live.proofs.state.Live.pass.Goals as goal
+
+pub returns-then-not-log-clause-passes : goal.returns-then-not-log-clause-passes
+returns-then-not-log-clause-passes g c =
+    let h = c.in-Ok.ensures in
+    rw (sym c.is_logged-keeps.ensures) (no_log (came_of c.args.input.now c.args.buffer.now) c.is_logged-keeps.result c.in-Ok.asks c.args.self.now c.hear.new.self c.hear.new.work
+    (g.N.Network.told c.args.network.now) (g.N.Network.told c.hear.new.network) (g.N.Network.told c.log.new.network)
+    h.told.0 h.told.1 h.told.2 h.hears c.if-not-log.ensures.empty c.if-not-log.ensures.told)
 
 pub returns-clause-passes : goal.returns-clause-passes
 returns-clause-passes g c =

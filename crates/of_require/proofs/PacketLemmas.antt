@@ -1,0 +1,190 @@
+-- What is found among sets of frames whose packets are alike is found among the frames of a path.
+use Rattle.std.proofs.Common.{◌≡◌, ◌≤◌, ◌<◌, ◌^◌, ℕ, suc, Bool, true, false, List, [], ◌∷◌, ◌++◌, length, map, refl, sym, subst, ap, ◌∙◌, arith, inl, inr}
+use Rattle.std.specs.Prelude.{nat_le}
+use Rattle.std.specs.Global.{Vec}
+use Rattle.std.specs.List.{AllByRecursion, Contains}
+use Rattle.std.proofs.lemmas.Bool.Decides.{nat_tests}
+use Rattle.of_oxm.specs.declared.match_field.MatchField.{MatchField}
+use Rattle.of_oxm.specs.Relations.{matches_map}
+use Rattle.of_rewrite.specs.Frames.{IsFrame}
+use Rattle.of_machine.specs.declared.data.Item.{Item}
+use Rattle.of_machine.specs.declared.data.Step.{Step}
+use Rattle.of_machine.specs.TheWorld.{TheWorld}
+use Rattle.of_symbolic.specs.declared.pulling.Pulled.TheVariants.{Never, When}
+use Rattle.of_symbolic.specs.Actions.{frame_of_actions}
+use Rattle.of_symbolic.specs.Parts.{received_fields}
+use Rattle.of_symbolic_run.specs.declared.frame_set.FrameSet.{FrameSet}
+use Rattle.of_symbolic_run.specs.declared.state.Emission.{Emission}
+use Rattle.of_symbolic_run.specs.FrameSets.{InFrames}
+use Rattle.of_symbolic_run.specs.PortNumbers.{IsReceivingPort, came_in_by}
+use Rattle.of_symbolic_run.specs.Received.{IsReceivedAt, items_at}
+use Rattle.of_symbolic_run.specs.States.{items_for}
+use Rattle.of_paths.specs.declared.destination.Destination.{Destination}
+use Rattle.of_paths.specs.declared.path.Path.{Path}
+use Rattle.of_paths.specs.declared.path.Merging.TheVariants.{Each}
+use Rattle.of_paths.specs.declared.path.PathClass.{PathClass}
+use Rattle.of_paths.specs.declared.path.Paths.{Paths}
+use Rattle.of_paths.specs.Paths.{ArePaths, InClasses, InPaths, IsPath, IsPathClass}
+use Rattle.of_regions.specs.Witness.{IsIngressPort}
+use Rattle.of_paths.specs.Ways.{lines_at}
+use Rattle.of_require.specs.declared.deciding.Sought.{Sought}
+use Rattle.of_require.specs.declared.deciding.Sought.TheVariants.{Frame, NoFrame, Undecided}
+use Rattle.of_require.specs.declared.requirement.Demand.{Demand}
+use Rattle.of_require.specs.declared.requirement.Demand.TheVariants.{Has}
+use Rattle.of_require.specs.declared.requirement.Requirement.{Requirement}
+use Rattle.of_require.specs.Deciding.{AreAsked, AreDividedByAll, AreOneWay, AsksOneOf, IsAskedBy, IsFrameFoundIn, IsSought, IsSoughtInClass, IsSoughtInEach, IsSoughtInSet, IsSoughtInSets, found_so_far}
+use Rattle.of_require.specs.Decisions.{IsDeciding, decides}
+use Rattle.of_require.specs.Packets.{HaveAlikePackets, IsUnknownAmong, IsUnknownPath, packet_actions}
+use Rattle.of_require.specs.Requirements.{frame_has, have, is_done, is_leaving}
+use Rattle.of_require.proofs.BareLemmas.{bare, bare_all, same_leaving}
+use Rattle.of_require.proofs.DecidingLemmas.{and_true, both, leaves_alike, matched_from, never_both, only_in}
+use Rattle.of_require.proofs.ListLemmas.{each_more, only_one, some_more}
+use Rattle.of_require.proofs.HavingLemmas.{marked_alike, same_have}
+
+-- ---- packets of frames that conditions match alike
+
+module _ (fields : List MatchField) (s : FrameSet) (e : Emission) where
+  by_never : IsAskedBy fields e Never → HaveAlikePackets fields s e
+  by_never asked f g p q is_f is_g in_f in_g = asked.is f p is_f ∙ sym (asked.is g q is_g)
+
+  by_conditions : (m : Vec MatchField) → IsAskedBy fields e (When m) → AreOneWay m.items s → HaveAlikePackets fields s e
+  by_conditions m asked (inl all) f g p q is_f is_g in_f in_g = asked.is f p is_f ∙ all f p in_f ∙ sym (asked.is g q is_g ∙ all g q in_g)
+  by_conditions m asked (inr none) f g p q is_f is_g in_f in_g = asked.is f p is_f ∙ none f p in_f ∙ sym (asked.is g q is_g ∙ none g q in_g)
+
+  pub alike : (lists : List (Vec MatchField)) → AsksOneOf fields lists e → ((m : Vec MatchField) → Contains lists m → AreOneWay m.items s) → HaveAlikePackets fields s e
+  alike lists (inl never) ways = by_never never
+  alike lists (inr (m, there, asked)) ways = by_conditions m asked (ways m there)
+
+stays : (fields : List MatchField) (lists : List (Vec MatchField)) (e : Emission) → AsksOneOf fields lists e → (f : List ℕ) → IsFrame f → IsFrame (frame_of_actions (packet_actions e) f)
+stays fields lists e (inl never) f is = never.frame f is
+stays fields lists e (inr (m, there, asked)) f is = asked.frame f is
+
+long_enough : (n : ℕ) → 14 ≤ n → nat_le 14 n ≡ true
+long_enough n h = grind (arith, nat_tests, h)
+
+module _ (fields : List MatchField) (s : FrameSet) (port : ℕ) (f g : List ℕ) (is_f : IsFrame f) (is_g : IsFrame g) (in_f : InFrames s f port) (in_g : InFrames s g port) where
+  one_has_alike : (e : Emission) → HaveAlikePackets fields s e → IsFrame (frame_of_actions (packet_actions e) f) → IsFrame (frame_of_actions (packet_actions e) g) →
+      frame_has fields port (frame_of_actions (packet_actions e) f) ≡ frame_has fields port (frame_of_actions (packet_actions e) g)
+  one_has_alike e same frame_f frame_g =
+      rw (long_enough _ frame_f.0, long_enough _ frame_g.0) (same f g port port is_f is_g in_f in_g)
+
+  all_have_alike : (lists : List (Vec MatchField)) (es : List Emission) → ((e : Emission) → Contains es e → AsksOneOf fields lists e) → ((m : Vec MatchField) → Contains lists m → AreOneWay m.items s) →
+      AllByRecursion (λ (e : Emission). frame_has fields port (frame_of_actions (packet_actions e) f) ≡ frame_has fields port (frame_of_actions (packet_actions e) g)) es
+  all_have_alike lists [] asked ways = tt
+  all_have_alike lists (e ∷ es) asked ways =
+      let own : AsksOneOf fields lists e = asked e (0, omega arith, refl) in (
+        one_has_alike e (alike fields s e lists own ways) (stays fields lists e own f is_f) (stays fields lists e own g is_g),
+        all_have_alike lists es (λ x there. asked x (suc there.0, omega (arith, there.1), there.2)) ways,
+      )
+
+-- ---- the frames of a path
+
+module _ (w : TheWorld) (r : Requirement) (fields : List MatchField) (steps : ℕ) (p : Path) (port : ℕ) (places : Vec Destination)
+    (receives : IsReceivingPort w.ports port) (fits : port < 2 ^ 32) (is_path : IsPath w (came_in_by port ∷ r.within.items) p) (has : r.demand ≡ Has places fields) where
+  -- one of the path that is found is received, and came in by the port
+  received_there : (s : FrameSet) (frame : List ℕ) (q : ℕ) → ((f : List ℕ) (x : ℕ) → InFrames s f x → InFrames p.frames f x) → IsFrameFoundIn s frame q →
+      (q ≡ port) × IsReceivedAt w frame q × (matches_map r.within.items (received_fields frame q) ≡ true)
+  received_there s frame q within found =
+      let from = matched_from w r port fits frame q found.fits (is_path.matched frame q (within frame q found.within)) in
+      (from.0, subst (λ (x : ℕ). IsReceivedAt w frame x) (sym from.0) (record { frame_is = found.frame_is; short = found.short; ingress = receives.port; there = receives.there; receives = receives.receives }), from.1)
+
+  lines_are : (frame : List ℕ) (q : ℕ) → IsReceivedAt w frame q → InFrames p.frames frame q → lines_at w frame q ≡ p.steps.items
+  lines_are frame q received within = is_path.takes frame q received within
+
+  -- a frame that decides by the steps of the path decides
+  pub decides_there : (frame : List ℕ) (q : ℕ) → IsReceivedAt w frame q → InFrames p.frames frame q → matches_map r.within.items (received_fields frame q) ≡ true →
+      decides r q p.steps.items (items_at w frame q) ≡ true → IsDeciding w r frame q
+  decides_there frame q received within matched h =
+      let run : decides r q (lines_at w frame q) (items_at w frame q) ≡ true = ap (λ (l : List Step). decides r q l (items_at w frame q)) (lines_are frame q received within) ∙ h in
+      let parts = both _ _ run in
+      let about = both _ _ parts.0 in
+      record { about = record { received = received; matched = matched; counted = about.0; leaving = about.1 }; decides = parts.1 }
+
+  module _ (lists : List (Vec MatchField)) (sets : List FrameSet) (asked : AreAsked fields p.emitted.items lists) (divided : AreDividedByAll lists p.frames sets) where
+    done_is : (items : List Item) → is_done r.quantifier r.demand port p.steps.items items ≡ have r.quantifier places.items fields port items
+    done_is items = ap (λ (d : Demand). is_done r.quantifier d port p.steps.items items) has
+
+    -- two frames of one set do the same
+    module _ (s : FrameSet) (there : Contains sets s) (f g : List ℕ) (rec_f : IsReceivedAt w f port) (rec_g : IsReceivedAt w g port) (in_f : InFrames s f port) (in_g : InFrames s g port) where
+      emits_f : items_at w f port ≡ items_for w.ports p.emitted.items f port
+      emits_f = is_path.emits f port rec_f (divided.within s there f port in_f)
+
+      emits_g : items_at w g port ≡ items_for w.ports p.emitted.items g port
+      emits_g = is_path.emits g port rec_g (divided.within s there g port in_g)
+
+      had : have r.quantifier places.items fields port (items_at w f port) ≡ have r.quantifier places.items fields port (items_at w g port)
+      had =
+          ap (have r.quantifier places.items fields port) emits_f
+          ∙ same_have fields port places.items r.quantifier _ _ (marked_alike fields port w.ports f g p.emitted.items (all_have_alike fields s port f g rec_f.frame_is rec_g.frame_is in_f in_g lists p.emitted.items asked (divided.ways s there)))
+          ∙ sym (ap (have r.quantifier places.items fields port) emits_g)
+
+      bare_same : map bare (items_at w f port) ≡ map bare (items_at w g port)
+      bare_same = ap (map bare) emits_f ∙ bare_all w.ports f g port p.emitted.items ∙ sym (ap (map bare) emits_g)
+
+      same_in_set : decides r port p.steps.items (items_at w f port) ≡ decides r port p.steps.items (items_at w g port)
+      same_in_set = rw (same_leaving r.demand _ _ bare_same, done_is (items_at w f port) ∙ had ∙ sym (done_is (items_at w g port))) refl
+
+    decides_as : (frame : List ℕ) (q : ℕ) → IsDeciding w r frame q → InFrames p.frames frame q → decides r q p.steps.items (items_at w frame q) ≡ true
+    decides_as frame q d within =
+        ap (λ (l : List Step). decides r q l (items_at w frame q)) (sym (lines_are frame q d.about.received within)) ∙ and_true _ _ (and_true _ _ d.about.counted d.about.leaving) d.decides
+
+    -- one that decides is in a set, where none was found that does
+    none_in_set : (s : FrameSet) → Contains sets s → (frame : List ℕ) (q : ℕ) → q ≡ port → IsDeciding w r frame q → InFrames s frame q → IsSoughtInSet w r p.steps.items steps s NoFrame → ⊥
+    none_in_set s there frame q at d within (inl empty) = empty frame q d.about.received.frame_is within
+    none_in_set s there frame q at d within (inr (g, x, is_found, not_so)) =
+        let other = received_there s g x (divided.within s there) is_found in
+        let own : IsReceivedAt w frame port = subst (λ (n : ℕ). IsReceivedAt w frame n) at d.about.received in
+        let own_in : InFrames s frame port = subst (λ (n : ℕ). InFrames s frame n) at within in
+        let g_in : InFrames s g port = subst (λ (n : ℕ). InFrames s g n) other.0 is_found.within in
+        let g_received : IsReceivedAt w g port = subst (λ (n : ℕ). IsReceivedAt w g n) other.0 other.1 in
+        let so : decides r port p.steps.items (items_at w frame port) ≡ true = subst (λ (n : ℕ). decides r n p.steps.items (items_at w frame n) ≡ true) at (decides_as frame q d (divided.within s there frame q within)) in
+        let not_there : decides r port p.steps.items (items_at w g port) ≡ false = subst (λ (n : ℕ). decides r n p.steps.items (items_at w g n) ≡ false) other.0 not_so in
+        never_both _ (sym (same_in_set s there frame g own g_received own_in g_in) ∙ so) not_there
+
+    pub sought_in_sets : (sought : Sought) → IsSoughtInSets w r p.steps.items steps sets sought → IsSought w r (λ frame q. (q ≡ port) × InFrames p.frames frame q) (IsUnknownPath fields steps p) sought
+    sought_in_sets (Frame shown) (s, there, h) =
+        let here = received_there s shown.frame.items shown.in_port (divided.within s there) h.0 in
+        (decides_there shown.frame.items shown.in_port here.1 (divided.within s there _ _ h.0.within) here.2 (ap (decides r shown.in_port p.steps.items) (sym h.1) ∙ h.2), h.1)
+    sought_in_sets NoFrame none = λ frame q there d. (let set = divided.all frame q d.about.received.frame_is there.1 in none_in_set set.0 set.1 frame q there.0 d set.2 (none set.0 set.1))
+    sought_in_sets Undecided (s, there, unfound) = inr (s, record { within = divided.within s there; alike = λ e listed. alike fields s e lists (asked e listed) (divided.ways s there) }, unfound)
+
+-- ---- from paths to classes
+
+module _ (w : TheWorld) (r : Requirement) (fields : List MatchField) (steps port : ℕ) where
+  abbrev AmongPaths : List Path → List ℕ → ℕ → Type 0
+  AmongPaths ps frame q = (q ≡ port) × InPaths ps frame q
+
+  abbrev UnknownOf : List Path → Type 0
+  UnknownOf ps = (p : Path) × Contains ps p × IsUnknownPath fields steps p
+
+  one_path_sought : (p : Path) (sought : Sought) → IsSought w r (λ frame q. (q ≡ port) × InFrames p.frames frame q) (IsUnknownPath fields steps p) sought → IsSought w r (AmongPaths (p ∷ [])) (UnknownOf (p ∷ [])) sought
+  one_path_sought p (Frame shown) h = h
+  one_path_sought p NoFrame none = λ frame q there d. none frame q (there.0, subst (λ (x : Path). InFrames x.frames frame q) (only_in p there.1.0 there.1.1) there.1.2) d
+  one_path_sought p Undecided h = (p, (0, omega arith, refl), h)
+
+  pub class_sought : (ps before : List Path) (p : Path) → ps ≡ before ++ p ∷ [] → length ps ≡ 1 → (sought : Sought) → IsSought w r (λ frame q. (q ≡ port) × InFrames p.frames frame q) (IsUnknownPath fields steps p) sought → IsSought w r (AmongPaths ps) (UnknownOf ps) sought
+  class_sought ps before p is one sought h = subst (λ (l : List Path). IsSought w r (AmongPaths l) (UnknownOf l) sought) (sym (only_one ps before p is one)) (one_path_sought p sought h)
+
+  module _ (places : Vec Destination) (has : r.demand ≡ Has places fields) (receives : IsReceivingPort w.ports port) (fits : port < 2 ^ 32) (found : Paths) (are : ArePaths Each w (came_in_by port ∷ r.within.items) steps found) where
+    one_class : (sought : Sought) (c : PathClass) → Contains found.classes.items c → IsSoughtInClass w r fields steps c sought → IsSought w r (AmongPaths c.paths.items) (UnknownOf c.paths.items) sought
+    one_class sought c there h = h port places receives fits (are.classes c there) (are.merged c there) has
+
+    pub classes_sought : (sought : Sought) → IsSoughtInEach w r fields steps found.classes.items sought → IsSought w r (λ frame q. (q ≡ port) × InClasses found.classes.items frame q) (IsUnknownAmong r.demand steps found.classes.items) sought
+    classes_sought (Frame shown) (c, there, h) = one_class (Frame shown) c there h
+    classes_sought NoFrame none = λ frame q in_class d. one_class NoFrame in_class.1.0 in_class.1.1 (none in_class.1.0 in_class.1.1) frame q (in_class.0, in_class.1.2) d
+    classes_sought Undecided (c, there, h) = subst (λ (d : Demand). IsUnknownAmong d steps found.classes.items) (sym has) (c, there, one_class Undecided c there h)
+
+-- one more class, none of whose frames decides
+pub class_without : (w : TheWorld) (r : Requirement) (fields : List MatchField) (steps : ℕ) (xs : List PathClass) (x : PathClass) (is_known : Bool) → IsSoughtInEach w r fields steps xs (found_so_far is_known) → IsSoughtInClass w r fields steps x NoFrame →
+    IsSoughtInEach w r fields steps (xs ++ x ∷ []) (found_so_far is_known)
+class_without w r fields steps xs x true old own = each_more (λ (c : PathClass). IsSoughtInClass w r fields steps c NoFrame) xs x old own
+class_without w r fields steps xs x false old own = some_more (λ (c : PathClass). IsSoughtInClass w r fields steps c Undecided) xs x old
+
+-- nothing of the class leaves by the places
+pub none_leaves_there : (w : TheWorld) (r : Requirement) (port : ℕ) → port < 2 ^ 32 → (c : PathClass) → IsPathClass w (came_in_by port ∷ r.within.items) c → length c.paths.items ≡ 1 → is_leaving r.demand c.items.items ≡ false →
+    (frame : List ℕ) (q : ℕ) → (q ≡ port) × InPaths c.paths.items frame q → IsDeciding w r frame q → ⊥
+none_leaves_there w r port fits c class one silent frame q there d = never_both _ (sym (leaves_alike w r port fits c class one frame q there.0 d.about.received there.1) ∙ d.about.leaving) silent
+
+pub ingress_fits : (p : ℕ) → IsIngressPort p → p < 2 ^ 32
+ingress_fits p (inl numbered) = omega (arith, numbered.1)
+ingress_fits p (inr local) = omega (arith, local)
