@@ -74,7 +74,7 @@ def _document(connections: int, alike: int, accepted: int, differences: list[Dif
     """The outcome of a comparison as docs/JSON.md describes it."""
     listed = [{**it.place, "lines": it.lines} for it in differences]
     numbers = {"connections": connections, "alike": alike, "accepted": accepted}
-    return json.dumps({"command": "capture compare", **numbers, "differences": listed}, separators=(",", ":"))
+    return json.dumps({"version": 1, "command": "capture compare", **numbers, "differences": listed}, separators=(",", ":"))
 
 
 def _frames(asked: argparse.Namespace, notes: Notes) -> int:

@@ -204,10 +204,10 @@ class _Flat:
         """A path of the flat switch in the words of the network. RuntimeError if the trace of its frame in the network is another."""
         marks = [int(it.split(" ")[1], 16) for it in found["steps"] if it.startswith("metadata ")]
         places = [self._start, *((self._names[(it >> 32) - 1], it & 0xFFFFFFFF) for it in marks)]
-        hosts = {str(number): place for place, number in self.hosts.items()}
+        hosts = {number: place for place, number in self.hosts.items()}
         arrived = [Arrived(*hosts[it["port"]], bytes.fromhex(it["frame"])) for it in found["items"] if it["port"] in hosts]
         ports = [it["port"] for it in found["items"]]
-        is_under_way = str(_UNDER_WAY) in ports
+        is_under_way = _UNDER_WAY in ports
         seen = {(it.switch, it.port) for it in trace.hops if it.steps}
         if not seen >= {*places} or not (is_under_way or seen == {*places} and Counter(arrived) == Counter(trace.arrived)):
             raise RuntimeError(f"the flat switch and the network treat this frame differently: {found['frame']}")

@@ -125,7 +125,7 @@ def test_differences_as_json_and_accepted(tmp_path):
     path = recorded(tmp_path, *segments([*HELLOS, *wrong(7)]))
     printed = ran("compare", path, "--json", status=4).stdout
     difference = {"connection": 1, "xid": 7, "messages": ["FEATURES_REQUEST"], "packet": 5, "lines": ["n_buffers: recorded 5, specified 256"]}
-    document = {"command": "capture compare", "connections": 1, "alike": 1, "accepted": 0, "differences": [difference]}
+    document = {"version": 1, "command": "capture compare", "connections": 1, "alike": 1, "accepted": 0, "differences": [difference]}
     assert json.loads(printed) == document and printed.count("\n") == 1
     known = tmp_path / "known.json"
     known.write_text(printed)

@@ -46,7 +46,7 @@ def test_tables_in_files_and_texts():
     found = require(OFFICE, REQUIREMENTS)
     assert [(it["line"], it["verdict"]) for it in found] == [(2, "fails"), (3, "holds"), (4, "holds"), (5, "holds"), (6, "holds")]
     assert found[0]["requirement"] == "no frame ip,nw_src=10.0.9.0/24 leaves by 2,3,4" and found[0]["in_port"] == 1
-    assert [it["port"] for it in found[0]["items"]] == ["2"]
+    assert [it["port"] for it in found[0]["items"]] == [2]
     assert all(it["matches"] for it in found) and "frame" not in found[1] and "frame" in found[4]
     assert require(OFFICE.read_text(), REQUIREMENTS.read_text()) == found
     assert {it["verdict"] for it in require(MENDED, REQUIREMENTS)} == {"holds"}

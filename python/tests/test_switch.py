@@ -399,7 +399,7 @@ def test_lines_of_a_table_that_are_left_out(switch):
 
 def test_a_switch_without_flows_is_checked(switch):
     assert switch.check() == {
-        "command": "check", "found": False, "summary": {"flows": 0, "win": 0, "never_win": 0, "undecided": 0}, "flows": [], "remarks": []
+        "version": 1, "command": "check", "found": False, "summary": {"flows": 0, "win": 0, "never_win": 0, "undecided": 0}, "flows": [], "remarks": []
     }
 
 
@@ -416,8 +416,8 @@ def test_two_switches_are_compared(switch):
         assert found["same"] is False and not found["ports_differ"]
         [difference] = found["differences"]
         frame = bytes.fromhex(difference["frame"])
-        assert (difference["at"], difference["in_port"], difference["second"]) == ("2", 1, [])
-        assert difference["first"] == [{"port": "2", "frame": difference["frame"]}] and difference["sets"] == 1
+        assert (difference["at"], difference["in_port"], difference["second"]) == (2, 1, [])
+        assert difference["first"] == [{"port": 2, "frame": difference["frame"]}] and difference["sets"] == 1
         assert switch.frame(1, frame) == [Sent(2, frame)] and other.frame(1, frame) == []
         other.port_add(3)
         assert switch.diff(other)["ports_differ"] is True
@@ -426,7 +426,7 @@ def test_two_switches_are_compared(switch):
 def test_two_files_are_compared():
     assert diff(EXAMPLES / "router.flows", (EXAMPLES / "router.flows").read_text())["same"] is True
     places = [it["at"] for it in diff(EXAMPLES / "router.flows", EXAMPLES / "router2.flows")["differences"]]
-    assert places == ["3", "controller"]
+    assert places == [3, "controller"]
     assert len(diff(EXAMPLES / "router.flows", EXAMPLES / "router2.flows", frames=True)["differences"]) == 1
     with pytest.raises(ValueError, match="line 1: "):
         diff(EXAMPLES / "router.flows", "flow x\n")
@@ -440,7 +440,7 @@ def test_frames_are_divided_by_their_steps(switch):
     # both flows say the same
     assert sorted(it[0]["entry"] for it in path["hits"]) == [0, 1]
     frame = bytes.fromhex(path["frame"])
-    assert (path["in_port"], path["items"]) == (1, [{"port": "2", "frame": path["frame"]}])
+    assert (path["in_port"], path["items"]) == (1, [{"port": 2, "frame": path["frame"]}])
     assert switch.frame(1, frame) == [Sent(2, frame)]
     # a path for each of them, with a frame that hits its flow
     each = switch.paths(each=True, to=2)["paths"]

@@ -83,8 +83,8 @@ With --explain there are notes below the lines: below a lookup the entry that wo
 table sees; below an action what it changed, why an output sends nothing, and which buckets of a group run. With --why all,
 or --why \"0 100\" for the entries of table 0 that have priority 100, they also say why entries won or lost.
 
-FRAME may be in words, as `ovs-appctl ofproto/trace` takes it: the words of a match (ovs-fields(7)), without masks. Fields of its
-headers that no word says are 0, the TTL is 64, lengths and checksums are right. Then --port may be left out, if in_port says it.
+FRAME may be in words, as `ovs-appctl ofproto/trace` takes it: the words of a match (ovs-fields(7)), without masks, and nw_ttl. Fields
+of its headers that no word says are 0, the TTL is 64, lengths and checksums are right. Then --port may be left out, if in_port says it.
 
   ofswitch trace examples/router.flows in_port=1,dl_dst=02:00:00:00:00:a1,ip,nw_src=10.0.0.1,nw_dst=10.1.1.9
   ofswitch trace examples/router.flows --port 1 0200000000a10200000000010800450000140000000040fd64e30a0000010a010109
@@ -100,7 +100,10 @@ and B name. It prints frames for which the two switches send different output; i
 
   differs by port 3: in_port 1, eth 00:00:00:00:00:00 > 02:00:00:00:00:a1, eth_type 0x0800, ipv4 0.0.0.0 > 10.2.128.0, ip_proto 0, ttl 64
       frame: --port 1 0200000000a1...   the frame, as `trace` takes it
-      first: out by port 3: 0200...     what leaves the switch of A: a frame, a packet to the controller, or nothing
+      in words: in_port=1,ip,...        words that `trace` takes for it, if there are such
+      first: hits table 1 entry 2 (line 9, priority 20, ...)   the flow entries that it hits at the switch of A
+      first: out by port 3: 0200...     what leaves that switch: a frame, a packet to the controller, or nothing
+      second: hits table 1 entry 4 (line 11, priority 0)
       second: to the controller: action, table 1, the first 128 bytes: 0200...
   undecided: 2 sets of frames: ...      why it is not known whether frames are treated alike
   1 difference, 2 undecided             or `same: all frames are treated alike`
@@ -128,6 +131,7 @@ only in which entries are hit are one path; with --each, each set is a path of i
 
   path: in_port 1, eth 00:00:00:00:00:00 > 02:00:00:00:00:a1, eth_type 0x0806, ...
       frame: --port 1 0200000000a1...   a frame of the first set, as `trace` takes it; it was run
+      in words: in_port=1,arp,...       words that `trace` takes for it, if there are such
       lookup 0 entry 2                  its steps, in the lines of `trace --lines`
       apply
       output 2 0
@@ -685,7 +689,7 @@ pub fn command<'a>(alloc: Global) -> Result<Command<'a>, AllocError> {
 fn subcommand_of<'a>(alloc: Global, row: &Subcommand) -> Result<Command<'a>, AllocError> {
     let mut command = Command::new(alloc, row.name)
         .about(row.about)
-        .after_help(row.text);
+        .after_long_help(row.text);
     let needed = !row.arguments.iter().any(|it| is_free(&it.kind));
     let mut alternatives = ArgGroup::new(alloc, ALTERNATIVES).required(needed);
     let mut some = false;

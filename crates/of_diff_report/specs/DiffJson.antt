@@ -1,7 +1,8 @@
 -- THE REPORT OF `diff` AS JSON (RFC 8259): one object in one line.
 use Rattle.std.specs.Prelude.{ℕ, ◌==◌, Bool, true, false, List, [], ◌∷◌, ◌++◌, length, codes, decimal, if◌then◌else◌}
 use Rattle.hex.specs.Hex.{encode_lower}
-use Rattle.of_json.specs.Parts.{key, listed, number_member, quoted, text_member, truth}
+use Rattle.of_datapath.specs.Datapath.{Forwarding}
+use Rattle.of_json.specs.Parts.{document_head, key, listed, number_member, quoted, text_member, truth}
 use Rattle.of_json.specs.Strings.{array_member}
 use Rattle.of_alike.specs.declared.alike.Where.{Where}
 use Rattle.of_alike.specs.declared.alike.Where.TheVariants.{Controller, Port as ByPort}
@@ -10,22 +11,29 @@ use Rattle.of_diff.specs.declared.difference.Differences.{Differences}
 use Rattle.of_diff.specs.declared.difference.Undecided.{Undecided}
 use Rattle.of_diff.specs.declared.difference.Why.{Why}
 use Rattle.of_diff.specs.declared.difference.Why.TheVariants.{OtherActions, Search, Steps, UnknownTag}
-use Rattle.of_json.specs.LeavingJson.{items_member, place_member}
+use Rattle.of_json.specs.LeavingJson.{controller_place, items_member, port_place}
+use Rattle.of_diff_report.specs.declared.hits.FileFlows.{FileFlows}
+use Rattle.of_diff_report.specs.EntryHits.{hit_entries_member}
 use Rattle.of_diff_report.specs.DiffWords.{are_same_with}
 
 -- ---- a difference
 
 unfoldable pub at_member : Where → List ℕ
-at_member (ByPort port) = place_member (codes "at") (decimal port)
-at_member Controller = place_member (codes "at") (codes "controller")
+at_member (ByPort port) = port_place (codes "at") port
+at_member Controller = controller_place (codes "at")
+
+-- the entries that the frame hits at each switch
+unfoldable pub both_hits_members : FileFlows → FileFlows → Forwarding → Forwarding → ℕ → List ℕ → List ℕ
+both_hits_members a b f g port frame =
+    hit_entries_member (codes "first_entries") a port frame f ++ hit_entries_member (codes "second_entries") b port frame g
 
 unfoldable pub difference_members : Difference → List ℕ
 difference_members d =
     at_member d.at ++ number_member (codes "in_port") d.in_port ++ text_member (codes "frame") (encode_lower d.frame.items)
     ++ items_member (codes "first") d.first.items ++ items_member (codes "second") d.second.items ++ number_member (codes "sets") (length d.sets.items)
 
-unfoldable pub difference_object : Difference → List ℕ
-difference_object d = 123 ∷ difference_members d ++ 125 ∷ []
+unfoldable pub difference_object : FileFlows → FileFlows → Forwarding → Forwarding → Difference → List ℕ
+difference_object a b f g d = 123 ∷ difference_members d ++ both_hits_members a b f g d.in_port d.frame.items ++ 125 ∷ []
 
 -- ---- why frames are undecided
 
@@ -45,23 +53,24 @@ abbrev pub same_in_json : List ℕ → Differences → List ℕ
 same_in_json missing ds = if are_same_with missing ds then codes "true" else if length ds.found.items == 0 then codes "null" else codes "false"
 
 unfoldable pub diff_head : List ℕ → Bool → List ℕ
-diff_head same ports = key (codes "command") ++ quoted (codes "diff") ++ 44 ∷ key (codes "same") ++ same ++ 44 ∷ key (codes "ports_differ") ++ truth ports
+diff_head same ports = document_head (codes "diff") ++ 44 ∷ key (codes "same") ++ same ++ 44 ∷ key (codes "ports_differ") ++ truth ports
 
 unfoldable pub missing_member : List ℕ → List ℕ
 missing_member missing = array_member (codes "missing_ports") (listed decimal missing)
 
-unfoldable pub found_member : List Difference → List ℕ
-found_member found = array_member (codes "differences") (listed difference_object found)
+-- the objects of differences
+abbrev pub differences_listed : FileFlows → FileFlows → Forwarding → Forwarding → List Difference → List ℕ
+differences_listed a b f g found = listed (difference_object a b f g) found
 
 unfoldable pub undecided_member : List Undecided → List ℕ
 undecided_member undecided = array_member (codes "undecided") (listed undecided_string undecided)
 
-unfoldable pub diff_document : List ℕ → Bool → List ℕ → List Difference → List Undecided → List ℕ
-diff_document same ports missing found undecided =
-    123 ∷ diff_head same ports ++ missing_member missing ++ found_member found ++ undecided_member undecided ++ 125 ∷ 10 ∷ []
+unfoldable pub diff_document : List ℕ → Bool → List ℕ → List ℕ → List Undecided → List ℕ
+diff_document same ports missing objects undecided =
+    123 ∷ diff_head same ports ++ missing_member missing ++ array_member (codes "differences") objects ++ undecided_member undecided ++ 125 ∷ 10 ∷ []
 
-abbrev pub diff_json : List ℕ → Differences → List ℕ
-diff_json missing ds = diff_document (same_in_json missing ds) false missing ds.found.items ds.undecided.items
+abbrev pub diff_json : FileFlows → FileFlows → List ℕ → Forwarding → Forwarding → Differences → List ℕ
+diff_json a b missing f g ds = diff_document (same_in_json missing ds) false missing (differences_listed a b f g ds.found.items) ds.undecided.items
 
 -- of switches whose ports differ
 abbrev pub other_ports_json : List ℕ → List ℕ

@@ -3,9 +3,10 @@
 use Rattle.std.specs.Prelude.{ℕ, ◌==◌, Bool, true, false, List, [], ◌∷◌, ◌++◌, length, filter, codes, decimal, if◌then◌else◌}
 use Rattle.std.specs.List.{flat_map}
 use Rattle.of_text.specs.Lines.{ended}
+use Rattle.of_machine.specs.declared.data.Item.{Item}
 use Rattle.of_datapath.specs.Datapath.{Forwarding}
 use Rattle.of_trace.specs.Words.{heading}
-use Rattle.of_json.specs.LeavingWords.{frame_line, side_words}
+use Rattle.of_json.specs.LeavingWords.{frame_lines, side_words}
 use Rattle.of_json.specs.UndecidedWords.{undecided_count, undecided_sets}
 use Rattle.of_alike.specs.declared.alike.Where.{Where}
 use Rattle.of_alike.specs.declared.alike.Where.TheVariants.{Controller, Port as ByPort}
@@ -14,6 +15,8 @@ use Rattle.of_diff.specs.declared.difference.Differences.{Differences}
 use Rattle.of_diff.specs.declared.difference.Undecided.{Undecided}
 use Rattle.of_diff.specs.declared.difference.Why.{Why}
 use Rattle.of_diff.specs.declared.difference.Why.TheVariants.{OtherActions, Search, Steps, UnknownTag}
+use Rattle.of_diff_report.specs.declared.hits.FileFlows.{FileFlows}
+use Rattle.of_diff_report.specs.EntryHits.{hit_lines}
 
 -- ---- ports that groups or flows of the files name, and that the switches do not have
 
@@ -23,8 +26,8 @@ missing_line port = codes "port " ++ decimal port ++ codes " is named, and the s
 abbrev pub missing_lines : List ℕ → List ℕ
 missing_lines ports = flat_map missing_line ports
 
--- ---- a difference: where something else leaves, the frame, its port and bytes as `trace` takes them, what leaves each switch, and how many sets of frames
--- it has, if more than one
+-- ---- a difference: where something else leaves, the frame as the first switch receives it, and as `trace` takes it, for each switch the entries that it
+-- hits and what leaves, and how many sets of frames it has, if more than one
 
 unfoldable pub where_words : Where → List ℕ
 where_words (ByPort port) = codes "differs by port " ++ decimal port ++ codes ": "
@@ -36,10 +39,15 @@ sets_words n = codes "    sets of frames: " ++ decimal n ++ 10 ∷ []
 unfoldable pub sets_line : ℕ → List ℕ
 sets_line n = if n == 1 then [] else sets_words n
 
-unfoldable pub difference_words : Forwarding → Difference → List ℕ
-difference_words f d =
-    where_words d.at ++ ended (heading f d.in_port d.frame.items) ++ frame_line d.in_port d.frame.items
-    ++ side_words (codes "    first: ") d.first.items ++ side_words (codes "    second: ") d.second.items ++ sets_line (length d.sets.items)
+-- the entries that the frame hits at a switch, and what leaves it
+unfoldable pub switch_words : List ℕ → FileFlows → Forwarding → ℕ → List ℕ → List Item → List ℕ
+switch_words who flows f port frame items = hit_lines who flows port frame f ++ side_words who items
+
+unfoldable pub difference_words : FileFlows → FileFlows → Forwarding → Forwarding → Difference → List ℕ
+difference_words a b f g d =
+    where_words d.at ++ ended (heading f d.in_port d.frame.items) ++ frame_lines d.in_port d.frame.items
+    ++ switch_words (codes "    first: ") a f d.in_port d.frame.items d.first.items
+    ++ switch_words (codes "    second: ") b g d.in_port d.frame.items d.second.items ++ sets_line (length d.sets.items)
 
 -- ---- why frames are undecided: for each reason how many sets of frames
 
@@ -90,9 +98,9 @@ diff_summary missing ds =
     if are_same ds then same_words missing ++ 10 ∷ []
     else difference_count (length ds.found.items) ++ undecided_count (length ds.undecided.items) ++ 10 ∷ []
 
--- THE REPORT, for the first switch
-unfoldable pub diff_words : List ℕ → Forwarding → Differences → List ℕ
-diff_words missing f ds = missing_lines missing ++ flat_map (difference_words f) ds.found.items ++ undecided_words ds.undecided.items ++ diff_summary missing ds
+-- THE REPORT
+unfoldable pub diff_words : FileFlows → FileFlows → List ℕ → Forwarding → Forwarding → Differences → List ℕ
+diff_words a b missing f g ds = missing_lines missing ++ flat_map (difference_words a b f g) ds.found.items ++ undecided_words ds.undecided.items ++ diff_summary missing ds
 
 -- of switches whose ports differ
 abbrev pub other_ports_words : List ℕ → List ℕ

@@ -1,3 +1,4 @@
+pub mod EntryHits
 pub mod DiffWords
 pub mod DiffJson
 pub mod DiffFiles

@@ -1,14 +1,18 @@
 //! What is found about two switches, as JSON.
 ghost use Rattle.std.specs.Prelude.{◌≡◌, ◌++◌, decimal, IfOk, OnOk};
-ghost use Rattle.of_diff_report.specs.DiffJson.{at_member, diff_document, diff_head, diff_json, difference_members, difference_object, found_member, missing_member, other_ports_json, same_in_json, undecided_member, undecided_string, why_name};
+ghost use Rattle.of_diff_report.specs.DiffJson.{at_member, both_hits_members, diff_document, diff_head, diff_json, difference_members, difference_object, differences_listed, missing_member, other_ports_json, same_in_json, undecided_member, undecided_string, why_name};
 
+use crate::hits::{FileFlows, push_hits_member};
 use crate::words::is_same_with;
 use of_alike::Where;
+use of_classifier::Lookup;
 use of_diff::{Difference, Differences, Undecided, Why};
 use of_json::{
-    push_array_member, push_bytes_member, push_controller_place, push_items_member, push_key,
-    push_number_member, push_port_place, push_quoted, push_truth,
+    begin_array, push_array_member, push_bytes_member, push_controller_place, push_document_head,
+    push_items_member, push_key, push_listed, push_number_member, push_port_place, push_quoted,
+    push_truth,
 };
+use of_switch::Switch;
 use of_values::push_decimal;
 use std::alloc::{AllocError, Global};
 
@@ -38,31 +42,71 @@ fn push_difference_members(
     push_number_member(out, b"sets", difference.sets.len() as u128)
 }
 
-#[tactic(auto, unfolding(crate::specs::DiffJson::difference_object))]
-fn push_difference_object(
+// Appends the entries that a frame hits at each switch.
+#[tactic(auto, unfolding(crate::specs::DiffJson::both_hits_members))]
+fn push_both_hits<L: Lookup>(
     alloc: Global,
     out: &mut Vec<u8>,
+    first: (&FileFlows<'_>, &Switch<L>),
+    second: (&FileFlows<'_>, &Switch<L>),
+    port: u32,
+    frame: &[u8],
+) -> Result<(), AllocError>
+    ensures { OnOk result (out.new.items ≡ out.old.items ++
+        both_hits_members first.0.now second.0.now first.1.now.core.forwarding second.1.now.core.forwarding port frame.now) }
+{
+    push_hits_member(alloc, out, b"first_entries", first.1, first.0, port, frame)?;
+    push_hits_member(
+        alloc,
+        out,
+        b"second_entries",
+        second.1,
+        second.0,
+        port,
+        frame,
+    )
+}
+
+#[tactic(auto, unfolding(crate::specs::DiffJson::difference_object))]
+fn push_difference_object<L: Lookup>(
+    alloc: Global,
+    out: &mut Vec<u8>,
+    first: (&FileFlows<'_>, &Switch<L>),
+    second: (&FileFlows<'_>, &Switch<L>),
     difference: &Difference,
 ) -> Result<(), AllocError>
-    ensures { OnOk result (out.new.items ≡ out.old.items ++ difference_object difference.now) }
+    ensures { OnOk result (out.new.items ≡ out.old.items ++
+        difference_object first.0.now second.0.now first.1.now.core.forwarding second.1.now.core.forwarding difference.now) }
 {
     out.push(b'{')?;
     push_difference_members(alloc, out, difference)?;
+    push_both_hits(
+        alloc,
+        out,
+        first,
+        second,
+        difference.in_port,
+        &difference.frame,
+    )?;
     out.push(b'}')?;
     Ok(())
 }
 
-#[tactic(auto, unfolding(crate::specs::DiffJson::found_member))]
-fn push_found_member(
+// The objects of differences.
+fn difference_objects<L: Lookup>(
     alloc: Global,
-    out: &mut Vec<u8>,
+    first: (&FileFlows<'_>, &Switch<L>),
+    second: (&FileFlows<'_>, &Switch<L>),
     found: &[Difference],
-) -> Result<(), AllocError>
-    ensures { OnOk result (out.new.items ≡ out.old.items ++ found_member found.now) }
+) -> Result<Vec<u8>, AllocError>
+    ensures { IfOk result (λ text. text.items ≡
+        differences_listed first.0.now second.0.now first.1.now.core.forwarding second.1.now.core.forwarding found.now) }
 {
-    push_array_member(out, b"differences", found, |out, difference| {
-        push_difference_object(alloc, out, difference)
-    })
+    let mut out = Vec::new(alloc);
+    push_listed(&mut out, found, |out, difference| {
+        push_difference_object(alloc, out, first, second, difference)
+    })?;
+    Ok(out)
 }
 
 fn name_of_why(why: Why) -> &'static [u8]
@@ -94,8 +138,7 @@ fn push_undecided_member(out: &mut Vec<u8>, undecided: &[Undecided]) -> Result<(
 fn push_head(out: &mut Vec<u8>, same: &[u8], ports_differ: bool) -> Result<(), AllocError>
     ensures { OnOk result (out.new.items ≡ out.old.items ++ diff_head same.now ports_differ) }
 {
-    push_key(out, b"command")?;
-    push_quoted(out, b"diff")?;
+    push_document_head(out, b"diff")?;
     out.push(b',')?;
     push_key(out, b"same")?;
     out.extend_from_slice(same)?;
@@ -117,22 +160,24 @@ fn push_missing_member(out: &mut Vec<u8>, missing: &[u32]) -> Result<(), AllocEr
     push_array_member(out, b"missing_ports", missing, push_port)
 }
 
-#[tactic(auto, unfolding(crate::specs::DiffJson::diff_document))]
+#[tactic(auto, unfolding(crate::specs::DiffJson::diff_document, of_json::specs::Strings::array_member))]
 fn document(
     alloc: Global,
     same: &[u8],
     ports_differ: bool,
     missing: &[u32],
-    found: &[Difference],
+    objects: &[u8],
     undecided: &[Undecided],
 ) -> Result<Vec<u8>, AllocError>
-    ensures { IfOk result (λ text. text.items ≡ diff_document same.now ports_differ missing.now found.now undecided.now) }
+    ensures { IfOk result (λ text. text.items ≡ diff_document same.now ports_differ missing.now objects.now undecided.now) }
 {
     let mut out = Vec::new(alloc);
     out.push(b'{')?;
     push_head(&mut out, same, ports_differ)?;
     push_missing_member(&mut out, missing)?;
-    push_found_member(alloc, &mut out, found)?;
+    begin_array(&mut out, b"differences")?;
+    out.extend_from_slice(objects)?;
+    out.push(b']')?;
     push_undecided_member(&mut out, undecided)?;
     out.push(b'}')?;
     out.push(b'\n')?;
@@ -152,19 +197,23 @@ fn same_word(missing: &[u32], found: &Differences) -> &'static [u8]
 }
 
 /// What is found about two switches, as JSON.
-pub fn differences_as_json(
+pub fn differences_as_json<L: Lookup>(
     alloc: Global,
+    first: (&FileFlows<'_>, &Switch<L>),
+    second: (&FileFlows<'_>, &Switch<L>),
     missing: &[u32],
     found: &Differences,
 ) -> Result<Vec<u8>, AllocError>
-    ensures { IfOk result (λ text. text.items ≡ diff_json missing.now found.now) }
+    ensures { IfOk result (λ text. text.items ≡
+        diff_json first.0.now second.0.now missing.now first.1.now.core.forwarding second.1.now.core.forwarding found.now) }
 {
+    let objects = difference_objects(alloc, first, second, &found.found)?;
     document(
         alloc,
         same_word(missing, found),
         false,
         missing,
-        &found.found,
+        &objects,
         &found.undecided,
     )
 }

@@ -1,8 +1,10 @@
 //! The report of `diff`: which frames two switches treat differently, in words or as JSON.
 #![tactic(auto)]
 
+mod hits;
 mod json;
 mod words;
 mod writing;
 
+pub use hits::FileFlows;
 pub use writing::{DiffForm, DiffVerdict, write_differences};

@@ -1,12 +1,14 @@
 //! What is found about two switches, in words.
 ghost use Rattle.std.specs.Prelude.{◌≡◌, ◌++◌, ◌∷◌, IfOk, OnOk};
 ghost use Rattle.std.specs.List.{flat_map};
-ghost use Rattle.of_diff_report.specs.DiffWords.{are_same, are_same_with, count_why, diff_summary, diff_words, difference_count, difference_words, is_why, missing_line, missing_lines, other_ports_words, same_words, sets_line, sets_words, undecided_line, undecided_words, where_words, undecided_why};
+ghost use Rattle.of_diff_report.specs.DiffWords.{are_same, are_same_with, count_why, diff_summary, diff_words, difference_count, difference_words, is_why, missing_line, missing_lines, other_ports_words, same_words, sets_line, sets_words, switch_words, undecided_line, undecided_words, where_words, undecided_why};
 
+use crate::hits::{FileFlows, push_hit_lines};
 use of_alike::Where;
 use of_classifier::Lookup;
 use of_diff::{Difference, Differences, Undecided, Why};
-use of_json::{push_frame_line, push_side, push_undecided_count, push_undecided_sets};
+use of_json::{push_frame_lines, push_side, push_undecided_count, push_undecided_sets};
+use of_machine::Item;
 use of_switch::Switch;
 use of_trace::push_heading;
 use of_values::push_decimal;
@@ -68,33 +70,72 @@ fn push_sets_line(out: &mut Vec<u8>, count: usize) -> Result<(), AllocError>
     }
 }
 
+// Appends the entries that a frame hits at a switch, and what leaves it.
+#[tactic(auto, unfolding(crate::specs::DiffWords::switch_words))]
+fn push_switch<L: Lookup>(
+    alloc: Global,
+    out: &mut Vec<u8>,
+    who: &[u8],
+    of: (&FileFlows<'_>, &Switch<L>),
+    port: u32,
+    frame: &[u8],
+    items: &[Item],
+) -> Result<(), AllocError>
+    ensures { OnOk result (out.new.items ≡ out.old.items ++
+        switch_words who.now of.0.now of.1.now.core.forwarding port frame.now items.now) }
+{
+    push_hit_lines(alloc, out, who, of.1, of.0, port, frame)?;
+    push_side(alloc, out, who, items)
+}
+
 #[tactic(auto, unfolding(crate::specs::DiffWords::difference_words))]
 fn push_difference<L: Lookup>(
     alloc: Global,
     out: &mut Vec<u8>,
-    first: &Switch<L>,
+    first: (&FileFlows<'_>, &Switch<L>),
+    second: (&FileFlows<'_>, &Switch<L>),
     difference: &Difference,
 ) -> Result<(), AllocError>
-    ensures { OnOk result (out.new.items ≡ out.old.items ++ difference_words first.now.core.forwarding difference.now) }
+    ensures { OnOk result (out.new.items ≡ out.old.items ++
+        difference_words first.0.now second.0.now first.1.now.core.forwarding second.1.now.core.forwarding difference.now) }
 {
+    let (port, frame) = (difference.in_port, difference.frame.as_slice());
     push_where(out, difference.at)?;
-    push_heading(alloc, out, first, difference.in_port, &difference.frame)?;
-    push_frame_line(alloc, out, difference.in_port, &difference.frame)?;
-    push_side(alloc, out, b"    first: ", &difference.first)?;
-    push_side(alloc, out, b"    second: ", &difference.second)?;
+    push_heading(alloc, out, first.1, port, frame)?;
+    push_frame_lines(alloc, out, port, frame)?;
+    push_switch(
+        alloc,
+        out,
+        b"    first: ",
+        first,
+        port,
+        frame,
+        &difference.first,
+    )?;
+    push_switch(
+        alloc,
+        out,
+        b"    second: ",
+        second,
+        port,
+        frame,
+        &difference.second,
+    )?;
     push_sets_line(out, difference.sets.len())
 }
 
 fn push_differences<L: Lookup>(
     alloc: Global,
     out: &mut Vec<u8>,
-    first: &Switch<L>,
+    first: (&FileFlows<'_>, &Switch<L>),
+    second: (&FileFlows<'_>, &Switch<L>),
     found: &[Difference],
 ) -> Result<(), AllocError>
-    ensures { OnOk result (out.new.items ≡ out.old.items ++ flat_map (difference_words first.now.core.forwarding) found.now) }
+    ensures { OnOk result (out.new.items ≡ out.old.items ++
+        flat_map (difference_words first.0.now second.0.now first.1.now.core.forwarding second.1.now.core.forwarding) found.now) }
 {
     for difference in found {
-        push_difference(alloc, out, first, difference)?;
+        push_difference(alloc, out, first, second, difference)?;
     }
     Ok(())
 }
@@ -216,15 +257,17 @@ fn push_summary(out: &mut Vec<u8>, missing: &[u32], found: &Differences) -> Resu
 #[tactic(auto, unfolding(crate::specs::DiffWords::diff_words))]
 pub fn differences_in_words<L: Lookup>(
     alloc: Global,
-    first: &Switch<L>,
+    first: (&FileFlows<'_>, &Switch<L>),
+    second: (&FileFlows<'_>, &Switch<L>),
     missing: &[u32],
     found: &Differences,
 ) -> Result<Vec<u8>, AllocError>
-    ensures { IfOk result (λ text. text.items ≡ diff_words missing.now first.now.core.forwarding found.now) }
+    ensures { IfOk result (λ text. text.items ≡
+        diff_words first.0.now second.0.now missing.now first.1.now.core.forwarding second.1.now.core.forwarding found.now) }
 {
     let mut out = Vec::new(alloc);
     push_missing(&mut out, missing)?;
-    push_differences(alloc, &mut out, first, &found.found)?;
+    push_differences(alloc, &mut out, first, second, &found.found)?;
     push_undecided(&mut out, &found.undecided)?;
     push_summary(&mut out, missing, found)?;
     Ok(out)

@@ -6,8 +6,10 @@ ghost use Rattle.of_symbolic_run.specs.Received.{IsReceivedAt};
 ghost use Rattle.of_diff.specs.Differences.{IsDifference, IsTreatedAlike};
 ghost use Rattle.of_alike.specs.declared.alike.Compared.{Compared as WhatIsCompared};
 ghost use Rattle.of_diff.specs.declared.difference.Difference.{Difference};
+ghost use Rattle.of_diff_report.specs.declared.hits.FileFlows.{FileFlows as AFileFlows};
 ghost use Rattle.of_diff_report.specs.DiffFiles.{AreFoundBetween, IsDiffReport, IsVerdict, diff_text, diff_verdict, verdict_on};
 
+use crate::hits::FileFlows;
 use crate::json::{differences_as_json, other_ports_as_json};
 use crate::words::{differences_in_words, is_same_with, other_ports_in_words};
 use of_alike::Compared;
@@ -54,7 +56,7 @@ fn find_differences<L: Lookup>(
 
 // That the ports differ.
 fn other_ports_in(alloc: Global, form: DiffForm, missing: &[u32]) -> Result<Vec<u8>, AllocError>
-    ensures { (f : Forwarding) → IfOk result (λ text. text.items ≡ diff_text form missing.now f None) }
+    ensures { (a b : AFileFlows) (f g : Forwarding) → IfOk result (λ text. text.items ≡ diff_text form a b missing.now f g None) }
 {
     match form {
         DiffForm::Words => other_ports_in_words(alloc, missing),
@@ -66,15 +68,17 @@ fn other_ports_in(alloc: Global, form: DiffForm, missing: &[u32]) -> Result<Vec<
 fn found_in<L: Lookup>(
     alloc: Global,
     form: DiffForm,
-    first: &Switch<L>,
+    first: (&FileFlows<'_>, &Switch<L>),
+    second: (&FileFlows<'_>, &Switch<L>),
     missing: &[u32],
     found: &Differences,
 ) -> Result<Vec<u8>, AllocError>
-    ensures { IfOk result (λ text. text.items ≡ diff_text form missing.now first.now.core.forwarding (Some found.now)) }
+    ensures { IfOk result (λ text. text.items ≡
+        diff_text form first.0.now second.0.now missing.now first.1.now.core.forwarding second.1.now.core.forwarding (Some found.now)) }
 {
     match form {
-        DiffForm::Words => differences_in_words(alloc, first, missing, found),
-        DiffForm::Json => differences_as_json(alloc, missing, found),
+        DiffForm::Words => differences_in_words(alloc, first, second, missing, found),
+        DiffForm::Json => differences_as_json(alloc, first, second, missing, found),
     }
 }
 
@@ -82,15 +86,17 @@ fn found_in<L: Lookup>(
 fn text_in<L: Lookup>(
     alloc: Global,
     form: DiffForm,
-    first: &Switch<L>,
+    first: (&FileFlows<'_>, &Switch<L>),
+    second: (&FileFlows<'_>, &Switch<L>),
     missing: &[u32],
     found: &Option<Differences>,
 ) -> Result<Vec<u8>, AllocError>
-    ensures { IfOk result (λ text. text.items ≡ diff_text form missing.now first.now.core.forwarding found.now) }
+    ensures { IfOk result (λ text. text.items ≡
+        diff_text form first.0.now second.0.now missing.now first.1.now.core.forwarding second.1.now.core.forwarding found.now) }
 {
     match found {
         None => other_ports_in(alloc, form, missing),
-        Some(found) => found_in(alloc, form, first, missing, found),
+        Some(found) => found_in(alloc, form, first, second, missing, found),
     }
 }
 
@@ -118,15 +124,15 @@ fn verdict_of(missing: &[u32], found: &Option<Differences>) -> DiffVerdict
     }
 }
 
-/// Writes which frames two switches treat differently (OpenFlow 1.3.5, 5.1). The runs of all frames take at most so many steps together, and each
-/// search for a frame as many. Ports that groups or flows name, and that the switches do not have, are `missing`. Ok says whether the switches treat all
-/// frames alike; they are not said to if a port is missing.
+/// Writes which frames two switches treat differently (OpenFlow 1.3.5, 5.1), and which of their flow entries those hit. The runs of all frames take at
+/// most so many steps together, and each search for a frame as many. Ports that groups or flows name, and that the switches do not have, are `missing`.
+/// Ok says whether the switches treat all frames alike; they are not said to if a port is missing.
 ///
 /// Err is `WriteFault`, where a write failed and a prefix of the text was written; or `NoMemory`, where nothing was.
 pub fn write_differences<L: Lookup, W: Sink>(
     alloc: Global,
-    first: &Switch<L>,
-    second: &Switch<L>,
+    first: (&FileFlows<'_>, &Switch<L>),
+    second: (&FileFlows<'_>, &Switch<L>),
     missing: &[u32],
     compared: Compared,
     steps: usize,
@@ -134,18 +140,18 @@ pub fn write_differences<L: Lookup, W: Sink>(
     writer: &mut W,
 ) -> Result<DiffVerdict, Ended>
     requires { W.failures writer.old ≡ 0 }
-    ensures output { Writes (IsDiffReport result form missing.now compared steps first.now.core.forwarding second.now.core.forwarding) (ended_as result)
-        (W.taken writer.old) (W.taken writer.new) }
-    ensures verdict { IfOk result (IsVerdict compared first.now.core.forwarding second.now.core.forwarding) }
-    ensures same { result ≡ Ok DiffVerdict.Same → (frame : List ℕ) (port : ℕ) → IsReceivedAt (world_of first.now.core.forwarding) frame port
-        → IsTreatedAlike compared (world_of first.now.core.forwarding) (world_of second.now.core.forwarding) frame port }
+    ensures output { Writes (IsDiffReport result form first.0.now second.0.now missing.now compared steps first.1.now.core.forwarding
+        second.1.now.core.forwarding) (ended_as result) (W.taken writer.old) (W.taken writer.new) }
+    ensures verdict { IfOk result (IsVerdict compared first.1.now.core.forwarding second.1.now.core.forwarding) }
+    ensures same { result ≡ Ok DiffVerdict.Same → (frame : List ℕ) (port : ℕ) → IsReceivedAt (world_of first.1.now.core.forwarding) frame port
+        → IsTreatedAlike compared (world_of first.1.now.core.forwarding) (world_of second.1.now.core.forwarding) frame port }
     ensures none_missing { result ≡ Ok DiffVerdict.Same → missing.now ≡ [] }
     ensures write_fault { (ended_as result ≡ Ended.WriteFault) ↔ (0 < W.failures writer.new) }
 {
-    let Ok(found) = find_differences(alloc, first, second, compared, steps) else {
+    let Ok(found) = find_differences(alloc, first.1, second.1, compared, steps) else {
         return Err(Ended::NoMemory);
     };
-    let Ok(text) = text_in(alloc, form, first, missing, &found) else {
+    let Ok(text) = text_in(alloc, form, first, second, missing, &found) else {
         return Err(Ended::NoMemory);
     };
     if write_all(writer, &text) {

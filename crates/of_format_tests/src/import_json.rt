@@ -8,7 +8,7 @@ actions=NORMAL,2
 ";
 
 const SKIPPED_JSON: &str =
-    r##"{"command":"import","imported":true,"left_out":2,"faults":[{"line":1,"words":[{"word":"ct(commit)","why":"not supported by this switch, or not an ovs-ofctl keyword"}]}],"refused":[],"keywords":[{"keyword":"ct","lines":1}],"tables":[],"groups":[],"flows":[{"line":2,"table":0,"priority":32768,"match":{},"counters":{},"without":["NORMAL"],"resubmit":false}],"text":["# part of a table: 1 lines left out","# line 1 left out: ct(commit)","# line 2 without action NORMAL","flow 0 32768 0x0000000000000000 0 0 0","apply","output 2 0"]}
+    r##"{"version":1,"command":"import","imported":true,"left_out":2,"faults":[{"line":1,"words":[{"word":"ct(commit)","why":"not supported by this switch, or not an ovs-ofctl keyword"}]}],"refused":[],"keywords":[{"keyword":"ct","lines":1}],"tables":[],"groups":[],"flows":[{"line":2,"table":0,"priority":32768,"match":{},"counters":{},"without":["NORMAL"],"resubmit":false}],"text":["# part of a table: 1 lines left out","# line 1 left out: ct(commit)","# line 2 without action NORMAL","flow 0 32768 0x0000000000000000 0 0 0","apply","output 2 0"]}
 "##;
 
 const SKIP: Mode = Mode {

@@ -1,11 +1,21 @@
 -- The frames that words say have what the words say.
-use Rattle.std.proofs.Common.{◌≡◌, ℕ, ◌%◌, ◌^◌, Bool, true, false, cond, not, ◌&&◌, List, [], ◌∷◌, Option, Some, None, Result, Ok, refl, sym, ap, ◌∙◌, subst, inl, inr}
+use Rattle.std.proofs.Common.{◌≡◌, ℕ, ◌%◌, ◌^◌, Bool, true, false, cond, not, ◌&&◌, List, [], ◌∷◌, Option, Some, None, Result, Ok, Err, refl, sym, ap, ◌∙◌, subst, inl, inr}
 use Rattle.std.specs.Prelude.{◌||◌, ◌==◌, unwrap_or}
+use Rattle.std.proofs.Math.Path.{fun_ext}
 use Rattle.std.specs.List.{list_any}
 use Rattle.of_layers.specs.declared.field.Field.{Field}
 use Rattle.of_layers.specs.declared.field.Field.TheVariants.{InPort, Metadata, EthType, VlanVid, VlanPcp, IpProto}
 use Rattle.of_layers.specs.declared.field.Prerequisite.TheVariants as needs
 use Rattle.of_layers.specs.Fields.{row_of, number_of, bit_count, prerequisite_of}
+use Rattle.of_layers.specs.Layers.{Layers, ttl}
+use Rattle.of_layers.specs.Reading.{layers_of}
+use Rattle.of_headers.specs.FieldMap.{field_map, vid}
+use Rattle.of_rewrite.specs.Frames.{IsFrame, frame_ttl}
+use Rattle.of_rewrite.specs.Replaced.{layers_set}
+use Rattle.of_rewrite.specs.TimeToLive.{ttl_of}
+use Rattle.of_rewrite.proofs.Framing.{ttl_frame}
+use Rattle.of_rewrite.proofs.Layering.{layers_after_ttl}
+use Rattle.of_rewrite.proofs.Looking.{field_kept}
 use Rattle.of_frames.specs.declared.shape.Shape.{Shape}
 use Rattle.of_frames.specs.declared.shape.Shape.TheVariants as shapes
 use Rattle.of_frames.specs.declared.shape.Tagging.{Tagging}
@@ -15,10 +25,11 @@ use Rattle.of_frames.specs.Given.{given_number, or_zero, fields_given, vlan_vid_
 use Rattle.of_frames.proofs.FrameLemmas.{given_fields, given_frame}
 use Rattle.of_oxm.specs.declared.match_field.MatchField.{MatchField}
 use Rattle.of_oxm.specs.Relations.{agrees, first_difference as missed, matches_map}
-use Rattle.of_ovs_words.specs.Outcomes.{◌>>=◌}
-use Rattle.of_ovs_words.specs.Words.{words_from}
-use Rattle.of_frame_words.specs.Frames.{ReceivedFrame, Has, IsDefault, at_port, with_setting, set_by, shape_by, tagging_by, received_by, received_frame, map_of, unless_missed, checked, frame_in_words, is_unsaid}
-use Rattle.of_frame_words.specs.Said.{WordRefusal, with_setting_words}
+use Rattle.of_ovs_words.specs.declared.why.Why.{Why as WordWhy}
+use Rattle.of_ovs_words.specs.Outcomes.{◌>>=◌, numbered}
+use Rattle.of_ovs_words.specs.Words.{word_value, words_from}
+use Rattle.of_frame_words.specs.Frames.{ReceivedFrame, Has, IsDefault, at_port, with_setting, set_by, shape_by, tagging_by, received_by, received_frame, map_of, unless_missed, checked, frame_in_words, is_unsaid, with_ttl, with_ttl_said, with_ttl_word, with_ttl_words}
+use Rattle.of_frame_words.specs.Said.{WordRefusal, is_ttl_word, with_setting_words}
 
 -- ---- settings that are all had
 
@@ -91,24 +102,78 @@ defaults v port f = elim f as (λ f. v f ≡ 0 → (number_of f == number_of InP
 map_is : (v : Field → ℕ) (f : Field) → map_of (received_by v) f ≡ fields_given (shape_by (v EthType) (v IpProto)) (tagging_by (v VlanVid)) v (v InPort) 0 f
 map_is v f = ap (λ (map : Field → Option ℕ). map f) (given_fields (shape_by (v EthType) (v IpProto)) (tagging_by (v VlanVid)) v (v InPort) 0)
 
+-- ---- another TTL leaves all fields
+
+ttl_kept : (n : ℕ) (l : Layers) (port metadata : ℕ) (f : Field) → field_map (layers_set ttl n l) port metadata f ≡ field_map l port metadata f
+ttl_kept n l port metadata InPort = refl
+ttl_kept n l port metadata Metadata = refl
+ttl_kept n l port metadata VlanVid = ap (λ (x : Option ℕ). Some (vid x)) (field_kept n l VlanVid)
+ttl_kept n l port metadata f = field_kept n l f
+
+abbrev aged : ℕ → ReceivedFrame → ReceivedFrame
+aged n r = record { port = r.port; frame = frame_ttl n r.frame }
+
+aged_map : (n : ℕ) (r : ReceivedFrame) → IsFrame r.frame → map_of (aged n r) ≡ map_of r
+aged_map n r h = fun_ext (λ f. ap (λ (l : Layers). field_map l r.port 0 f) (layers_after_ttl n r.frame h) ∙ ttl_kept n (layers_of r.frame) r.port 0 f)
+
+aged_has : (port : ℕ) (settings : List MatchField) (n : ℕ) (r : ReceivedFrame) → Has port settings r → Has port settings (aged n r)
+aged_has port settings n r h =
+    let same : map_of r ≡ map_of (aged n r) = sym (aged_map n r h.frame) in
+    record {
+      frame = (ttl_frame n r.frame h.frame).1;
+      said = subst (λ (map : Field → Option ℕ). matches_map settings map ≡ true) same h.said;
+      others = λ f u i. subst (λ (map : Field → Option ℕ). IsDefault (map f)) same (h.others f u i);
+      port_is = h.port_is;
+    }
+
+same_frame : (a b : ReceivedFrame) → ◌≡◌ {A = Result ReceivedFrame WordRefusal} (Ok a) (Ok b) → a ≡ b
+same_frame a b e = cc
+
+module _ (port : ℕ) (settings : List MatchField) where
+  ttl_has : (word : List ℕ) (o : Option ℕ) (n : ℕ) (r s : ReceivedFrame) → Has port settings r → with_ttl word o n r ≡ Ok s → Has port settings s
+  ttl_has word None n r s h e = absurd cc
+  ttl_has word (Some old) n r s h e = subst (Has port settings) (same_frame (aged n r) s e) (aged_has port settings n r h)
+
+  said_has : (word : List ℕ) (said : Result ℕ WordWhy) (r s : ReceivedFrame) → Has port settings r → with_ttl_said word said r ≡ Ok s → Has port settings s
+  said_has word (Err why) r s h e = absurd cc
+  said_has word (Ok n) r s h e = ttl_has word (ttl_of (layers_of r.frame)) n r s h e
+
+  either_has : (is : Bool) (word : List ℕ) (r s : ReceivedFrame) → Has port settings r → cond is (with_ttl_said word (numbered 256 (word_value word)) r) (Ok r) ≡ Ok s → Has port settings s
+  either_has true word r s h e = said_has word (numbered 256 (word_value word)) r s h e
+  either_has false word r s h e = subst (Has port settings) (same_frame r s e) h
+
+  word_has : (word : List ℕ) (r s : ReceivedFrame) → Has port settings r → with_ttl_word word r ≡ Ok s → Has port settings s
+  unfolding with_ttl_word
+  word_has word r s h e = either_has (is_ttl_word word) word r s h e
+
+  next_has : (words : List (List ℕ)) (o : Result ReceivedFrame WordRefusal) (s : ReceivedFrame) → ((r : ReceivedFrame) → o ≡ Ok r → Has port settings r) →
+      ((r : ReceivedFrame) → Has port settings r → with_ttl_words words r ≡ Ok s → Has port settings s) → (o >>= with_ttl_words words) ≡ Ok s → Has port settings s
+  next_has words (Ok r) s has rest e = rest r (has r refl) e
+  next_has words (Err x) s has rest e = absurd cc
+
+  words_have : (words : List (List ℕ)) (r s : ReceivedFrame) → Has port settings r → with_ttl_words words r ≡ Ok s → Has port settings s
+  words_have [] r s h e = subst (Has port settings) (same_frame r s e) h
+  words_have (w ∷ ws) r s h e = next_has ws (with_ttl_word w r) s (λ t k. word_has w r t h k) (λ t k. words_have ws t s k) e
+
 -- ---- the whole
 
 unless_ok : (settings : List MatchField) (r s : ReceivedFrame) (o : Option MatchField) → unless_missed settings r o ≡ Ok s → (o ≡ None) × (r ≡ s)
-unless_ok settings r s None e = (refl, same r s e)
-  where
-    same : (r s : ReceivedFrame) → ◌≡◌ {A = Result ReceivedFrame WordRefusal} (Ok r) (Ok s) → r ≡ s
-    same r s e = cc
+unless_ok settings r s None e = (refl, same_frame r s e)
 unless_ok settings r s (Some x) e = absurd cc
 
-pub has_what_is_said : (port : ℕ) (text : List ℕ) (settings : List MatchField) (r : ReceivedFrame) → with_setting_words false [] (words_from 0 text) ≡ Ok settings → frame_in_words port text ≡ Ok r → Has port settings r
-unfolding frame_in_words
-has_what_is_said port text settings r w e =
+checked_has : (port : ℕ) (settings : List MatchField) (r : ReceivedFrame) → checked settings (received_frame port settings) ≡ Ok r → Has port settings r
+checked_has port settings r e =
     let v = or_zero (set_by settings (at_port port)) in
-    let here : checked settings (received_frame port settings) ≡ Ok r = sym (ap (λ x. x >>= λ settings. checked settings (received_frame port settings)) w) ∙ e in
-    let ok = unless_ok settings (received_frame port settings) r (missed settings (map_of (received_frame port settings))) here in
+    let ok = unless_ok settings (received_frame port settings) r (missed settings (map_of (received_frame port settings))) e in
     subst (Has port settings) ok.1 (record {
       frame = given_frame (shape_by (v EthType) (v IpProto)) (tagging_by (v VlanVid)) v;
       said = none_missed settings (map_of (received_frame port settings)) ok.0;
       others = λ f u i. subst IsDefault (sym (map_is v f)) (defaults v (v InPort) f (unsaid_zero port settings f u i) i);
       port_is = λ u. ap (λ (o : Option ℕ). unwrap_or o 0) (unset settings (at_port port) InPort u);
     })
+
+pub has_what_is_said : (port : ℕ) (text : List ℕ) (settings : List MatchField) (r : ReceivedFrame) → with_setting_words false [] (words_from 0 text) ≡ Ok settings → frame_in_words port text ≡ Ok r → Has port settings r
+unfolding frame_in_words
+has_what_is_said port text settings r w e =
+    let here : (checked settings (received_frame port settings) >>= with_ttl_words (words_from 0 text)) ≡ Ok r = sym (ap (λ x. x >>= λ settings. checked settings (received_frame port settings) >>= with_ttl_words (words_from 0 text)) w) ∙ e in
+    next_has port settings (words_from 0 text) (checked settings (received_frame port settings)) r (checked_has port settings) (λ s h k. words_have port settings (words_from 0 text) s r h k) here

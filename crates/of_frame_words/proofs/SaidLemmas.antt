@@ -1,5 +1,5 @@
 -- The fields that settings say, and the frame with these.
-use Rattle.std.proofs.Common.{◌≡◌, ℕ, ◌+◌, ◌<◌, ◌≤◌, false, cond, List, [], length, drop, get_or, Option, Some, None, Result, Ok, Err, sym, ap, ◌∙◌, drop_of_length-le}
+use Rattle.std.proofs.Common.{◌≡◌, ℕ, ◌+◌, ◌<◌, ◌≤◌, false, cond, List, [], length, drop, get_or, Option, Some, None, Result, Ok, Err, refl, sym, ap, ◌∙◌, drop_of_length-le}
 use Rattle.std.specs.Prelude.{◌==◌, bit_and, IfErr}
 use Rattle.std.proofs.Math.Path.{fun_ext}
 use Rattle.std.proofs.lemmas.List.{drop_more}
@@ -16,11 +16,12 @@ use Rattle.of_frames.proofs.KeyLemmas.{numbers_are}
 use Rattle.of_oxm.specs.declared.match_field.MatchField.{MatchField}
 use Rattle.of_ovs_words.specs.FieldWords.{text_for}
 use Rattle.of_ovs_words.specs.Outcomes.{◌>>=◌}
-use Rattle.of_ovs_words.specs.Words.{words_from}
+use Rattle.of_ovs_words.specs.Words.{after_word, word_in, words_from}
+use Rattle.of_ovs_words.proofs.WordLemmas.{first_word}
 use Rattle.of_frame_words.specs.declared.why.NoFrame.{NoFrame}
 use Rattle.of_frame_words.specs.declared.why.NoFrame.TheVariants.{NoMemory, Refused}
 use Rattle.of_oxm.specs.Relations.{first_difference as missed}
-use Rattle.of_frame_words.specs.Frames.{ReceivedFrame, at_port, with_setting, set_by, shape_by, tagging_by, received_frame, received_by, frame_in_words, map_of, why_missed, unless_missed, checked}
+use Rattle.of_frame_words.specs.Frames.{ReceivedFrame, at_port, with_setting, set_by, shape_by, tagging_by, received_frame, received_by, frame_in_words, map_of, why_missed, unless_missed, checked, with_ttl_word, with_ttl_words}
 use Rattle.of_frame_words.specs.Refusals.{IsRefusal, FrameStops}
 use Rattle.of_frame_words.specs.Said.{WordRefusal, with_setting_words}
 use Rattle.of_frame_words.proofs.WordLemmas.{refusal_stops}
@@ -60,16 +61,45 @@ checked_stop settings r map e stop k m h = refusal_stops (checked settings r) (t
 
 -- ---- the whole
 
-pub frame_stops : (port : ℕ) (text : List ℕ) (s : List MatchField) (stop : NoFrame) → s ≡ [] → FrameStops (with_setting_words false s (words_from 0 text)) stop → FrameStops (frame_in_words port text) stop
-unfolding frame_in_words
-frame_stops port text s NoMemory e h = tt
-frame_stops port text s (Refused r) e h =
-    ap (λ (x : Result (List MatchField) WordRefusal). x >>= λ settings. checked settings (received_frame port settings)) (ap (λ (xs : List MatchField). with_setting_words false xs (words_from 0 text)) (sym e) ∙ h)
+-- what follows the settings
+abbrev behind : ℕ → List ℕ → Result (List MatchField) WordRefusal → Result ReceivedFrame WordRefusal
+behind port text x = x >>= λ settings. checked settings (received_frame port settings) >>= with_ttl_words (words_from 0 text)
 
-pub frame_is : (port : ℕ) (text : List ℕ) (s settings : List MatchField) (r : ReceivedFrame) → s ≡ [] → with_setting_words false s (words_from 0 text) ≡ Ok settings → r ≡ received_frame port settings → frame_in_words port text ≡ checked settings r
+said_first : (port : ℕ) (text : List ℕ) (s : List MatchField) (x : Result (List MatchField) WordRefusal) → s ≡ [] → with_setting_words false s (words_from 0 text) ≡ x → frame_in_words port text ≡ behind port text x
 unfolding frame_in_words
-frame_is port text s settings r e w h =
-    ap (λ (x : Result (List MatchField) WordRefusal). x >>= λ settings. checked settings (received_frame port settings)) (ap (λ (xs : List MatchField). with_setting_words false xs (words_from 0 text)) (sym e) ∙ w) ∙ ap (checked settings) (sym h)
+said_first port text s x e w = ap (behind port text) (ap (λ (xs : List MatchField). with_setting_words false xs (words_from 0 text)) (sym e) ∙ w)
+
+pub frame_stops : (port : ℕ) (text : List ℕ) (s : List MatchField) (stop : NoFrame) → s ≡ [] → FrameStops (with_setting_words false s (words_from 0 text)) stop → FrameStops (frame_in_words port text) stop
+frame_stops port text s NoMemory e h = tt
+frame_stops port text s (Refused r) e h = said_first port text s _ e h
+
+checked_first : (port : ℕ) (text : List ℕ) (s settings : List MatchField) (r : ReceivedFrame) → s ≡ [] → with_setting_words false s (words_from 0 text) ≡ Ok settings → r ≡ received_frame port settings → frame_in_words port text ≡ (checked settings r >>= with_ttl_words (words_from 0 text))
+checked_first port text s settings r e w h = said_first port text s (Ok settings) e w ∙ ap (λ (x : ReceivedFrame). checked settings x >>= with_ttl_words (words_from 0 text)) (sym h)
+
+pub checked_stops : (port : ℕ) (text : List ℕ) (s settings : List MatchField) (r : ReceivedFrame) (stop : NoFrame) → s ≡ [] → with_setting_words false s (words_from 0 text) ≡ Ok settings → r ≡ received_frame port settings → FrameStops (checked settings r) stop →
+    FrameStops (frame_in_words port text) stop
+checked_stops port text s settings r NoMemory e w h stops = tt
+checked_stops port text s settings r (Refused x) e w h stops = checked_first port text s settings r e w h ∙ ap (λ (o : Result ReceivedFrame WordRefusal). o >>= with_ttl_words (words_from 0 text)) stops
+
+pub frame_is : (port : ℕ) (text : List ℕ) (s settings : List MatchField) (r c : ReceivedFrame) → s ≡ [] → with_setting_words false s (words_from 0 text) ≡ Ok settings → r ≡ received_frame port settings → checked settings r ≡ Ok c →
+    frame_in_words port text ≡ with_ttl_words (words_from 0 text) c
+frame_is port text s settings r c e w h k = checked_first port text s settings r e w h ∙ ap (λ (o : Result ReceivedFrame WordRefusal). o >>= with_ttl_words (words_from 0 text)) k
+
+-- ---- the TTL
+
+pub ttls_next : (r : ReceivedFrame) (rest word after : List ℕ) → 0 < length rest → word ≡ word_in 0 rest → after ≡ after_word 0 rest → with_ttl_words (words_from 0 rest) r ≡ (with_ttl_word word r >>= with_ttl_words (words_from 0 after))
+ttls_next r rest word after some w a = ap (λ (ws : List (List ℕ)). with_ttl_words ws r) (first_word rest some) ∙ rw (w, a) refl
+
+pub ttls_more : (r next : ReceivedFrame) (rest word after : List ℕ) → 0 < length rest → word ≡ word_in 0 rest → after ≡ after_word 0 rest → with_ttl_word word r ≡ Ok next → with_ttl_words (words_from 0 rest) r ≡ with_ttl_words (words_from 0 after) next
+ttls_more r next rest word after some w a h = ttls_next r rest word after some w a ∙ ap (λ (o : Result ReceivedFrame WordRefusal). o >>= with_ttl_words (words_from 0 after)) h
+
+pub ttls_stop : (r : ReceivedFrame) (rest word after : List ℕ) (stop : NoFrame) → 0 < length rest → word ≡ word_in 0 rest → after ≡ after_word 0 rest → FrameStops (with_ttl_word word r) stop → FrameStops (with_ttl_words (words_from 0 rest) r) stop
+ttls_stop r rest word after NoMemory some w a h = tt
+ttls_stop r rest word after (Refused x) some w a h = ttls_next r rest word after some w a ∙ ap (λ (o : Result ReceivedFrame WordRefusal). o >>= with_ttl_words (words_from 0 after)) h
+
+pub ttls_end : (r : ReceivedFrame) (rest : List ℕ) → rest ≡ [] → with_ttl_words (words_from 0 rest) r ≡ Ok r
+unfolding words_from
+ttls_end r rest e = rw e refl
 
 pub err_weaker : {T E : Type 0} (r : Result T E) (P Q : E → Type 0) → ((e : E) → P e → Q e) → IfErr r P → IfErr r Q
 err_weaker (Ok x) P Q f h = h

@@ -11,7 +11,7 @@ use Rattle.of_frame_words.specs.declared.why.Refusal.{Refusal}
 use Rattle.of_frame_words.specs.declared.why.NoFrame.{NoFrame}
 use Rattle.of_frame_words.specs.declared.why.NoFrame.TheVariants.{NoMemory, Refused}
 use Rattle.of_frame_words.specs.Refusals.{IsRefusal, FrameStops, view_word_refusal}
-use Rattle.of_frame_words.specs.Said.{WordRefusal, refuse, word_said, of_word, is_masked_amiss, with_setting_word, with_setting_words}
+use Rattle.of_frame_words.specs.Said.{WordRefusal, refuse, word_said, of_word, is_masked_amiss, sets_no_field, with_setting_word, with_setting_words}
 
 -- ---- refusals
 
@@ -55,30 +55,30 @@ word_added masks settings next word m e = plain_by (is_masked_amiss masks word) 
 -- ---- words
 
 words_next : (masks : Bool) (s : List MatchField) (rest : List ℕ) → 0 < length rest →
-    with_setting_words masks s (words_from 0 rest) ≡ cond (eqb (length (word_in 0 rest)) 0) (with_setting_words masks s (words_from 0 (after_word 0 rest))) (with_setting_word masks s (word_in 0 rest) >>= λ next. with_setting_words masks next (words_from 0 (after_word 0 rest)))
+    with_setting_words masks s (words_from 0 rest) ≡ cond (sets_no_field masks (word_in 0 rest)) (with_setting_words masks s (words_from 0 (after_word 0 rest))) (with_setting_word masks s (word_in 0 rest) >>= λ next. with_setting_words masks next (words_from 0 (after_word 0 rest)))
 words_next masks s rest h = ap (with_setting_words masks s) (first_word rest h)
 
 pub words_end : (masks : Bool) (s : List MatchField) (rest : List ℕ) → rest ≡ [] → with_setting_words masks s (words_from 0 rest) ≡ Ok s
 unfolding words_from
 words_end masks s rest e = rw e refl
 
-pub words_passed : (masks : Bool) (s : List MatchField) (rest word after : List ℕ) → 0 < length rest → word ≡ word_in 0 rest → after ≡ after_word 0 rest → eqb (length word) 0 ≡ true → with_setting_words masks s (words_from 0 rest) ≡ with_setting_words masks s (words_from 0 after)
+pub words_passed : (masks : Bool) (s : List MatchField) (rest word after : List ℕ) → 0 < length rest → word ≡ word_in 0 rest → after ≡ after_word 0 rest → sets_no_field masks word ≡ true → with_setting_words masks s (words_from 0 rest) ≡ with_setting_words masks s (words_from 0 after)
 words_passed masks s rest word after h w a e =
-    let none : eqb (length (word_in 0 rest)) 0 ≡ true = ap (λ (x : List ℕ). eqb (length x) 0) (sym w) ∙ e in
+    let none : sets_no_field masks (word_in 0 rest) ≡ true = ap (sets_no_field masks) (sym w) ∙ e in
     words_next masks s rest h ∙ rw (none, a) refl
 
-pub words_more : (masks : Bool) (s next : List MatchField) (rest word after : List ℕ) → 0 < length rest → word ≡ word_in 0 rest → after ≡ after_word 0 rest → eqb (length word) 0 ≡ false → with_setting_word masks s word ≡ Ok next → with_setting_words masks s (words_from 0 rest) ≡ with_setting_words masks next (words_from 0 after)
+pub words_more : (masks : Bool) (s next : List MatchField) (rest word after : List ℕ) → 0 < length rest → word ≡ word_in 0 rest → after ≡ after_word 0 rest → sets_no_field masks word ≡ false → with_setting_word masks s word ≡ Ok next → with_setting_words masks s (words_from 0 rest) ≡ with_setting_words masks next (words_from 0 after)
 words_more masks s next rest word after h w a e k =
-    let some : eqb (length (word_in 0 rest)) 0 ≡ false = ap (λ (x : List ℕ). eqb (length x) 0) (sym w) ∙ e in
+    let some : sets_no_field masks (word_in 0 rest) ≡ false = ap (sets_no_field masks) (sym w) ∙ e in
     let outcome : with_setting_word masks s (word_in 0 rest) ≡ Ok next = ap (with_setting_word masks s) (sym w) ∙ k in
     words_next masks s rest h ∙ rw (some, outcome, a) refl
 
-words_refused : (masks : Bool) (s : List MatchField) (rest word : List ℕ) (r : WordRefusal) → 0 < length rest → word ≡ word_in 0 rest → eqb (length word) 0 ≡ false → with_setting_word masks s word ≡ Err r → with_setting_words masks s (words_from 0 rest) ≡ Err r
+words_refused : (masks : Bool) (s : List MatchField) (rest word : List ℕ) (r : WordRefusal) → 0 < length rest → word ≡ word_in 0 rest → sets_no_field masks word ≡ false → with_setting_word masks s word ≡ Err r → with_setting_words masks s (words_from 0 rest) ≡ Err r
 words_refused masks s rest word r h w e k =
-    let some : eqb (length (word_in 0 rest)) 0 ≡ false = ap (λ (x : List ℕ). eqb (length x) 0) (sym w) ∙ e in
+    let some : sets_no_field masks (word_in 0 rest) ≡ false = ap (sets_no_field masks) (sym w) ∙ e in
     let outcome : with_setting_word masks s (word_in 0 rest) ≡ Err r = ap (with_setting_word masks s) (sym w) ∙ k in
     words_next masks s rest h ∙ rw (some, outcome) refl
 
-pub words_stop : (masks : Bool) (s : List MatchField) (rest word : List ℕ) (stop : NoFrame) → 0 < length rest → word ≡ word_in 0 rest → eqb (length word) 0 ≡ false → FrameStops (with_setting_word masks s word) stop → FrameStops (with_setting_words masks s (words_from 0 rest)) stop
+pub words_stop : (masks : Bool) (s : List MatchField) (rest word : List ℕ) (stop : NoFrame) → 0 < length rest → word ≡ word_in 0 rest → sets_no_field masks word ≡ false → FrameStops (with_setting_word masks s word) stop → FrameStops (with_setting_words masks s (words_from 0 rest)) stop
 words_stop masks s rest word NoMemory h w e k = tt
 words_stop masks s rest word (Refused r) h w e k = words_refused masks s rest word (view_word_refusal r) h w e k

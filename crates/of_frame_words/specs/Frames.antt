@@ -1,5 +1,5 @@
--- FRAMES IN WORDS: the frame that has the fields which words say. Fields of its headers of which no word says anything are 0; TTL and hop limit are 64.
-use Rattle.std.specs.Prelude.{◌≡◌, ◌⊎◌, ℕ, ◌==◌, nat_le, not, Bool, true, false, List, [], ◌∷◌, bit_and, Option, Some, None, Result, Ok, if◌then◌else◌}
+-- FRAMES IN WORDS: the frame that has the fields which words say. Fields of its headers of which no word says anything are 0; TTL and hop limit are 64 then.
+use Rattle.std.specs.Prelude.{◌≡◌, ◌⊎◌, ℕ, ◌==◌, nat_le, not, Bool, true, false, List, [], ◌∷◌, bit_and, Option, Some, None, Result, Ok, Err, if◌then◌else◌}
 use Rattle.std.specs.List.{list_any}
 use Rattle.of_layers.specs.declared.field.Field.{Field}
 use Rattle.of_layers.specs.declared.field.Field.TheVariants.{InPort, EthType, VlanVid, IpProto}
@@ -8,7 +8,8 @@ use Rattle.of_layers.specs.declared.field.Prerequisite.TheVariants as needs
 use Rattle.of_layers.specs.Fields.{number_of, ones_of, prerequisite_of}
 use Rattle.of_layers.specs.Reading.{layers_of}
 use Rattle.of_headers.specs.FieldMap.{field_map}
-use Rattle.of_rewrite.specs.Frames.{IsFrame}
+use Rattle.of_rewrite.specs.Frames.{IsFrame, frame_ttl}
+use Rattle.of_rewrite.specs.TimeToLive.{ttl_of}
 use Rattle.of_frames.specs.declared.shape.Shape.{Shape}
 use Rattle.of_frames.specs.declared.shape.Shape.TheVariants as shapes
 use Rattle.of_frames.specs.declared.shape.Tagging.{Tagging}
@@ -21,11 +22,11 @@ use Rattle.of_oxm.specs.Relations.{first_difference, matches_map}
 use Rattle.of_ovs_words.specs.declared.why.Why.{Why as WordWhy}
 use Rattle.of_ovs_words.specs.declared.why.Why.TheVariants as words
 use Rattle.of_ovs_words.specs.FieldWords.{text_for}
-use Rattle.of_ovs_words.specs.Outcomes.{◌>>=◌}
-use Rattle.of_ovs_words.specs.Words.{words_from}
+use Rattle.of_ovs_words.specs.Outcomes.{◌>>=◌, numbered}
+use Rattle.of_ovs_words.specs.Words.{word_value, words_from}
 use Rattle.of_frame_words.specs.declared.why.Why.{Why}
 use Rattle.of_frame_words.specs.declared.why.Why.TheVariants.{Word, Impossible}
-use Rattle.of_frame_words.specs.Said.{WordRefusal, refuse, with_setting_words}
+use Rattle.of_frame_words.specs.Said.{WordRefusal, is_ttl_word, refuse, with_setting_words}
 
 -- ---- the fields that settings say
 
@@ -101,9 +102,30 @@ unless_missed settings r (Some e) = refuse (text_for e.field) (why_missed settin
 abbrev pub checked : List MatchField → ReceivedFrame → Result ReceivedFrame WordRefusal
 checked settings r = unless_missed settings r (first_difference settings (map_of r))
 
--- THE FRAME THAT WORDS SAY, received at the port that they say, or else at this one. Refused is the first word that has no meaning, and then the first setting that the frame does not have.
+-- ---- the TTL or hop limit (RFC 791, 3.1; RFC 8200, 3)
+
+-- another one, if the frame has one
+abbrev pub with_ttl : List ℕ → Option ℕ → ℕ → ReceivedFrame → Result ReceivedFrame WordRefusal
+with_ttl word None n r = refuse word (Word words.NeedsIp)
+with_ttl word (Some old) n r = Ok (record { port = r.port; frame = frame_ttl n r.frame })
+
+abbrev pub with_ttl_said : List ℕ → Result ℕ WordWhy → ReceivedFrame → Result ReceivedFrame WordRefusal
+with_ttl_said word (Err why) r = refuse word (Word why)
+with_ttl_said word (Ok n) r = with_ttl word (ttl_of (layers_of r.frame)) n r
+
+-- that of a word
+unfoldable pub with_ttl_word : List ℕ → ReceivedFrame → Result ReceivedFrame WordRefusal
+with_ttl_word word r = if is_ttl_word word then with_ttl_said word (numbered 256 (word_value word)) r else Ok r
+
+-- those of all words, one after the other
+abbrev pub with_ttl_words : List (List ℕ) → ReceivedFrame → Result ReceivedFrame WordRefusal
+with_ttl_words [] r = Ok r
+with_ttl_words (w ∷ ws) r = with_ttl_word w r >>= with_ttl_words ws
+
+-- THE FRAME THAT WORDS SAY, received at the port that they say, or else at this one. Refused is the first word that has no meaning, then the first setting that the frame does not have, and then a TTL.
 unfoldable pub frame_in_words : ℕ → List ℕ → Result ReceivedFrame WordRefusal
-frame_in_words port text = with_setting_words false [] (words_from 0 text) >>= λ settings. checked settings (received_frame port settings)
+frame_in_words port text =
+    with_setting_words false [] (words_from 0 text) >>= λ settings. checked settings (received_frame port settings) >>= with_ttl_words (words_from 0 text)
 
 -- ---- what such a frame is
 

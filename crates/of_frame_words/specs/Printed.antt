@@ -1,11 +1,12 @@
--- A FRAME AS WORDS: the port, the protocol, and the other fields that are not 0; if these words are read as that frame.
-use Rattle.std.specs.Prelude.{◌≡◌, ℕ, ◌==◌, ◌&&◌, nat_le, Bool, false, List, [], ◌∷◌, ◌++◌, length, codes, decimal, Option, Some, None, Result, Ok, Err, if◌then◌else◌}
+-- A FRAME AS WORDS: the port, the protocol, the other fields that are not 0, and a TTL that is not 64; if these words are read as that frame.
+use Rattle.std.specs.Prelude.{◌≡◌, ℕ, ◌==◌, ◌&&◌, nat_le, nat_lt, Bool, false, List, [], ◌∷◌, ◌++◌, length, codes, decimal, Option, Some, None, Result, Ok, Err, if◌then◌else◌}
 use Rattle.std.specs.List.{flat_map}
 use Rattle.std.specs.Str.{bytes_eq}
 use Rattle.of_layers.specs.declared.field.Field.{Field}
 use Rattle.of_layers.specs.declared.field.Field.TheVariants.{EthType, IpDscp, IpProto}
 use Rattle.of_layers.specs.Reading.{layers_of}
 use Rattle.of_headers.specs.FieldMap.{field_map}
+use Rattle.of_rewrite.specs.TimeToLive.{ttl_of}
 use Rattle.of_frames.specs.declared.shape.Shape.{Shape}
 use Rattle.of_frames.specs.declared.shape.Shape.TheVariants as shapes
 use Rattle.of_frames.specs.Given.{or_zero}
@@ -43,13 +44,19 @@ shape_said shapes.Ipv6Icmp type protocol = codes ",icmp6"
 abbrev pub protocol_said : (Field → ℕ) → List ℕ
 protocol_said v = shape_said (shape_by (v EthType) (v IpProto)) (v EthType) (v IpProto)
 
+-- ---- the TTL or hop limit: `,nw_ttl=5`; nothing if it is 64, as it is if no word says it
+
+unfoldable pub ttl_said : Option ℕ → List ℕ
+ttl_said None = []
+ttl_said (Some n) = if n == 64 then [] else codes ",nw_ttl=" ++ decimal n
+
 -- ---- the words
 
-unfoldable pub words_with : ℕ → (Field → ℕ) → List ℕ
-words_with port v = codes "in_port=" ++ decimal port ++ protocol_said v ++ flat_map (λ f. field_said f (v f)) FURTHER_FIELDS
+unfoldable pub words_with : ℕ → (Field → ℕ) → Option ℕ → List ℕ
+words_with port v ttl = codes "in_port=" ++ decimal port ++ protocol_said v ++ flat_map (λ f. field_said f (v f)) FURTHER_FIELDS ++ ttl_said ttl
 
 abbrev pub words_for : ℕ → List ℕ → List ℕ
-words_for port frame = words_with port (or_zero (field_map (layers_of frame) port 0))
+words_for port frame = words_with port (or_zero (field_map (layers_of frame) port 0)) (ttl_of (layers_of frame))
 
 -- ---- whether they are read as the frame
 
@@ -63,7 +70,7 @@ some_if b words = if b then Some words else None
 -- THE WORDS OF A FRAME that is received at a port of the switch, if there are such: they say all of it
 unfoldable pub frame_words_of : ℕ → List ℕ → Option (List ℕ)
 frame_words_of port frame =
-    if is_number port && nat_le 14 (length frame) then some_if (is_read_as port frame (frame_in_words 0 (words_for port frame))) (words_for port frame) else None
+    if is_number port && nat_le 14 (length frame) && nat_lt (length frame) 65536 then some_if (is_read_as port frame (frame_in_words 0 (words_for port frame))) (words_for port frame) else None
 
 -- such words are read as the frame
 abbrev pub AreRead : ℕ → List ℕ → Option (List ℕ) → Type 0

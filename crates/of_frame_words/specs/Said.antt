@@ -1,6 +1,7 @@
 -- WHAT WORDS SAY OF A FRAME OR OF A MATCH (ovs-fields(7)): settings of fields, in the order of the words. A frame has values without masks.
-use Rattle.std.specs.Prelude.{ℕ, ◌==◌, ◌||◌, ◌&&◌, not, Bool, is_some, List, [], ◌∷◌, length, Option, Some, None, Result, Ok, Err, if◌then◌else◌}
+use Rattle.std.specs.Prelude.{ℕ, ◌==◌, ◌||◌, ◌&&◌, not, Bool, is_some, List, [], ◌∷◌, codes, length, Option, Some, None, Result, Ok, Err, if◌then◌else◌}
 use Rattle.std.specs.List.{list_any}
+use Rattle.std.specs.Str.{bytes_eq}
 use Rattle.of_oxm.specs.declared.match_field.MatchField.{MatchField}
 use Rattle.of_ovs_words.specs.declared.why.Why.{Why as WordWhy}
 use Rattle.of_ovs_words.specs.declared.why.Why.TheVariants.{Unknown}
@@ -51,11 +52,19 @@ with_setting_word masks settings word = if is_masked_amiss masks word then refus
 
 -- ---- words
 
--- with those of all words, of which empty ones are passed over, until one is refused
+-- the word for the TTL or hop limit, which no match has
+abbrev pub is_ttl_word : List ℕ → Bool
+is_ttl_word word = bytes_eq (word_name word) (codes "nw_ttl")
+
+-- an empty word, or in a frame that for its TTL
+unfoldable pub sets_no_field : Bool → List ℕ → Bool
+sets_no_field masks word = (length word == 0) || (not masks && is_ttl_word word)
+
+-- with those of all words, of which some are passed over, until one is refused
 abbrev pub with_setting_words : Bool → List MatchField → List (List ℕ) → Result (List MatchField) WordRefusal
 with_setting_words masks settings [] = Ok settings
 with_setting_words masks settings (w ∷ ws) =
-    if length w == 0 then with_setting_words masks settings ws else with_setting_word masks settings w >>= λ next. with_setting_words masks next ws
+    if sets_no_field masks w then with_setting_words masks settings ws else with_setting_word masks settings w >>= λ next. with_setting_words masks next ws
 
 abbrev pub has_value : List ℕ → Bool
 has_value text = list_any (λ b. b == 61) text

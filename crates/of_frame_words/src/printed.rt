@@ -1,10 +1,10 @@
 //! Frames as words.
-ghost use Rattle.std.specs.Prelude.{◌≡◌, ◌≤◌, ◌++◌, length, option_map, IfOk, OnOk};
+ghost use Rattle.std.specs.Prelude.{◌≡◌, ◌≤◌, ◌<◌, ◌^◌, ◌++◌, length, option_map, IfOk, OnOk};
 ghost use Rattle.std.specs.List.{flat_map};
 ghost use Rattle.of_headers.specs.FieldMap.{value as value_in};
 ghost use Rattle.of_frames.specs.Given.{or_zero};
 ghost use Rattle.of_frame_words.specs.Frames.{frame_in_words};
-ghost use Rattle.of_frame_words.specs.Printed.{AreRead, field_said, frame_words_of, is_read_as, printed_word as printed_word_of, protocol_said, shape_said, some_if, words_for, words_with};
+ghost use Rattle.of_frame_words.specs.Printed.{AreRead, field_said, frame_words_of, is_read_as, printed_word as printed_word_of, protocol_said, shape_said, some_if, ttl_said, words_for, words_with};
 
 use crate::frame::read_frame;
 use crate::said::shape_of;
@@ -13,6 +13,7 @@ use of_actions::is_number;
 use of_frames::Shape;
 use of_headers::{Field, FieldKey, Known};
 use of_ovs_words::text_for;
+use of_rewrite::Frame;
 use of_values::{push_decimal, push_value_words};
 use std::alloc::{AllocError, Global};
 
@@ -43,6 +44,9 @@ pub const FURTHER_FIELDS: [Field; 24] = [
     Field::Icmpv6Type,
     Field::Icmpv6Code,
 ];
+
+/// How many bytes a frame has at most that has words; a payload has none, so that no frame with words is so long.
+const LONGEST: usize = 65_535;
 
 // The word for a field, which takes its number.
 fn printed_word(field: Field) -> &'static [u8]
@@ -121,16 +125,36 @@ fn push_protocol(out: &mut Vec<u8>, key: &FieldKey) -> Result<(), AllocError>
     push_shape(out, shape_of(ethertype, protocol), ethertype, protocol)
 }
 
-// The words for the fields of a frame.
+// Appends a TTL or hop limit that is not 64.
+#[tactic(auto, unfolding(crate::specs::Printed::ttl_said))]
+fn push_ttl(out: &mut Vec<u8>, ttl: Option<u8>) -> Result<(), AllocError>
+    ensures { OnOk result (out.new.items ≡ out.old.items ++ ttl_said ttl) }
+{
+    match ttl {
+        None | Some(64) => Ok(()),
+        Some(ttl) => {
+            out.extend_from_slice(b",nw_ttl=")?;
+            push_decimal(out, u128::from(ttl))
+        }
+    }
+}
+
+// The words for the fields and the TTL of a frame.
 #[tactic(auto, unfolding(crate::specs::Printed::words_with))]
-fn words_of(alloc: Global, port: u32, key: &FieldKey) -> Result<Vec<u8>, AllocError>
-    ensures { IfOk result (λ words. words.items ≡ words_with port (or_zero (value_in key.now))) }
+fn words_of(
+    alloc: Global,
+    port: u32,
+    key: &FieldKey,
+    ttl: Option<u8>,
+) -> Result<Vec<u8>, AllocError>
+    ensures { IfOk result (λ words. words.items ≡ words_with port (or_zero (value_in key.now)) ttl) }
 {
     let mut out = Vec::new(alloc);
     out.extend_from_slice(b"in_port=")?;
     push_decimal(&mut out, u128::from(port))?;
     push_protocol(&mut out, key)?;
     push_fields(&mut out, &FURTHER_FIELDS, key)?;
+    push_ttl(&mut out, ttl)?;
     Ok(out)
 }
 
@@ -147,12 +171,14 @@ fn are_read_as(alloc: Global, words: &[u8], port: u32, frame: &[u8]) -> Result<b
 
 // The words of a frame that is long enough.
 fn words_if_read(alloc: Global, port: u32, frame: &[u8]) -> Result<Option<Vec<u8>>, AllocError>
-    requires { 14 ≤ length frame.now }
+    requires long { 14 ≤ length frame.now }
+    requires most { length frame.now < 2 ^ 61 }
     ensures { IfOk result (λ words. option_map (λ w. w.items) words ≡
         some_if (is_read_as port frame.now (frame_in_words 0 (words_for port frame.now))) (words_for port frame.now)) }
 {
     let key = Known::Nothing.key(frame, port, 0);
-    let words = words_of(alloc, port, &key)?;
+    let ttl = Frame::new(frame.to_vec(alloc)?).ttl();
+    let words = words_of(alloc, port, &key, ttl)?;
     if are_read_as(alloc, &words, port, frame)? {
         Ok(Some(words))
     } else {
@@ -167,7 +193,7 @@ pub fn frame_words(alloc: Global, port: u32, frame: &[u8]) -> Result<Option<Vec<
     ensures is { IfOk result (λ words. option_map (λ w. w.items) words ≡ frame_words_of port frame.now) }
     ensures read { IfOk result (λ words. AreRead port frame.now (option_map (λ w. w.items) words)) }
 {
-    if !is_number(port) || frame.len() < 14 {
+    if !is_number(port) || frame.len() < 14 || frame.len() > LONGEST {
         return Ok(None);
     }
     words_if_read(alloc, port, frame)

@@ -3,9 +3,10 @@ ghost use Rattle.std.specs.Prelude.{◌≡◌, IfOk, IfErr, Ok};
 ghost use Rattle.of_ovs_words.specs.Stops.{Stops as WordStops};
 ghost use Rattle.of_ovs_words.specs.Words.{words_from};
 ghost use Rattle.of_frame_words.specs.Refusals.{FrameStops};
-ghost use Rattle.of_frame_words.specs.Said.{are_frame_words, by_name, has_mask as is_masked, has_value as has_a_value, is_masked_amiss, word_said, with_setting_word, with_setting_words};
+ghost use Rattle.of_frame_words.specs.Said.{are_frame_words, by_name, has_mask as is_masked, has_value as has_a_value, is_masked_amiss, is_ttl_word as is_a_ttl_word, sets_no_field as is_passed_over, word_said, with_setting_word, with_setting_words};
 
 use crate::why::{NoFrame, Why, refuse};
+use of_lines::is;
 use of_ovs_words::{
     FieldWord, ProtocolWord, Stop, cut_word, name_of, set_field, set_protocol, value_of,
 };
@@ -32,6 +33,21 @@ fn has_mask(value: &[u8]) -> bool
     ensures { result ≡ is_masked value.now }
 {
     value.iter().any(|byte| *byte == b'/')
+}
+
+/// Whether a word is that for the TTL or hop limit, which no match has.
+pub fn is_ttl_word(word: &[u8]) -> bool
+    ensures { result ≡ is_a_ttl_word word.now }
+{
+    is(name_of(word), b"nw_ttl")
+}
+
+// Whether a word is empty, or in a frame that for its TTL.
+#[tactic(auto, unfolding(crate::specs::Said::sets_no_field))]
+fn sets_no_field(masks: bool, word: &[u8]) -> bool
+    ensures { result ≡ is_passed_over masks word.now }
+{
+    word.is_empty() || (!masks && is_ttl_word(word))
 }
 
 // Appends what the word of a field or of a protocol says.
@@ -106,7 +122,7 @@ pub fn add_words(
     while !rest.is_empty() {
         let (word, after) = cut_word(rest);
         rest = after;
-        if !word.is_empty() {
+        if !sets_no_field(masks, word) {
             match add_word(alloc, settings, masks, word) {
                 Ok(()) => {}
                 Err(stop) => return Err(stop),

@@ -3,7 +3,7 @@ use Rattle.std.specs.Prelude.{ℕ, ◌+◌, Bool, true, false, List, [], ◌∷�
 use Rattle.of_wire.specs.CodeNames.{error_name}
 use Rattle.of_text.specs.Lines.{lines_of}
 use Rattle.of_values.specs.Origins.{view_words}
-use Rattle.of_json.specs.Parts.{key, listed, match_object, number_member, quoted, text_member, truth_member}
+use Rattle.of_json.specs.Parts.{document_head, key, listed, match_object, number_member, text_member, truth_member}
 use Rattle.of_json.specs.Strings.{array_member, counters_member, string, string_of}
 use Rattle.of_import.specs.declared.word_fault.WordFault.{WordFault}
 use Rattle.of_import.specs.declared.parsed_lines.LineFaults.{LineFaults}
@@ -75,7 +75,7 @@ flow_object f = 123 ∷ import_entry_members f ++ marks_members f.marks ++ 125 �
 -- lines of the flow text
 
 unfoldable pub import_head_members : Bool → List ℕ
-import_head_members imported = key (codes "command") ++ quoted (codes "import") ++ truth_member (codes "imported") imported
+import_head_members imported = document_head (codes "import") ++ truth_member (codes "imported") imported
 
 unfoldable pub item_members : KeptLines → List ℕ
 item_members kept = array_member (codes "groups") (listed group_object kept.groups.items) ++ array_member (codes "flows") (listed flow_object kept.flows.items)

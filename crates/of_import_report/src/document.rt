@@ -9,7 +9,7 @@ use crate::items::{push_item_members, push_move_object};
 use crate::refusals::push_refused_members;
 use of_import::{Import, LineFaults, LineRefusal};
 use of_json::{
-    begin_array, push_array_member, push_key, push_line_strings, push_number_member, push_quoted,
+    begin_array, push_array_member, push_document_head, push_line_strings, push_number_member,
     push_truth_member,
 };
 use std::alloc::{AllocError, Global};
@@ -18,8 +18,7 @@ use std::alloc::{AllocError, Global};
 fn push_head_members(out: &mut Vec<u8>, imported: bool) -> Result<(), AllocError>
     ensures { OnOk result (out.new.items ≡ out.old.items ++ import_head_members imported) }
 {
-    push_key(out, b"command")?;
-    push_quoted(out, b"import")?;
+    push_document_head(out, b"import")?;
     push_truth_member(out, b"imported", imported)
 }
 

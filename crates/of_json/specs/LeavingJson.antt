@@ -9,8 +9,11 @@ use Rattle.of_values.specs.Numbers.{hexadecimal}
 use Rattle.of_json.specs.LeavingWords.{reason_said}
 
 -- the first member of an object: the number of a port, or the controller
-unfoldable pub place_member : List ℕ → List ℕ → List ℕ
-place_member name place = key name ++ quoted place
+unfoldable pub port_place : List ℕ → ℕ → List ℕ
+port_place name port = key name ++ decimal port
+
+unfoldable pub controller_place : List ℕ → List ℕ
+controller_place name = key name ++ quoted (codes "controller")
 
 -- ---- what leaves
 
@@ -20,12 +23,12 @@ max_len_member (Some n) = number_member (codes "max_len") n
 
 unfoldable pub packet_in_members : ToController → List ℕ
 packet_in_members p =
-    place_member (codes "port") (codes "controller") ++ text_member (codes "reason") (reason_said p.reason) ++ number_member (codes "table") p.table
+    controller_place (codes "port") ++ text_member (codes "reason") (reason_said p.reason) ++ number_member (codes "table") p.table
     ++ text_member (codes "cookie") (hexadecimal 1 p.cookie) ++ text_member (codes "metadata") (hexadecimal 1 p.metadata) ++ max_len_member p.max_len
     ++ text_member (codes "frame") (encode_lower p.frame)
 
 unfoldable pub leaving_members : Item → List ℕ
-leaving_members (Sent port frame) = place_member (codes "port") (decimal port) ++ text_member (codes "frame") (encode_lower frame)
+leaving_members (Sent port frame) = port_place (codes "port") port ++ text_member (codes "frame") (encode_lower frame)
 leaving_members (PacketIn p) = packet_in_members p
 
 unfoldable pub item_object : Item → List ℕ

@@ -1,4 +1,4 @@
--- WHAT LEAVES A SWITCH, IN WORDS: a line for each item; and the line of the frame that came in.
+-- WHAT LEAVES A SWITCH, IN WORDS: a line for each item; and the lines of the frame that came in.
 use Rattle.std.specs.Prelude.{ℕ, ◌+◌, ◌==◌, Bool, false, List, [], ◌∷◌, ◌++◌, codes, decimal, Option, Some, None, if◌then◌else◌}
 use Rattle.std.specs.Str.{bytes_eq}
 use Rattle.hex.specs.Hex.{encode_lower}
@@ -8,6 +8,7 @@ use Rattle.of_machine.specs.declared.data.Item.{Item}
 use Rattle.of_machine.specs.declared.data.Item.TheVariants.{PacketIn, Sent}
 use Rattle.of_machine.specs.declared.data.ToController.{ToController}
 use Rattle.of_values.specs.Numbers.{hexadecimal}
+use Rattle.of_frame_words.specs.Printed.{frame_words_of}
 
 -- ---- what leaves: `out by port 3: HEX`, or `to the controller: action, table 1, cookie 0x2a: HEX` (7.4.1)
 
@@ -83,7 +84,17 @@ abbrev pub side_words : List ℕ → List Item → List ℕ
 side_words who [] = who ++ codes "nothing leaves" ++ 10 ∷ []
 side_words who (item ∷ items) = side_lines who None (item ∷ items)
 
--- ---- the frame, its port and bytes as `trace` takes them
+-- ---- the frame that came in: its port and bytes as `trace` takes them, and below them words that it takes for the same frame, if there are such
 
-unfoldable pub frame_line : ℕ → List ℕ → List ℕ
-frame_line port frame = codes "    frame: --port " ++ decimal port ++ 32 ∷ encode_lower frame ++ 10 ∷ []
+unfoldable pub bytes_line : ℕ → List ℕ → List ℕ
+bytes_line port frame = codes "    frame: --port " ++ decimal port ++ 32 ∷ encode_lower frame ++ 10 ∷ []
+
+unfoldable pub frame_words_line : List ℕ → List ℕ
+frame_words_line words = codes "    in words: " ++ words ++ 10 ∷ []
+
+abbrev pub in_words : Option (List ℕ) → List ℕ
+in_words None = []
+in_words (Some words) = frame_words_line words
+
+unfoldable pub frame_lines : ℕ → List ℕ → List ℕ
+frame_lines port frame = bytes_line port frame ++ in_words (frame_words_of port frame)

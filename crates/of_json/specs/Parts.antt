@@ -39,6 +39,10 @@ text_member name text = 44 ∷ key name ++ quoted text
 unfoldable pub truth_member : List ℕ → Bool → List ℕ
 truth_member name b = 44 ∷ key name ++ truth b
 
+-- the first members of a document: the version of its form, and the command that printed it
+unfoldable pub document_head : List ℕ → List ℕ
+document_head command = key (codes "version") ++ codes "1," ++ key (codes "command") ++ quoted command
+
 -- ---- a match: an object with a member for each field, whose value is in words
 
 unfoldable pub match_member : MatchField → List ℕ

@@ -1,9 +1,10 @@
 //! What leaves a switch, in words.
-ghost use Rattle.std.specs.Prelude.{◌≡◌, ◌+◌, ◌==◌, ◌++◌, IfOk, OnOk, None, []};
+ghost use Rattle.std.specs.Prelude.{◌≡◌, ◌+◌, ◌==◌, ◌++◌, option_map, IfOk, OnOk, None, []};
 ghost use Rattle.std.specs.Option.{option_copied};
-ghost use Rattle.of_json.specs.LeavingWords.{first_bytes, first_bytes_part, frame_line, has_sent, side_line, side_lines, packet_in_parts, packet_in_reason, packet_in_words, packet_line, part_unless_zero, out_words, ports_of_frame, range_words, ranges_words, reason_said, sent_line, side_words};
+ghost use Rattle.of_json.specs.LeavingWords.{bytes_line, first_bytes, first_bytes_part, frame_lines, frame_words_line, has_sent, in_words, side_line, side_lines, packet_in_parts, packet_in_reason, packet_in_words, packet_line, part_unless_zero, out_words, ports_of_frame, range_words, ranges_words, reason_said, sent_line, side_words};
 
 use of_build::push_hex;
+use of_frame_words::frame_words;
 use of_machine::{Item, ToController};
 use of_text::is;
 use of_values::{push_decimal, push_hexadecimal};
@@ -259,15 +260,14 @@ pub fn push_side(
     }
 }
 
-/// Appends the line of a frame: its port and its bytes, as `trace` takes them.
-#[tactic(auto, unfolding(crate::specs::LeavingWords::frame_line))]
-pub fn push_frame_line(
+#[tactic(auto, unfolding(crate::specs::LeavingWords::bytes_line))]
+fn push_bytes_line(
     alloc: Global,
     out: &mut Vec<u8>,
     port: u32,
     frame: &[u8],
 ) -> Result<(), AllocError>
-    ensures { OnOk result (out.new.items ≡ out.old.items ++ frame_line port frame.now) }
+    ensures { OnOk result (out.new.items ≡ out.old.items ++ bytes_line port frame.now) }
 {
     out.extend_from_slice(b"    frame: --port ")?;
     push_decimal(out, u128::from(port))?;
@@ -275,4 +275,38 @@ pub fn push_frame_line(
     push_hex(alloc, out, frame)?;
     out.push(b'\n')?;
     Ok(())
+}
+
+#[tactic(auto, unfolding(crate::specs::LeavingWords::frame_words_line))]
+fn push_words(out: &mut Vec<u8>, words: &[u8]) -> Result<(), AllocError>
+    ensures { OnOk result (out.new.items ≡ out.old.items ++ frame_words_line words.now) }
+{
+    out.extend_from_slice(b"    in words: ")?;
+    out.extend_from_slice(words)?;
+    out.push(b'\n')?;
+    Ok(())
+}
+
+fn push_in_words(out: &mut Vec<u8>, words: Option<Vec<u8>>) -> Result<(), AllocError>
+    ensures { OnOk result (out.new.items ≡ out.old.items ++ in_words (option_map (λ w. w.items) words)) }
+{
+    match words {
+        None => Ok(()),
+        Some(words) => push_words(out, &words),
+    }
+}
+
+/// Appends the lines of a frame: its port and its bytes, as `trace` takes them, and the words for it, if there are such.
+#[tactic(auto, unfolding(crate::specs::LeavingWords::frame_lines))]
+pub fn push_frame_lines(
+    alloc: Global,
+    out: &mut Vec<u8>,
+    port: u32,
+    frame: &[u8],
+) -> Result<(), AllocError>
+    ensures { OnOk result (out.new.items ≡ out.old.items ++ frame_lines port frame.now) }
+{
+    push_bytes_line(alloc, out, port, frame)?;
+    let words = frame_words(alloc, port, frame)?;
+    push_in_words(out, words)
 }

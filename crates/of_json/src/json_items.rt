@@ -1,6 +1,6 @@
 //! What leaves a switch, as JSON.
-ghost use Rattle.std.specs.Prelude.{◌≡◌, ◌++◌, OnOk, codes, decimal};
-ghost use Rattle.of_json.specs.LeavingJson.{leaving_members, item_object, items_member, max_len_member, packet_in_members, place_member};
+ghost use Rattle.std.specs.Prelude.{◌≡◌, ◌++◌, OnOk};
+ghost use Rattle.of_json.specs.LeavingJson.{controller_place, leaving_members, item_object, items_member, max_len_member, packet_in_members, port_place};
 
 use crate::items::reason_name;
 use crate::{
@@ -11,22 +11,19 @@ use of_machine::{Item, ToController};
 use of_values::push_decimal;
 use std::alloc::{AllocError, Global};
 
-/// Appends a first member: the number of a port, as a string.
-#[tactic(auto, unfolding(crate::specs::LeavingJson::place_member))]
+/// Appends a first member: the number of a port.
+#[tactic(auto, unfolding(crate::specs::LeavingJson::port_place))]
 pub fn push_port_place(out: &mut Vec<u8>, name: &[u8], port: u32) -> Result<(), AllocError>
-    ensures { OnOk result (out.new.items ≡ out.old.items ++ place_member name.now (decimal port)) }
+    ensures { OnOk result (out.new.items ≡ out.old.items ++ port_place name.now port) }
 {
     push_key(out, name)?;
-    out.push(b'"')?;
-    push_decimal(out, u128::from(port))?;
-    out.push(b'"')?;
-    Ok(())
+    push_decimal(out, u128::from(port))
 }
 
 /// Appends a first member: the controller.
-#[tactic(auto, unfolding(crate::specs::LeavingJson::place_member))]
+#[tactic(auto, unfolding(crate::specs::LeavingJson::controller_place))]
 pub fn push_controller_place(out: &mut Vec<u8>, name: &[u8]) -> Result<(), AllocError>
-    ensures { OnOk result (out.new.items ≡ out.old.items ++ place_member name.now (codes "controller")) }
+    ensures { OnOk result (out.new.items ≡ out.old.items ++ controller_place name.now) }
 {
     push_key(out, name)?;
     push_quoted(out, b"controller")

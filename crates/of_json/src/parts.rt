@@ -2,7 +2,7 @@
 ghost use Rattle.std.specs.Prelude.{◌≡◌, ◌++◌, OnOk};
 ghost use Rattle.hex.specs.Hex.{encode_lower};
 ghost use Rattle.of_values.specs.Numbers.{hexadecimal};
-ghost use Rattle.of_json.specs.Parts.{key, number_member, quoted, text_member, truth as truth_of, truth_member};
+ghost use Rattle.of_json.specs.Parts.{document_head, key, number_member, quoted, text_member, truth as truth_of, truth_member};
 
 use of_build::push_hex;
 use of_values::{push_decimal, push_hexadecimal};
@@ -25,6 +25,17 @@ pub fn push_key(out: &mut Vec<u8>, name: &[u8]) -> Result<(), AllocError>
     push_quoted(out, name)?;
     out.push(b':')?;
     Ok(())
+}
+
+/// Appends the first members of a document: the version of its form, and the command that printed it.
+#[tactic(auto, unfolding(crate::specs::Parts::document_head))]
+pub fn push_document_head(out: &mut Vec<u8>, command: &[u8]) -> Result<(), AllocError>
+    ensures { OnOk result (out.new.items ≡ out.old.items ++ document_head command.now) }
+{
+    push_key(out, b"version")?;
+    out.extend_from_slice(b"1,")?;
+    push_key(out, b"command")?;
+    push_quoted(out, command)
 }
 
 /// Appends true or false.

@@ -3,11 +3,12 @@ use Rattle.std.specs.Prelude.{ℕ, Bool, true, false, List, [], ◌∷◌, ◌++
 use Rattle.std.specs.List.{flat_map}
 use Rattle.hex.specs.Hex.{encode_lower}
 use Rattle.of_machine.specs.declared.data.Step.{Step}
-use Rattle.of_machine.specs.declared.data.Step.TheVariants.{Entry}
 use Rattle.of_datapath.specs.Datapath.{Forwarding}
 use Rattle.of_datapath.specs.DryRun.{steps_in}
 use Rattle.of_trace.specs.Text.{step_line}
-use Rattle.of_json.specs.Parts.{key, listed, number_member, quoted, text_member}
+use Rattle.of_json.specs.declared.hits.Hit.{Hit}
+use Rattle.of_json.specs.Hits.{hits_at}
+use Rattle.of_json.specs.Parts.{document_head, key, listed, number_member, quoted, text_member}
 use Rattle.of_json.specs.Strings.{array_member}
 use Rattle.of_json.specs.LeavingJson.{items_member}
 use Rattle.of_paths.specs.declared.path.Path.{Path}
@@ -17,14 +18,9 @@ use Rattle.of_paths.specs.declared.path.UndecidedFrames.{UndecidedFrames}
 use Rattle.of_paths.specs.declared.path.WhyUndecided.{WhyUndecided}
 use Rattle.of_paths.specs.declared.path.WhyUndecided.TheVariants.{Search, Steps, UnknownTag}
 use Rattle.of_paths.specs.declared.destination.Destination.{Destination}
-use Rattle.of_paths_report.specs.declared.json_hits.Hit.{Hit}
 use Rattle.of_paths_report.specs.Destinations.{is_class_shown}
 
 -- ---- the entries that a path hits, in turn: an object for each, with its table and its number by age
-
-abbrev pub hits_at : Step → List Hit
-hits_at (Entry table number) = record { table = table; number = number } ∷ []
-hits_at other = []
 
 abbrev pub hits_of_path : Path → List Hit
 hits_of_path p = flat_map hits_at p.steps.items
@@ -84,7 +80,7 @@ undecided_frames_member undecided = array_member (codes "undecided") (listed und
 -- ---- THE DOCUMENT: the classes that are asked for, how many there are in all, and why frames are undecided
 
 unfoldable pub paths_head : List ℕ
-paths_head = 123 ∷ key (codes "command") ++ quoted (codes "paths")
+paths_head = 123 ∷ document_head (codes "paths")
 
 unfoldable pub paths_json : Forwarding → Option Destination → Paths → List ℕ
 paths_json f to found =

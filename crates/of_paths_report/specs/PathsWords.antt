@@ -9,7 +9,7 @@ use Rattle.of_datapath.specs.Datapath.{Forwarding}
 use Rattle.of_datapath.specs.DryRun.{steps_in}
 use Rattle.of_trace.specs.Text.{step_line}
 use Rattle.of_trace.specs.Words.{heading}
-use Rattle.of_json.specs.LeavingWords.{frame_line, side_words}
+use Rattle.of_json.specs.LeavingWords.{frame_lines, side_words}
 use Rattle.of_json.specs.UndecidedWords.{undecided_count, undecided_sets}
 use Rattle.of_paths.specs.declared.path.Path.{Path}
 use Rattle.of_paths.specs.declared.path.PathClass.{PathClass}
@@ -55,7 +55,7 @@ indented_line s = codes "    " ++ step_line s ++ 10 ∷ []
 
 unfoldable pub class_words : Forwarding → PathClass → List ℕ
 class_words f c =
-    codes "path: " ++ ended (heading f c.in_port c.frame.items) ++ frame_line c.in_port c.frame.items ++ flat_map indented_line (steps_in c.in_port c.frame.items f)
+    codes "path: " ++ ended (heading f c.in_port c.frame.items) ++ frame_lines c.in_port c.frame.items ++ flat_map indented_line (steps_in c.in_port c.frame.items f)
     ++ side_words (codes "    ") c.items.items ++ further_words c.paths.items
 
 -- if its paths lead to the place that is asked for

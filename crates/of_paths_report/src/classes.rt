@@ -8,7 +8,7 @@ ghost use Rattle.of_paths_report.specs.PathsWords.{class_words, indented_line, s
 use crate::destination::is_shown;
 use crate::hits::push_further;
 use of_classifier::Lookup;
-use of_json::{push_frame_line, push_side};
+use of_json::{push_frame_lines, push_side};
 use of_machine::Step;
 use of_paths::{Destination, PathClass};
 use of_switch::{Switch, SwitchError};
@@ -66,7 +66,7 @@ fn push_class_words<L: Lookup>(
     let trace = traced(alloc, switch, class)?;
     out.extend_from_slice(b"path: ")?;
     push_heading(alloc, out, switch, class.in_port, &class.frame)?;
-    push_frame_line(alloc, out, class.in_port, &class.frame)?;
+    push_frame_lines(alloc, out, class.in_port, &class.frame)?;
     push_indented_steps(out, &trace.steps)?;
     push_side(alloc, out, b"    ", &class.items)?;
     push_further(out, &class.paths)

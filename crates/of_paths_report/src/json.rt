@@ -11,8 +11,8 @@ use crate::destination::is_shown;
 use crate::json_hits::push_hits_member;
 use of_classifier::Lookup;
 use of_json::{
-    begin_array, push_array_member, push_bytes_member, push_items_member, push_key,
-    push_number_member, push_quoted,
+    begin_array, push_array_member, push_bytes_member, push_document_head, push_items_member,
+    push_key, push_number_member, push_quoted,
 };
 use of_machine::Step;
 use of_paths::{Destination, PathClass, Paths, UndecidedFrames, WhyUndecided};
@@ -184,8 +184,7 @@ fn push_paths_head(out: &mut Vec<u8>) -> Result<(), AllocError>
     ensures { OnOk result (out.new.items ≡ out.old.items ++ paths_head) }
 {
     out.push(b'{')?;
-    push_key(out, b"command")?;
-    push_quoted(out, b"paths")
+    push_document_head(out, b"paths")
 }
 
 /// What is found, as JSON.

@@ -1,41 +1,11 @@
 //! Which entries the paths of a class hit, as JSON.
-ghost use Rattle.std.specs.Prelude.{◌≡◌, ◌++◌, IfOk, OnOk};
-ghost use Rattle.std.specs.List.{flat_map};
-ghost use Rattle.of_paths_report.specs.PathsJson.{hit_object, hits_array, hits_at, hits_member};
+ghost use Rattle.std.specs.Prelude.{◌≡◌, ◌++◌, OnOk};
+ghost use Rattle.of_paths_report.specs.PathsJson.{hit_object, hits_array, hits_member};
 
-use of_json::{push_array_member, push_key, push_listed, push_number_member};
-use of_machine::Step;
+use of_json::{Hit, hits_among, push_array_member, push_key, push_listed, push_number_member};
 use of_paths::Path;
 use of_values::push_decimal;
 use std::alloc::{AllocError, Global};
-
-/// An entry that a path hits: its table, and its number there by age, from 0.
-#[derive(Clone, Copy, PartialEq, Eq)]
-pub struct Hit {
-    pub table: u8,
-    pub number: usize,
-}
-
-// Adds the entry of a lookup that found one.
-fn add_hit(hits: &mut Vec<Hit>, step: Step) -> Result<(), AllocError>
-    ensures { OnOk result (hits.new.items ≡ hits.old.items ++ hits_at step) }
-{
-    if let Step::Entry { table, number } = step {
-        hits.push(Hit { table, number })?;
-    }
-    Ok(())
-}
-
-// The entries that steps hit, in turn.
-fn hits_among(alloc: Global, steps: &[Step]) -> Result<Vec<Hit>, AllocError>
-    ensures { IfOk result (λ hits. hits.items ≡ flat_map hits_at steps.now) }
-{
-    let mut hits = Vec::new(alloc);
-    for step in steps {
-        add_hit(&mut hits, *step)?;
-    }
-    Ok(hits)
-}
 
 #[tactic(auto, unfolding(crate::specs::PathsJson::hit_object))]
 fn push_hit_object(out: &mut Vec<u8>, hit: Hit) -> Result<(), AllocError>

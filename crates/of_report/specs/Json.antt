@@ -12,7 +12,7 @@ use Rattle.of_check.specs.declared.verdict.Verdict.TheVariants.{Wins, Never, Ope
 use Rattle.of_check.specs.Verdicts.{is_never}
 use Rattle.of_values.specs.Numbers.{hexadecimal}
 use Rattle.of_values.specs.Origins.{EntryOrigin}
-use Rattle.of_json.specs.Parts.{key, listed, match_object, number_member, quoted, text_member, truth_member}
+use Rattle.of_json.specs.Parts.{document_head, key, listed, match_object, number_member, text_member, truth_member}
 use Rattle.of_json.specs.Strings.{array_member, counters_member}
 use Rattle.of_report.specs.Entries.{origin_at}
 use Rattle.of_report.specs.Report.{count, is_found, is_open, is_win, packet_as_words}
@@ -105,7 +105,7 @@ unfoldable pub summary_member : List Finding → List ℕ
 summary_member findings = 44 ∷ key (codes "summary") ++ 123 ∷ summary_members findings ++ 125 ∷ []
 
 unfoldable pub report_head_members : List Finding → List Remark → List ℕ
-report_head_members findings remarks = key (codes "command") ++ quoted (codes "check") ++ truth_member (codes "found") (is_found findings remarks) ++ summary_member findings
+report_head_members findings remarks = document_head (codes "check") ++ truth_member (codes "found") (is_found findings remarks) ++ summary_member findings
 
 unfoldable pub flows_member : List (List EntryOrigin) → List (List Flow) → List Finding → List ℕ
 flows_member origins tables findings = array_member (codes "flows") (listed (finding_object origins tables) findings)

@@ -10,8 +10,8 @@ use crate::json_remarks::push_remark_object;
 use crate::packets::packet_words;
 use of_check::{Finding, Remark, Verdict};
 use of_json::{
-    push_array_member, push_bytes_member, push_hex_member, push_key, push_number_member,
-    push_quoted, push_text_member, push_truth_member,
+    push_array_member, push_bytes_member, push_document_head, push_hex_member, push_key,
+    push_number_member, push_text_member, push_truth_member,
 };
 use of_text::Config;
 use of_values::{Origin, push_decimal};
@@ -158,8 +158,7 @@ fn push_summary_member(out: &mut Vec<u8>, findings: &[Finding]) -> Result<(), Al
 fn push_head(out: &mut Vec<u8>, findings: &[Finding], remarks: &[Remark]) -> Result<(), AllocError>
     ensures { OnOk result (out.new.items ≡ out.old.items ++ report_head_members findings.now remarks.now) }
 {
-    push_key(out, b"command")?;
-    push_quoted(out, b"check")?;
+    push_document_head(out, b"check")?;
     push_truth_member(out, b"found", is_found(findings, remarks))?;
     push_summary_member(out, findings)
 }

@@ -12,5 +12,7 @@ mod report;
 mod reporting;
 mod words;
 
+pub use entries::push_entry;
+pub use json_entries::push_entry_object;
 pub use of_values::Origin;
 pub use reporting::{Form, write_report};

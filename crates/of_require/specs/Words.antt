@@ -1,8 +1,7 @@
 -- THE REPORT ON REQUIREMENTS in words: a line for each that fails, is undecided or matches no frame, with the frame that decides it, and a summary.
-use Rattle.std.specs.Prelude.{ℕ, ◌==◌, Bool, true, false, List, [], ◌∷◌, ◌++◌, length, map, codes, decimal, Option, Some, None, if◌then◌else◌}
+use Rattle.std.specs.Prelude.{ℕ, ◌==◌, Bool, true, false, List, [], ◌∷◌, ◌++◌, length, map, codes, decimal, if◌then◌else◌}
 use Rattle.std.specs.List.{flat_map}
-use Rattle.of_json.specs.LeavingWords.{frame_line, side_words}
-use Rattle.of_frame_words.specs.Printed.{frame_words_of}
+use Rattle.of_json.specs.LeavingWords.{frame_lines, side_words}
 use Rattle.of_values.specs.Origins.{printable}
 use Rattle.of_require.specs.declared.answers.Answer.{Answer}
 use Rattle.of_require.specs.declared.deciding.Decision.{Decision}
@@ -23,15 +22,8 @@ verdict_line a = verdict_said (verdict_of a) ++ codes ": line " ++ decimal a.lin
 
 -- ---- the frame that decides, its bytes and its words, and what leaves
 
-unfoldable pub frame_words_line : List ℕ → List ℕ
-frame_words_line words = codes "    in words: " ++ words ++ 10 ∷ []
-
-abbrev pub in_words : Option (List ℕ) → List ℕ
-in_words None = []
-in_words (Some words) = frame_words_line words
-
 unfoldable pub deciding_frame_words : Shown → List ℕ
-deciding_frame_words s = frame_line s.in_port s.frame.items ++ in_words (frame_words_of s.in_port s.frame.items) ++ side_words (codes "    ") s.items.items
+deciding_frame_words s = frame_lines s.in_port s.frame.items ++ side_words (codes "    ") s.items.items
 
 unfoldable pub numbered_text : List ℕ → ℕ → List ℕ
 numbered_text text n = text ++ decimal n

@@ -1,12 +1,11 @@
 //! The report on requirements in words.
-ghost use Rattle.std.specs.Prelude.{◌≡◌, ◌++◌, option_map, IfOk, OnOk};
+ghost use Rattle.std.specs.Prelude.{◌≡◌, ◌++◌, IfOk, OnOk};
 ghost use Rattle.std.specs.List.{flat_map};
-ghost use Rattle.of_require.specs.Words.{answer_words, counted_noun, decision_words, in_words, is_told as is_told_by, is_told_always as is_told_in_short, requirements_summary, requirements_words, deciding_frame_words, verdict_counts, verdict_line, numbered_text, undecided_port_line, verdict_said, why_decided, frame_words_line};
+ghost use Rattle.of_require.specs.Words.{answer_words, counted_noun, decision_words, is_told as is_told_by, is_told_always as is_told_in_short, requirements_summary, requirements_words, deciding_frame_words, verdict_counts, verdict_line, numbered_text, undecided_port_line, verdict_said, why_decided};
 
 use crate::answers::{Answer, count};
 use crate::deciding::{Decision, Shown, Verdict};
-use of_frame_words::frame_words;
-use of_json::{push_frame_line, push_side};
+use of_json::{push_frame_lines, push_side};
 use of_values::{push_decimal, push_printable};
 use std::alloc::{AllocError, Global};
 
@@ -33,33 +32,12 @@ fn push_verdict_line(out: &mut Vec<u8>, answer: &Answer) -> Result<(), AllocErro
     Ok(())
 }
 
-#[tactic(auto, unfolding(crate::specs::Words::frame_words_line))]
-fn push_words(out: &mut Vec<u8>, words: &[u8]) -> Result<(), AllocError>
-    ensures { OnOk result (out.new.items ≡ out.old.items ++ frame_words_line words.now) }
-{
-    out.extend_from_slice(b"    in words: ")?;
-    out.extend_from_slice(words)?;
-    out.push(b'\n')?;
-    Ok(())
-}
-
-fn push_in_words(out: &mut Vec<u8>, words: Option<Vec<u8>>) -> Result<(), AllocError>
-    ensures { OnOk result (out.new.items ≡ out.old.items ++ in_words (option_map (λ w. w.items) words)) }
-{
-    match words {
-        None => Ok(()),
-        Some(words) => push_words(out, &words),
-    }
-}
-
 // Appends the frame that decides, and what leaves.
 #[tactic(auto, unfolding(crate::specs::Words::deciding_frame_words))]
 fn push_shown(alloc: Global, out: &mut Vec<u8>, shown: &Shown) -> Result<(), AllocError>
     ensures { OnOk result (out.new.items ≡ out.old.items ++ deciding_frame_words shown.now) }
 {
-    push_frame_line(alloc, out, shown.in_port, &shown.frame)?;
-    let words = frame_words(alloc, shown.in_port, &shown.frame)?;
-    push_in_words(out, words)?;
+    push_frame_lines(alloc, out, shown.in_port, &shown.frame)?;
     push_side(alloc, out, b"    ", &shown.items)
 }
 

@@ -1,16 +1,17 @@
 -- A TRACE AS JSON (RFC 8259): one object in one line, with an object for each step and for each effect.
-use Rattle.std.specs.Prelude.{ℕ, List, [], ◌∷◌, ◌++◌, codes, decimal, Option, Some, None}
+use Rattle.std.specs.Prelude.{ℕ, List, [], ◌∷◌, ◌++◌, codes, decimal, Option, Some, None, if◌then◌else◌}
 use Rattle.hex.specs.Hex.{encode_lower}
 use Rattle.of_layers.specs.Fields.{name_of}
 use Rattle.of_actions.specs.declared.action.Action.{Action}
 use Rattle.of_actions.specs.declared.action.Action.TheVariants.{Output, PushVlan, PopVlan, Group, SetNwTtl, DecNwTtl, SetField}
+use Rattle.of_actions.specs.PortNumbers.{is_number}
 use Rattle.of_table.specs.declared.flow.Flow.{Flow}
 use Rattle.of_machine.specs.declared.data.Step.{Step}
 use Rattle.of_machine.specs.declared.data.Step.TheVariants.{Miss, Entry, Apply, Clear, Write, Metadata, Goto, Set, Act, TtlExpired, End}
 use Rattle.of_datapath.specs.declared.effect.Effect.{Effect}
 use Rattle.of_datapath.specs.declared.effect.Effect.TheVariants.{Answer, Sent, Closed}
 use Rattle.of_datapath.specs.Datapath.{Forwarding}
-use Rattle.of_json.specs.Parts.{key, listed, match_object, number_member, quoted, text_member}
+use Rattle.of_json.specs.Parts.{document_head, key, listed, match_object, number_member, quoted, text_member}
 use Rattle.of_json.specs.Strings.{array_member}
 use Rattle.of_values.specs.Numbers as numbers
 use Rattle.of_values.specs.Values.{value_words}
@@ -29,8 +30,12 @@ flow_members (Some flow) = number_member (codes "priority") flow.priority ++ 44 
 unfoldable pub hexadecimal_member : List ℕ → ℕ → ℕ → List ℕ
 hexadecimal_member name least n = text_member name (numbers.hexadecimal least n)
 
+-- the number of a port, or the name of a reserved one (OpenFlow 1.3.5, 7.2.1)
+unfoldable pub port_member : ℕ → List ℕ
+port_member port = if is_number port then number_member (codes "port") port else text_member (codes "port") (numbers.port_in_words port)
+
 unfoldable pub action_members : Action → List ℕ
-action_members (Output port max_len) = step_member (codes "output") ++ text_member (codes "port") (numbers.port_in_words port) ++ number_member (codes "max_len") max_len
+action_members (Output port max_len) = step_member (codes "output") ++ port_member port ++ number_member (codes "max_len") max_len
 action_members (PushVlan type) = step_member (codes "push_vlan") ++ hexadecimal_member (codes "type") 4 type
 action_members PopVlan = step_member (codes "pop_vlan")
 action_members (Group group) = step_member (codes "group") ++ number_member (codes "group") group
@@ -68,7 +73,7 @@ effect_object effect = 123 ∷ effect_members effect ++ 125 ∷ []
 
 -- the frame and the port at which it is received
 unfoldable pub head_members : ℕ → List ℕ → List ℕ
-head_members port frame = key (codes "command") ++ quoted (codes "trace") ++ number_member (codes "in_port") port ++ text_member (codes "frame") (encode_lower frame)
+head_members port frame = document_head (codes "trace") ++ number_member (codes "in_port") port ++ text_member (codes "frame") (encode_lower frame)
 
 -- THE DOCUMENT
 unfoldable pub trace_json : Forwarding → ℕ → List ℕ → List Step → List Effect → List ℕ

@@ -2,17 +2,16 @@
 ghost use Rattle.std.specs.Prelude.{◌≡◌, ◌++◌, ◌∷◌, IfOk, OnOk, None, Some, codes};
 ghost use Rattle.of_json.specs.Parts.{listed, number_member, text_member};
 ghost use Rattle.of_json.specs.Strings.{array_member};
-ghost use Rattle.of_values.specs.Numbers.{port_in_words as port_words};
 ghost use Rattle.of_values.specs.Values.{value_words};
-ghost use Rattle.of_trace.specs.Json.{action_members, effect_members, effect_named, effect_object, flow_members, head_members, hexadecimal_member, step_member, step_members, step_object, trace_json};
+ghost use Rattle.of_trace.specs.Json.{action_members, effect_members, effect_named, effect_object, flow_members, head_members, hexadecimal_member, port_member, step_member, step_members, step_object, trace_json};
 ghost use Rattle.of_trace.specs.Words.{flow_there};
 
-use of_actions::Action;
+use of_actions::{Action, is_number};
 use of_classifier::Lookup;
 use of_headers::Field;
 use of_json::{
-    push_array_member, push_bytes_member, push_key, push_match_object, push_number_member,
-    push_quoted, push_text_member,
+    push_array_member, push_bytes_member, push_document_head, push_key, push_match_object,
+    push_number_member, push_quoted, push_text_member,
 };
 use of_machine::Step;
 use of_switch::{Effect, Switch};
@@ -62,11 +61,14 @@ fn push_hexadecimal_member(
     Ok(())
 }
 
-// Appends a port, as a string.
-#[tactic(auto, unfolding(of_json::specs::Parts::text_member))]
+// Appends the number of a port, or the name of a reserved one.
+#[tactic(auto, unfolding(crate::specs::Json::port_member, of_json::specs::Parts::text_member))]
 fn push_port_member(out: &mut Vec<u8>, port: u32) -> Result<(), AllocError>
-    ensures { OnOk result (out.new.items ≡ out.old.items ++ text_member (codes "port") (port_words port)) }
+    ensures { OnOk result (out.new.items ≡ out.old.items ++ port_member port) }
 {
+    if is_number(port) {
+        return push_number_member(out, b"port", u128::from(port));
+    }
     out.push(b',')?;
     push_key(out, b"port")?;
     out.push(b'"')?;
@@ -255,8 +257,7 @@ fn push_effects(alloc: Global, out: &mut Vec<u8>, effects: &[Effect]) -> Result<
 fn push_head(alloc: Global, out: &mut Vec<u8>, port: u32, frame: &[u8]) -> Result<(), AllocError>
     ensures { OnOk result (out.new.items ≡ out.old.items ++ head_members port frame.now) }
 {
-    push_key(out, b"command")?;
-    push_quoted(out, b"trace")?;
+    push_document_head(out, b"trace")?;
     push_number_member(out, b"in_port", u128::from(port))?;
     push_bytes_member(alloc, out, b"frame", frame)
 }

@@ -1,11 +1,9 @@
 //! Reports of `check`.
 use crate::files::{
-    Contents, FileRead, NoFile, PortList, port_list, push_named, read_contents, say_missing,
+    Contents, FileRead, NoFile, PortList, Unread, port_list, push_named, read_contents, say_missing,
 };
 use crate::lookups::Lookups;
-use crate::requiring::{
-    Required, decide_all, missing_on, no_requirements, push_required, read_required,
-};
+use crate::requiring::{Required, decide_all, missing_on, push_required, read_required};
 use of_command_line::{Check, CheckOutput};
 use of_files::FileTables;
 use of_replay::streams::WriterSink;
@@ -166,12 +164,36 @@ fn contents_reported(
     }
 }
 
-/// Prints the report on the switch of a file, and on its requirements.
-pub fn checked(rt: &HostRuntime, asked: &Check) -> Result<CheckVerdict, NoFile> {
-    let lines = match &asked.require {
-        Some(path) => read_required(rt, path.as_str())?,
-        None => no_requirements(rt),
+// The requirements that are asked for.
+fn lines_asked<'a>(rt: &HostRuntime, asked: &'a Check) -> Result<Vec<Line>, Unread<'a>> {
+    let Some(path) = &asked.require else {
+        return Ok(Vec::new(rt.alloc()));
     };
+    let path = path.as_str();
+    match read_required(rt, path) {
+        Ok(lines) => Ok(lines),
+        Err(why) => Err(Unread { path, why }),
+    }
+}
+
+// The report on the switch of a file.
+fn file_reported(
+    rt: &HostRuntime,
+    asked: &Check,
+    lines: Vec<Line>,
+) -> Result<CheckVerdict, NoFile> {
     let read = read_contents(rt, asked.of.path.as_str(), asked.of.kind, None, false)?;
     contents_reported(rt, asked, &read, lines)
+}
+
+/// Prints the report on the switch of a file, and on its requirements.
+pub fn checked<'a>(rt: &HostRuntime, asked: &'a Check) -> Result<CheckVerdict, Unread<'a>> {
+    let lines = lines_asked(rt, asked)?;
+    match file_reported(rt, asked, lines) {
+        Ok(verdict) => Ok(verdict),
+        Err(why) => Err(Unread {
+            path: asked.of.path.as_str(),
+            why,
+        }),
+    }
 }

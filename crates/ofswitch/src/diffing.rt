@@ -1,26 +1,36 @@
 //! Differences of two switches.
 use crate::files::{
-    Contents, FileRead, NoFile, PortList, port_list, push_named, read_contents, switch_of,
+    Contents, FileRead, NoFile, PortList, Unread, port_list, push_named, read_contents,
 };
+use crate::lookups::Lookups;
 use of_alike::Compared;
 use of_command_line::{Diff, FileKind};
-use of_diff_report::{DiffForm, DiffVerdict, write_differences};
-use of_replay::Ended;
+use of_diff_report::{DiffForm, DiffVerdict, FileFlows, write_differences};
+use of_files::FileTables;
 use of_replay::streams::WriterSink;
+use of_replay::{Ended, switch_of_config};
+use of_switch::Switch;
 use std::alloc::{AllocError, Global};
 
-/// Why nothing is found about two switches: the file, whose name standard error has, and why.
-#[derive(Drop)]
-pub struct NoDiff<'a> {
-    pub path: &'a str,
-    pub why: NoFile,
-}
-
 // What a file is read as. The name of one that is at fault comes before what is wrong with it.
-fn contents_of<'a>(rt: &HostRuntime, path: &'a str) -> Result<Contents, NoDiff<'a>> {
+fn contents_of<'a>(rt: &HostRuntime, path: &'a str) -> Result<Contents, Unread<'a>> {
     match read_contents(rt, path, FileKind::Guessed, None, true) {
         Ok(FileRead { contents, .. }) => Ok(contents),
-        Err(why) => Err(NoDiff { path, why }),
+        Err(why) => Err(Unread { path, why }),
+    }
+}
+
+// A switch, and its flow entries.
+#[derive(Drop)]
+struct FileSwitch {
+    switch: Switch<Lookups>,
+    tables: FileTables,
+}
+
+fn flows_of(of: &FileSwitch) -> FileFlows<'_> {
+    FileFlows {
+        config: &of.tables.config,
+        origins: &of.tables.origins,
     }
 }
 
@@ -81,8 +91,50 @@ fn compared_of(frames: bool) -> Compared {
     }
 }
 
-// What is found between the switches of two files.
+// The switch of a file, with its flow entries.
+fn described(
+    rt: &HostRuntime,
+    contents: Contents,
+    ports: &[u32],
+) -> Result<FileSwitch, AllocError> {
+    match contents {
+        Contents::Tables { tables, .. } => Ok(FileSwitch {
+            switch: switch_of_config(rt.alloc(), &tables.config, ports)?,
+            tables,
+        }),
+        Contents::Events(switch) => Ok(FileSwitch {
+            tables: FileTables {
+                config: switch.config()?,
+                origins: Vec::new(rt.alloc()),
+            },
+            switch,
+        }),
+    }
+}
+
+// What is found between two switches.
 fn found_between(
+    rt: &HostRuntime,
+    asked: &Diff,
+    first: &FileSwitch,
+    second: &FileSwitch,
+    missing: &[u32],
+) -> Result<DiffVerdict, Ended> {
+    let mut writer = WriterSink::new(rt.stdout());
+    write_differences(
+        rt.alloc(),
+        (&flows_of(first), &first.switch),
+        (&flows_of(second), &second.switch),
+        missing,
+        compared_of(asked.frames),
+        asked.steps as usize,
+        form_of(asked.json),
+        &mut writer,
+    )
+}
+
+// What is found between the switches of two files.
+fn found_in_files(
     rt: &HostRuntime,
     asked: &Diff,
     first: Contents,
@@ -96,32 +148,22 @@ fn found_between(
         list.missing.clear();
     }
     let (Ok(first), Ok(second)) = (
-        switch_of(rt, first, &list.ports),
-        switch_of(rt, second, &list.ports),
+        described(rt, first, &list.ports),
+        described(rt, second, &list.ports),
     ) else {
         return Err(Ended::NoMemory);
     };
-    let mut writer = WriterSink::new(rt.stdout());
-    write_differences(
-        alloc,
-        &first,
-        &second,
-        &list.missing,
-        compared_of(asked.frames),
-        asked.steps as usize,
-        form_of(asked.json),
-        &mut writer,
-    )
+    found_between(rt, asked, &first, &second, &list.missing)
 }
 
 /// Prints which frames the switches of two files treat differently, and returns whether they treat all frames alike. The first file is read
 /// before the second.
-pub fn diffed<'a>(rt: &HostRuntime, asked: &'a Diff) -> Result<DiffVerdict, NoDiff<'a>> {
+pub fn diffed<'a>(rt: &HostRuntime, asked: &'a Diff) -> Result<DiffVerdict, Unread<'a>> {
     let first = contents_of(rt, asked.first.as_str())?;
     let second = contents_of(rt, asked.second.as_str())?;
-    match found_between(rt, asked, first, second) {
+    match found_in_files(rt, asked, first, second) {
         Ok(verdict) => Ok(verdict),
-        Err(ended) => Err(NoDiff {
+        Err(ended) => Err(Unread {
             path: "-",
             why: NoFile::ended(rt.alloc(), ended),
         }),

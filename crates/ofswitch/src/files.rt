@@ -1,4 +1,5 @@
 //! The files of the command line, and the switches that they describe.
+use crate::faults::{Fault, import_fault};
 use crate::hinting::Seen;
 use crate::importing::{NotImported, say_no_import};
 use crate::lookups::Lookups;
@@ -69,8 +70,8 @@ pub fn said_dpid(rt: &HostRuntime, path: &str) -> Option<u64> {
 pub enum NoFile {
     /// It does not open.
     Unopened(io::Error),
-    /// Lines of a table of Open vSwitch are refused, which standard error names.
-    Faults,
+    /// Lines of a table of Open vSwitch are refused, which standard error names; and what is wrong with the first of them.
+    Faults(Option<Fault>),
     /// What was read of it, and how the run ends.
     Ended { seen: Seen, ended: Ended },
 }
@@ -83,6 +84,13 @@ impl NoFile {
             ended,
         }
     }
+}
+
+/// A file that is not read, or describes no switch, and why.
+#[derive(Drop)]
+pub struct Unread<'a> {
+    pub path: &'a str,
+    pub why: NoFile,
 }
 
 /// The bytes of a reader.
@@ -179,7 +187,7 @@ fn contents_of_table(
         NotImported::Ended(ended) => Err(NoFile::ended(rt.alloc(), ended)),
         NotImported::Faults => {
             say_guess(rt, kind);
-            Err(NoFile::Faults)
+            Err(NoFile::Faults(import_fault(rt.alloc(), &error).unwrap_or(None)))
         }
     }
 }

@@ -5,6 +5,7 @@ ghost use Rattle.std.specs.Prelude.{◌≡◌};
 
 mod checking;
 mod diffing;
+mod faults;
 mod files;
 mod hinting;
 mod history;
@@ -20,6 +21,7 @@ mod tracing;
 
 use crate::checking::{CheckVerdict, checked};
 use crate::diffing::diffed;
+use crate::faults::print_fault;
 use crate::files::{NoFile, Opened, bytes_of, open, read_whole, said_dpid};
 use crate::history::{HistoryVerdict, recounted};
 use crate::lookups::Lookups;
@@ -29,8 +31,8 @@ use hinting::{Seen, Watched, say_hint, say_refusal, say_unread};
 use importing::{NotImported, imported, imported_as_json};
 use live::{are_peers, live_rows};
 use of_command_line::{
-    Check, Diff, FileRun, HistoryAsked, Live, NoRequest, PathsAsked, ReplayOutput, Request, Run,
-    Serve, Trace, read_request,
+    Check, CheckOutput, Diff, FileRun, HistoryAsked, Live, NoRequest, PathsAsked, ReplayOutput,
+    Request, Run, Serve, Trace, read_request,
 };
 use of_diff_report::DiffVerdict;
 use of_explain::{Answering, Explaining, ExplainingJson};
@@ -225,7 +227,7 @@ fn run_trace(rt: &HostRuntime, asked: &Trace) -> ExitCode {
         Ok(TraceVerdict::Traced) => ExitCode::SUCCESS,
         Ok(TraceVerdict::MissingPorts) => ExitCode::from(UNDECIDED),
         Ok(TraceVerdict::NoPort) => ExitCode::from(BAD_ARGUMENTS),
-        Err(why) => end_unread(rt, asked.of.path.as_str(), why),
+        Err(why) => end_asked(rt, b"trace", asked.json, asked.of.path.as_str(), why),
     }
 }
 
@@ -242,7 +244,10 @@ fn run_check(rt: &HostRuntime, asked: &Check) -> ExitCode {
         Ok(CheckVerdict::Nothing) => ExitCode::SUCCESS,
         Ok(CheckVerdict::Found) => ExitCode::from(FOUND),
         Ok(CheckVerdict::Undecided) => ExitCode::from(UNDECIDED),
-        Err(why) => end_unread(rt, asked.of.path.as_str(), why),
+        Err(no) => {
+            let json = asked.output == CheckOutput::Json;
+            end_asked(rt, b"check", json, no.path, no.why)
+        }
     }
 }
 
@@ -251,7 +256,7 @@ fn run_diff(rt: &HostRuntime, asked: &Diff) -> ExitCode {
         Ok(DiffVerdict::Same) => ExitCode::SUCCESS,
         Ok(DiffVerdict::Differs | DiffVerdict::OtherPorts) => ExitCode::from(FOUND),
         Ok(DiffVerdict::Undecided) => ExitCode::from(UNDECIDED),
-        Err(no) => end_unread(rt, no.path, no.why),
+        Err(no) => end_asked(rt, b"diff", asked.json, no.path, no.why),
     }
 }
 
@@ -259,10 +264,20 @@ fn run_paths(rt: &HostRuntime, asked: &PathsAsked) -> ExitCode {
     match divided(rt, asked) {
         Ok(PathsVerdict::Complete) => ExitCode::SUCCESS,
         Ok(PathsVerdict::Undecided) => ExitCode::from(UNDECIDED),
-        Err(NoPaths::File(why)) => end_unread(rt, asked.of.path.as_str(), why),
+        Err(NoPaths::File(why)) => {
+            end_asked(rt, b"paths", asked.json, asked.of.path.as_str(), why)
+        }
         Err(NoPaths::NoMatch) => ExitCode::from(BAD_LINES),
         Err(NoPaths::NoPort) => ExitCode::from(BAD_ARGUMENTS),
     }
+}
+
+// Why a file describes no switch; if JSON is asked for, also as a document.
+fn end_asked(rt: &HostRuntime, command: &[u8], json: bool, path: &str, why: NoFile) -> ExitCode {
+    if json && !print_fault(rt, command, path, &why) {
+        return end(rt, &Ended::WriteFault);
+    }
+    end_unread(rt, path, why)
 }
 
 // Why a file was not read, or describes no switch.
@@ -270,7 +285,7 @@ fn end_unread(rt: &HostRuntime, path: &str, why: NoFile) -> ExitCode {
     match why {
         NoFile::Ended { seen, ended } => end_file(rt, path, &seen, &ended),
         NoFile::Unopened(error) => end_unopened(rt, path, &error),
-        NoFile::Faults => ExitCode::from(BAD_LINES),
+        NoFile::Faults(_) => ExitCode::from(BAD_LINES),
     }
 }
 

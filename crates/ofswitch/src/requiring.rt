@@ -1,4 +1,5 @@
 //! Requirements of the switch of a file.
+use crate::faults::requirement_fault;
 use crate::files::{NoFile, bytes_of};
 use crate::lookups::Lookups;
 use of_check::required_port;
@@ -7,10 +8,9 @@ use of_files::missing_ports;
 use of_paths_report::Destination;
 use of_replay::Ended;
 use of_require::{
-    Answer, Demand, Line, NoRequirement, NoRequirements, Verdict, answer_all, read_requirements,
+    Answer, Demand, Line, NoRequirement, Refusal, Verdict, answer_all, read_requirements,
     requirements_as_json, requirements_as_junit, requirements_in_words, worst,
 };
-use of_sockets::ended_unopened;
 use of_switch::Switch;
 use std::alloc::{AllocError, Global};
 use std::fs::File;
@@ -23,42 +23,29 @@ pub struct Required {
     pub verdict: Verdict,
 }
 
-/// None.
-pub fn no_requirements(rt: &HostRuntime) -> Vec<Line> {
-    Vec::new(rt.alloc())
+// Says which line is no requirement, and why.
+fn say_refusal(rt: &HostRuntime, path: &str, line: usize, refusal: &Refusal) {
+    let word = match std::str::from_utf8(&refusal.word) {
+        Ok("") => "at its end",
+        Ok(word) => word,
+        Err(_) => "?",
+    };
+    let _ = eprintln!(rt; "{path}: line {line}: {word}: {}", refusal.why);
 }
 
 /// The requirements of a file; if it has none, standard error says which line is at fault.
 pub fn read_required(rt: &HostRuntime, path: &str) -> Result<Vec<Line>, NoFile> {
-    let bytes = match bytes_of(rt, path) {
-        Ok(bytes) => bytes,
-        Err(NoFile::Unopened(error)) => {
-            let _ = eprintln!(rt; "cannot open {path}: {error}");
-            return Err(NoFile::ended(rt.alloc(), ended_unopened(error.kind())));
-        }
-        Err(why) => return Err(why),
+    let bytes = bytes_of(rt, path)?;
+    let refused = match read_requirements(rt.alloc(), &bytes) {
+        Ok(lines) => return Ok(lines),
+        Err(refused) => refused,
     };
-    match read_requirements(rt.alloc(), &bytes) {
-        Ok(lines) => Ok(lines),
-        Err(
-            NoRequirements {
-                why: NoRequirement::NoMemory,
-                ..
-            },
-        ) => Err(NoFile::ended(rt.alloc(), Ended::NoMemory)),
-        Err(
-            NoRequirements {
-                line,
-                why: NoRequirement::Refused(refusal),
-            },
-        ) => {
-            let word = match std::str::from_utf8(&refusal.word) {
-                Ok("") => "at its end",
-                Ok(word) => word,
-                Err(_) => "?",
-            };
-            let _ = eprintln!(rt; "{path}: line {line}: {word}: {}", refusal.why);
-            Err(NoFile::Faults)
+    match refused.why {
+        NoRequirement::NoMemory => Err(NoFile::ended(rt.alloc(), Ended::NoMemory)),
+        NoRequirement::Refused(refusal) => {
+            say_refusal(rt, path, refused.line, &refusal);
+            let fault = requirement_fault(rt.alloc(), refused.line, refusal);
+            Err(NoFile::Faults(fault.ok()))
         }
     }
 }

@@ -1,7 +1,7 @@
 use Rattle.std.proofs.Common.{◌≡◌, ◌++◌, drop}
 use Rattle.std.specs.List.{flat_map}
-use Rattle.of_paths_report.specs.PathsJson.{hits_at}
-use Rattle.of_paths_report.proofs.json_hits.hits_among.Given as goal
+use Rattle.of_json.specs.Hits.{hits_at}
+use Rattle.of_json.proofs.hits.hits_among.Given as goal
 
 abbrev pub invariant-loop-step : goal.invariant-loop-step
 invariant-loop-step l = l.hits.items ++ flat_map hits_at (drop l.step-index l.steps) ≡ flat_map hits_at l.steps

@@ -1,7 +1,7 @@
 use Rattle.std.proofs.Common.{◌∙◌, ◌++◌, ◌∷◌, ℕ, List, [], ap, append_assoc}
 use Rattle.std.specs.Prelude.{codes}
-use Rattle.of_require.specs.Words.{frame_words_line}
-use Rattle.of_require.proofs.words.push_words.Goals as goal
+use Rattle.of_json.specs.LeavingWords.{frame_words_line}
+use Rattle.of_json.proofs.items.push_words.Goals as goal
 
 pub returns : goal.returns
 unfolding frame_words_line
