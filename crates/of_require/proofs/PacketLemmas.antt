@@ -34,7 +34,7 @@ use Rattle.of_require.specs.declared.requirement.Demand.TheVariants.{Has}
 use Rattle.of_require.specs.declared.requirement.Requirement.{Requirement}
 use Rattle.of_require.specs.Deciding.{AreDividedByAll, IsFrameFoundIn, IsSought, IsSoughtInAll, IsSoughtInClass, IsSoughtInEach, IsSoughtInSet, IsSoughtInSets, found_so_far}
 use Rattle.of_require.specs.Decisions.{IsDeciding, decides}
-use Rattle.of_require.specs.Packets.{AreAsked, IsAskedBy, IsUnknownAmong, IsUnknownPath, packet_actions}
+use Rattle.of_require.specs.Packets.{AreAsked, IsAskedBy, IsUnknownAmong, IsUnknownClass, IsUnknownPath, packet_actions}
 use Rattle.of_require.specs.Requirements.{frame_has, have, is_done, is_leaving}
 use Rattle.of_require.proofs.BareLemmas.{bare, bare_all, same_leaving}
 use Rattle.of_require.proofs.DecidingLemmas.{and_true, both, leaves_alike, matched_from, never_both, only_in}
@@ -145,25 +145,27 @@ module _ (w : TheWorld) (r : Requirement) (fields : List MatchField) (steps port
   abbrev AmongPaths : List Path → List ℕ → ℕ → Type 0
   AmongPaths ps frame q = (q ≡ port) × InPaths ps frame q
 
-  abbrev UnknownOf : List Path → Type 0
-  UnknownOf ps = (p : Path) × Contains ps p × IsUnknownPath fields steps p
+  module _ (items : List Item) (leaving : is_leaving r.demand items ≡ true) where
+    abbrev UnknownOf : List Path → Type 0
+    UnknownOf ps = (is_leaving r.demand items ≡ true) × ((p : Path) × Contains ps p × IsUnknownPath fields steps p)
 
-  one_path_sought : (p : Path) (sought : Sought) → IsSought w r (λ frame q. (q ≡ port) × InFrames p.frames frame q) (IsUnknownPath fields steps p) sought → IsSought w r (AmongPaths (p ∷ [])) (UnknownOf (p ∷ [])) sought
-  one_path_sought p (Frame shown) h = h
-  one_path_sought p NoFrame none = λ frame q there d. none frame q (there.0, subst (λ (x : Path). InFrames x.frames frame q) (only_in p there.1.0 there.1.1) there.1.2) d
-  one_path_sought p Undecided h = (p, (0, omega arith, refl), h)
+    one_path_sought : (p : Path) (sought : Sought) → IsSought w r (λ frame q. (q ≡ port) × InFrames p.frames frame q) (IsUnknownPath fields steps p) sought → IsSought w r (AmongPaths (p ∷ [])) (UnknownOf (p ∷ [])) sought
+    one_path_sought p (Frame shown) h = h
+    one_path_sought p NoFrame none = λ frame q there d. none frame q (there.0, subst (λ (x : Path). InFrames x.frames frame q) (only_in p there.1.0 there.1.1) there.1.2) d
+    one_path_sought p Undecided h = (leaving, (p, (0, omega arith, refl), h))
 
-  pub class_sought : (ps before : List Path) (p : Path) → ps ≡ before ++ p ∷ [] → length ps ≡ 1 → (sought : Sought) → IsSought w r (λ frame q. (q ≡ port) × InFrames p.frames frame q) (IsUnknownPath fields steps p) sought → IsSought w r (AmongPaths ps) (UnknownOf ps) sought
-  class_sought ps before p is one sought h = subst (λ (l : List Path). IsSought w r (AmongPaths l) (UnknownOf l) sought) (sym (only_one ps before p is one)) (one_path_sought p sought h)
+    pub class_sought : (ps before : List Path) (p : Path) → ps ≡ before ++ p ∷ [] → length ps ≡ 1 → (sought : Sought) → IsSought w r (λ frame q. (q ≡ port) × InFrames p.frames frame q) (IsUnknownPath fields steps p) sought → IsSought w r (AmongPaths ps) (UnknownOf ps) sought
+    class_sought ps before p is one sought h = subst (λ (l : List Path). IsSought w r (AmongPaths l) (UnknownOf l) sought) (sym (only_one ps before p is one)) (one_path_sought p sought h)
 
   module _ (places : Vec Destination) (has : r.demand ≡ Has places fields) (receives : IsReceivingPort w.ports port) (fits : port < 2 ^ 32) (found : Paths) (are : ArePaths Each w (came_in_by port ∷ r.within.items) steps found) where
-    one_class : (sought : Sought) (c : PathClass) → Contains found.classes.items c → IsSoughtInClass w r fields steps c sought → IsSought w r (AmongPaths c.paths.items) (UnknownOf c.paths.items) sought
+    one_class : (sought : Sought) (c : PathClass) → Contains found.classes.items c → IsSoughtInClass w r fields steps c sought → IsSought w r (AmongPaths c.paths.items) (IsUnknownClass r.demand fields steps c) sought
     one_class sought c there h = h port places receives fits (are.classes c there) (are.merged c there) has
 
     pub classes_sought : (sought : Sought) → IsSoughtInEach w r fields steps found.classes.items sought → IsSought w r (λ frame q. (q ≡ port) × InClasses found.classes.items frame q) (IsUnknownAmong r.demand steps found.classes.items) sought
     classes_sought (Frame shown) (c, there, h) = one_class (Frame shown) c there h
     classes_sought NoFrame none = λ frame q in_class d. one_class NoFrame in_class.1.0 in_class.1.1 (none in_class.1.0 in_class.1.1) frame q (in_class.0, in_class.1.2) d
-    classes_sought Undecided (c, there, h) = subst (λ (d : Demand). IsUnknownAmong d steps found.classes.items) (sym has) (c, there, one_class Undecided c there h)
+    classes_sought Undecided (c, there, h) =
+        subst (λ (d : Demand). IsUnknownAmong d steps found.classes.items) (sym has) (c, there, subst (λ (d : Demand). IsUnknownClass d fields steps c) has (one_class Undecided c there h))
 
 -- one more, where none is found
 pub one_without : {A : Type 0} (is : A → Sought → Type 0) (xs : List A) (x : A) (is_known : Bool) → IsSoughtInAll is xs (found_so_far is_known) → is x NoFrame → IsSoughtInAll is (xs ++ x ∷ []) (found_so_far is_known)

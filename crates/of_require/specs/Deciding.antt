@@ -26,7 +26,7 @@ use Rattle.of_require.specs.declared.requirement.Demand.{Demand}
 use Rattle.of_require.specs.declared.requirement.Demand.TheVariants.{Has}
 use Rattle.of_require.specs.declared.requirement.Requirement.{Requirement}
 use Rattle.of_require.specs.Decisions.{IsDeciding, IsDecisionAmong, decides}
-use Rattle.of_require.specs.Packets.{IsPartBy, IsPartByAll, IsUnknownAmong, IsUnknownPath}
+use Rattle.of_require.specs.Packets.{IsPartBy, IsPartByAll, IsUnknownAmong, IsUnknownClass, IsUnknownPath}
 use Rattle.of_require.specs.Requirements.{is_leaving}
 
 abbrev pub first_decides : Requirement → ℕ → List Path → List Item → Bool
@@ -80,7 +80,7 @@ IsSoughtInPath w r fields steps p sought =
 abbrev pub IsSoughtInClass : TheWorld → Requirement → List MatchField → ℕ → PathClass → Sought → Type 0
 IsSoughtInClass w r fields steps c sought =
     (port : ℕ) (places : Vec Destination) → IsReceivingPort w.ports port → port < 2 ^ 32 → IsPathClass w (came_in_by port ∷ r.within.items) c → length c.paths.items ≡ 1 → r.demand ≡ Has places fields →
-    IsSought w r (λ frame q. (q ≡ port) × InPaths c.paths.items frame q) ((p : Path) × Contains c.paths.items p × IsUnknownPath fields steps p) sought
+    IsSought w r (λ frame q. (q ≡ port) × InPaths c.paths.items frame q) (IsUnknownClass r.demand fields steps c) sought
 
 -- in all of these: none if there is none in each, and otherwise as in one of them
 abbrev pub IsSoughtInAll : {A : Type 0} → (A → Sought → Type 0) → List A → Sought → Type 0

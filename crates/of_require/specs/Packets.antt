@@ -20,6 +20,7 @@ use Rattle.of_paths.specs.declared.path.Path.{Path}
 use Rattle.of_paths.specs.declared.path.PathClass.{PathClass}
 use Rattle.of_require.specs.declared.requirement.Demand.{Demand}
 use Rattle.of_require.specs.declared.requirement.Demand.TheVariants.{Has}
+use Rattle.of_require.specs.Requirements.{is_leaving}
 
 -- the actions that made a packet of the frame that came in
 abbrev pub packet_actions : Emission → List Action
@@ -64,7 +65,11 @@ IsUnknownPath fields steps p =
     SomeUnknown fields p.emitted.items
     ⊎ ((lists : List (Vec MatchField)) × AreAsked fields p.emitted.items lists × ((s : FrameSet) × IsPartByAll lists p.frames s × FindsFrame s steps found.Undecided))
 
--- of some path of these classes, if fields are asked
+-- of some path of a class, of which something leaves by the places
+abbrev pub IsUnknownClass : Demand → List MatchField → ℕ → PathClass → Type 0
+IsUnknownClass demand fields steps c = (is_leaving demand c.items.items ≡ true) × ((p : Path) × Contains c.paths.items p × IsUnknownPath fields steps p)
+
+-- of some of these classes, if fields are asked
 abbrev pub IsUnknownAmong : Demand → ℕ → List PathClass → Type 0
-IsUnknownAmong (Has places fields) steps classes = (c : PathClass) × Contains classes c × ((p : Path) × Contains c.paths.items p × IsUnknownPath fields steps p)
+IsUnknownAmong (Has places fields) steps classes = (c : PathClass) × Contains classes c × IsUnknownClass (Has places fields) fields steps c
 IsUnknownAmong other steps classes = ⊥
