@@ -59,7 +59,7 @@ abbrev pub IsPartByAll : List (Vec MatchField) → FrameSet → FrameSet → Typ
 IsPartByAll [] old new = new ≡ old
 IsPartByAll (m ∷ lists) old new = (between : FrameSet) × IsPartBy m.items old between × IsPartByAll lists between new
 
--- it is not known of some packet, or no frame was found of some that match all that the packets ask alike
+-- it is not known of some packet; or no frame was found of a set into which what the packets ask divides the frames of the path
 abbrev pub IsUnknownPath : List MatchField → ℕ → Path → Type 0
 IsUnknownPath fields steps p =
     SomeUnknown fields p.emitted.items
