@@ -53,7 +53,7 @@ negated : (b : Bool) → not b ≡ true → b ≡ false
 negated true h = absurd cc
 negated false h = refl
 
-none_in : {A : Type 0} (x : A) → Contains {X = A} [] x → ⊥
+pub none_in : {A : Type 0} (x : A) → Contains {X = A} [] x → ⊥
 none_in x h = absurd (omega (arith, h.1))
 
 pub in_middle : {A : Type 0} (xs : List A) (x : A) (ys : List A) → Contains (xs ++ x ∷ ys) x

@@ -1,7 +1,8 @@
 -- Sets of frames, divided by whether conditions match.
-use Rattle.std.proofs.Common.{◌≡◌, ◌<◌, ◌+◌, ℕ, length, get_or, take, Bool, true, false, List, [], ◌∷◌, ◌++◌, refl, sym, subst, arith, inl, inr}
+use Rattle.std.proofs.Common.{◌≡◌, ◌∙◌, ◌<◌, ◌+◌, ◌∷◌, ◌++◌, ℕ, zero, suc, length, get_or, take, Bool, true, false, List, [], ap, refl, sym, subst, arith, inl, inr}
 use Rattle.std.specs.Global.{Vec}
 use Rattle.std.specs.List.{Contains}
+use Rattle.std.proofs.lemmas.List.{append-nil}
 use Rattle.std.proofs.lemmas.List.Elements.{Contains-push_cases}
 use Rattle.of_oxm.specs.declared.match_field.MatchField.{MatchField}
 use Rattle.of_oxm.specs.Relations.{matches_map}
@@ -12,28 +13,27 @@ use Rattle.of_symbolic.specs.Parts.{AreListsOfConditions, received_fields}
 use Rattle.of_symbolic_run.specs.declared.state.Emission.{Emission}
 use Rattle.of_symbolic_run.specs.declared.frame_set.FrameSet.{FrameSet}
 use Rattle.of_symbolic_run.specs.FrameSets.{AreFramesMatching, AreFramesWithout, InFrames}
-use Rattle.of_require.specs.Deciding.{AreAsked, AreDivided, AreDividedByAll, AreOneWay, AreAllIn, AsksOneOf, InSomeSet, IsAskedBy}
-use Rattle.of_require.proofs.ListLemmas.{at_end, before_end, each_more, each_taken}
-
-nothing_in : {A : Type 0} (x : A) → Contains {X = A} [] x → ⊥
-nothing_in x h = absurd (omega (arith, h.1))
+use Rattle.of_require.specs.Deciding.{AreDivided, AreDividedByAll, InSomeSet}
+use Rattle.of_require.specs.Packets.{AreAsked, IsAskedBy, IsPartBy, IsPartByAll}
+use Rattle.of_require.proofs.DecidingLemmas.{none_in, only_in}
+use Rattle.of_require.proofs.ListLemmas.{at_end, before_end, each_more, taken_item}
 
 module _ (m : List MatchField) where
   pub divided_none : AreDivided m [] []
-  divided_none = record { within = λ s there. absurd (nothing_in s there); all = λ frame port is there. absurd (nothing_in there.0 there.1) }
+  divided_none = record { within = λ s there. absurd (none_in s there); all = λ frame port is there. absurd (none_in there.0 there.1) }
 
   module _ (sets divided : List FrameSet) (set matching without : FrameSet) (of : AreDivided m sets divided) (are : AreFramesMatching m set matching) (lack : AreFramesWithout m set without) where
     abbrev IsPart : FrameSet → Type 0
-    IsPart s = AreOneWay m s × ((o : FrameSet) × Contains (sets ++ set ∷ []) o × AreAllIn s o)
+    IsPart s = (o : FrameSet) × Contains (sets ++ set ∷ []) o × IsPartBy m o s
 
     old_part : (s : FrameSet) → Contains divided s → IsPart s
-    old_part s there = let h = of.within s there in (h.0, (h.1.0, before_end sets set h.1.0 h.1.1, h.1.2))
+    old_part s there = let h = of.within s there in (h.0, before_end sets set h.0 h.1, h.2)
 
     within_more : (s : FrameSet) → Contains ((divided ++ matching ∷ []) ++ without ∷ []) s → IsPart s
     within_more =
         each_more IsPart (divided ++ matching ∷ []) without
-        (each_more IsPart divided matching old_part (inl (λ frame port h. (are.within frame port h).1), (set, at_end sets set, λ frame port h. (are.within frame port h).0)))
-        (inr (λ frame port h. (lack.within frame port h).1), (set, at_end sets set, λ frame port h. (lack.within frame port h).0))
+        (each_more IsPart divided matching old_part (set, at_end sets set, inl are))
+        (set, at_end sets set, inr lack)
 
     in_own : (frame : List ℕ) (port : ℕ) → IsFrame frame → InFrames set frame port → InSomeSet ((divided ++ matching ∷ []) ++ without ∷ []) frame port
     in_own frame port is there = by_test (matches_map m (received_fields frame port)) refl
@@ -57,38 +57,64 @@ module _ (m : List MatchField) where
 -- ---- by one more list of conditions
 
 pub by_none : (frames : FrameSet) → AreDividedByAll [] frames (frames ∷ [])
-by_none frames = record {
-  within = λ s there frame port h. subst (λ (x : FrameSet). InFrames x frame port) (only s there) h;
-  ways = λ s there m none. absurd (nothing_in m none);
-  all = λ frame port is h. (frames, (0, omega arith, refl), h);
-}
-  where
-    only : (s : FrameSet) → Contains (frames ∷ []) s → s ≡ frames
-    only s there = elim (Contains-push_cases [] frames s there) as (λ x. s ≡ frames) [ inl none ↦ absurd (nothing_in s none) | inr same ↦ sym same ]
+by_none frames = record { within = λ s there. only_in frames s there; all = λ frame port is h. (frames, (0, omega arith, refl), h) }
+
+part_more : (lists : List (Vec MatchField)) (m : Vec MatchField) (frames old new : FrameSet) → IsPartByAll lists frames old → IsPartBy m.items old new → IsPartByAll (lists ++ m ∷ []) frames new
+part_more [] m frames old new is part = (new, subst (λ (s : FrameSet). IsPartBy m.items s new) is part, refl)
+part_more (x ∷ lists) m frames old new (between, first, rest) part = (between, first, part_more lists m between old new rest part)
 
 pub by_one_more : (lists : List (Vec MatchField)) (m : Vec MatchField) (frames : FrameSet) (sets new : List FrameSet) → AreDividedByAll lists frames sets → AreDivided m.items sets new → AreDividedByAll (lists ++ m ∷ []) frames new
 by_one_more lists m frames sets new old one = record {
-  within = λ s there frame port h. (let from = (one.within s there).1 in old.within from.0 from.1 frame port (from.2 frame port h));
-  ways = λ s there. each_more (λ (x : Vec MatchField). AreOneWay x.items s) lists m (λ x listed. narrower s (one.within s there).1.0 x.items (one.within s there).1.2 (old.ways (one.within s there).1.0 (one.within s there).1.1 x listed)) (one.within s there).0;
+  within = λ s there. (let from = one.within s there in part_more lists m frames from.0 s (old.within from.0 from.1) from.2);
   all = λ frame port is h. one.all frame port is (old.all frame port is h);
 }
-  where
-    narrower : (s o : FrameSet) (x : List MatchField) → AreAllIn s o → AreOneWay x o → AreOneWay x s
-    narrower s o x within (inl all) = inl (λ frame port h. all frame port (within frame port h))
-    narrower s o x within (inr none) = inr (λ frame port h. none frame port (within frame port h))
 
--- ---- what more emissions ask
+-- ---- what is so of the frames of a part
+
+abbrev pub AreAllIn : FrameSet → FrameSet → Type 0
+AreAllIn s old = (frame : List ℕ) (port : ℕ) → InFrames s frame port → InFrames old frame port
+
+-- the conditions match all frames of the set, or none
+abbrev pub AreMatchedAlike : List MatchField → FrameSet → Type 0
+AreMatchedAlike m s = (f g : List ℕ) (p q : ℕ) → InFrames s f p → InFrames s g q → matches_map m (received_fields f p) ≡ matches_map m (received_fields g q)
+
+one_within : (m : List MatchField) (old new : FrameSet) → IsPartBy m old new → AreAllIn new old
+one_within m old new (inl are) frame port h = (are.within frame port h).0
+one_within m old new (inr lack) frame port h = (lack.within frame port h).0
+
+one_way : (m : List MatchField) (old new : FrameSet) → IsPartBy m old new → AreMatchedAlike m new
+one_way m old new (inl are) f g p q in_f in_g = (are.within f p in_f).1 ∙ sym (are.within g q in_g).1
+one_way m old new (inr lack) f g p q in_f in_g = (lack.within f p in_f).1 ∙ sym (lack.within g q in_g).1
+
+pub part_within : (lists : List (Vec MatchField)) (old new : FrameSet) → IsPartByAll lists old new → AreAllIn new old
+part_within [] old new is frame port h = subst (λ (s : FrameSet). InFrames s frame port) is h
+part_within (m ∷ lists) old new (between, first, rest) frame port h = one_within m.items old between first frame port (part_within lists between new rest frame port h)
+
+pub part_ways : (lists : List (Vec MatchField)) (old new : FrameSet) → IsPartByAll lists old new → (m : Vec MatchField) → Contains lists m → AreMatchedAlike m.items new
+part_ways [] old new is m there = absurd (none_in m there)
+part_ways (x ∷ lists) old new (between, first, rest) m (zero, lt, same) =
+    let ways = subst (λ (y : Vec MatchField). AreMatchedAlike y.items between) same (one_way x.items old between first) in
+    let within = part_within lists between new rest in
+    λ f g p q in_f in_g. ways f g p q (within f p in_f) (within g q in_g)
+part_ways (x ∷ lists) old new (between, first, rest) m (suc k, lt, same) = part_ways lists between new rest m (k, omega (arith, lt), same)
+
+-- ---- what one more packet asks
+
+asked_append : (fields : List MatchField) (es new : List Emission) (lists own : List (Vec MatchField)) → AreAsked fields es lists → AreAsked fields new own → AreAsked fields (es ++ new) (lists ++ own)
+asked_append fields [] new lists own is more = subst (λ (l : List (Vec MatchField)). AreAsked fields new (l ++ own)) (sym is) more
+asked_append fields (e ∷ es) new lists own (inl (never, rest)) more = inl (never, asked_append fields es new lists own rest more)
+asked_append fields (e ∷ es) new lists own (inr (m, others, is, asked, rest)) more =
+    inr (m, others ++ own, ap (λ (l : List (Vec MatchField)). l ++ own) is, asked, asked_append fields es new others own rest more)
 
 module _ (fields : List MatchField) (emitted : List Emission) (i : ℕ) (e : Emission) (lists : List (Vec MatchField)) (lt : i < length emitted) (is : e ≡ get_or emitted i e) (old : AreAsked fields (take i emitted) lists) where
-  pub asked_never : IsAskedBy fields e Never → AreAsked fields (take (i + 1) emitted) lists
-  asked_never own = each_taken (AsksOneOf fields lists) emitted i e lt is old (inl own)
+  asked_next : (own : List (Vec MatchField)) → AreAsked fields (e ∷ []) own → AreAsked fields (take (i + 1) emitted) (lists ++ own)
+  asked_next own more = subst (λ (es : List Emission). AreAsked fields es (lists ++ own)) (sym (taken_item emitted i e lt is)) (asked_append fields (take i emitted) (e ∷ []) lists own old more)
 
-  wider : (m : Vec MatchField) (x : Emission) → AsksOneOf fields lists x → AsksOneOf fields (lists ++ m ∷ []) x
-  wider m x (inl never) = inl never
-  wider m x (inr (n, there, asked)) = inr (n, before_end lists m n there, asked)
+  pub asked_never : IsAskedBy fields e Never → AreAsked fields (take (i + 1) emitted) lists
+  asked_never own = subst (AreAsked fields (take (i + 1) emitted)) (append-nil lists) (asked_next [] (inl (own, refl)))
 
   pub asked_more : (m : Vec MatchField) → IsAskedBy fields e (When m) → AreAsked fields (take (i + 1) emitted) (lists ++ m ∷ [])
-  asked_more m own = each_taken (AsksOneOf fields (lists ++ m ∷ [])) emitted i e lt is (λ x there. wider m x (old x there)) (inr (m, at_end lists m, own))
+  asked_more m own = asked_next (m ∷ []) (inr (m, [], refl, own, refl))
 
 pub conditions_more : (lists : List (Vec MatchField)) (m : Vec MatchField) → AreListsOfConditions lists → AreConditions m.items → AreListsOfConditions (lists ++ m ∷ [])
 conditions_more lists m old own = each_more (λ (x : Vec MatchField). AreConditions x.items) lists m old own

@@ -33,16 +33,6 @@ some_more P xs x (y, there, h) = (y, before_end xs x y there, h)
 pub taken_item : {A : Type 0} (xs : List A) (i : ℕ) (x : A) → i < length xs → x ≡ get_or xs i x → take (i + 1) xs ≡ take i xs ++ x ∷ []
 taken_item xs i x lt is = taken_one xs i x lt ∙ ap (λ y. take i xs ++ y ∷ []) (sym is)
 
--- what is so of each of the first ones, with the next one
-pub each_taken : {A : Type 0} (P : A → Type 0) (xs : List A) (i : ℕ) (x : A) → i < length xs → x ≡ get_or xs i x → ((y : A) → Contains (take i xs) y → P y) → P x → (y : A) → Contains (take (i + 1) xs) y → P y
-each_taken P xs i x lt is old own y there = each_more P (take i xs) x old own y (subst (λ l. Contains l y) (taken_item xs i x lt is) there)
-
-pub some_taken : {A : Type 0} (P : A → Type 0) (xs : List A) (i : ℕ) (x : A) → i < length xs → x ≡ get_or xs i x → (y : A) × Contains (take i xs) y × P y → (y : A) × Contains (take (i + 1) xs) y × P y
-some_taken P xs i x lt is (y, there, h) = (y, subst (λ l. Contains l y) (sym (taken_item xs i x lt is)) (before_end (take i xs) x y there), h)
-
-pub last_taken : {A : Type 0} (P : A → Type 0) (xs : List A) (i : ℕ) (x : A) → i < length xs → x ≡ get_or xs i x → P x → (y : A) × Contains (take (i + 1) xs) y × P y
-last_taken P xs i x lt is h = (x, subst (λ l. Contains l x) (sym (taken_item xs i x lt is)) (at_end (take i xs) x), h)
-
 longer : {A : Type 0} (y x : A) (before : List A) → 2 ≤ length (y ∷ before ++ x ∷ [])
 longer y x [] = omega arith
 longer y x (z ∷ before) = (let h = longer z x before in omega (arith, h))

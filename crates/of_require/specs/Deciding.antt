@@ -1,18 +1,11 @@
--- For contracts inside this crate: classes of frames that decide a requirement, and sets of frames whose packets have the same fields.
+-- For contracts inside this crate: classes of frames that decide a requirement, and the sets into which frames are divided by what packets ask.
 use Rattle.std.specs.Prelude.{◌≡◌, ◌≤◌, ◌<◌, ◌^◌, ◌⊎◌, ℕ, Bool, true, false, not, List, [], ◌∷◌, length}
 use Rattle.std.specs.Global.{Vec}
 use Rattle.std.specs.List.{Contains, list_all}
 use Rattle.of_oxm.specs.declared.match_field.MatchField.{MatchField}
-use Rattle.of_oxm.specs.Relations.{matches_map}
 use Rattle.of_rewrite.specs.Frames.{IsFrame}
-use Rattle.of_symbolic.specs.declared.pulling.Pulled.{Pulled}
-use Rattle.of_symbolic.specs.declared.pulling.Pulled.TheVariants.{Never, When}
-use Rattle.of_symbolic.specs.Actions.{frame_of_actions}
-use Rattle.of_symbolic.specs.Parts.{received_fields}
-use Rattle.of_symbolic.specs.Pulling.{IsTrueOfFrames}
 use Rattle.of_symbolic_run.specs.declared.finding.FrameFound.TheVariants as found
 use Rattle.of_symbolic_run.specs.declared.frame_set.FrameSet.{FrameSet}
-use Rattle.of_symbolic_run.specs.declared.state.Emission.{Emission}
 use Rattle.of_symbolic_run.specs.FrameSets.{FindsFrame, InFrames}
 use Rattle.of_symbolic_run.specs.PortNumbers.{IsReceivingPort, came_in_by}
 use Rattle.of_symbolic_run.specs.Received.{items_at}
@@ -33,7 +26,7 @@ use Rattle.of_require.specs.declared.requirement.Demand.{Demand}
 use Rattle.of_require.specs.declared.requirement.Demand.TheVariants.{Has}
 use Rattle.of_require.specs.declared.requirement.Requirement.{Requirement}
 use Rattle.of_require.specs.Decisions.{IsDeciding, IsDecisionAmong, decides}
-use Rattle.of_require.specs.Packets.{IsUnknownAmong, IsUnknownPacket, IsUnknownPath, packet_actions}
+use Rattle.of_require.specs.Packets.{IsPartBy, IsPartByAll, IsUnknownAmong, IsUnknownClass, IsUnknownPath}
 use Rattle.of_require.specs.Requirements.{is_leaving}
 
 abbrev pub first_decides : Requirement → ℕ → List Path → List Item → Bool
@@ -87,57 +80,34 @@ IsSoughtInPath w r fields steps p sought =
 abbrev pub IsSoughtInClass : TheWorld → Requirement → List MatchField → ℕ → PathClass → Sought → Type 0
 IsSoughtInClass w r fields steps c sought =
     (port : ℕ) (places : Vec Destination) → IsReceivingPort w.ports port → port < 2 ^ 32 → IsPathClass w (came_in_by port ∷ r.within.items) c → length c.paths.items ≡ 1 → r.demand ≡ Has places fields →
-    IsSought w r (λ frame q. (q ≡ port) × InPaths c.paths.items frame q) ((p : Path) × Contains c.paths.items p × IsUnknownPath fields steps p) sought
+    IsSought w r (λ frame q. (q ≡ port) × InPaths c.paths.items frame q) (IsUnknownClass r.demand fields steps c) sought
+
+-- in all of these: none if there is none in each, and otherwise as in one of them
+abbrev pub IsSoughtInAll : {A : Type 0} → (A → Sought → Type 0) → List A → Sought → Type 0
+IsSoughtInAll {A} is xs NoFrame = (x : A) → Contains xs x → is x NoFrame
+IsSoughtInAll {A} is xs sought = (x : A) × Contains xs x × is x sought
 
 abbrev pub IsSoughtInEach : TheWorld → Requirement → List MatchField → ℕ → List PathClass → Sought → Type 0
-IsSoughtInEach w r fields steps classes NoFrame = (c : PathClass) → Contains classes c → IsSoughtInClass w r fields steps c NoFrame
-IsSoughtInEach w r fields steps classes sought = (c : PathClass) × Contains classes c × IsSoughtInClass w r fields steps c sought
+IsSoughtInEach w r fields steps classes sought = IsSoughtInAll (IsSoughtInClass w r fields steps) classes sought
 
 -- what was found if no frame decides: it is known of all, or not
 abbrev pub found_so_far : Bool → Sought
 found_so_far true = NoFrame
 found_so_far false = Undecided
 
--- ---- conditions on the frames that came in, for packets to have fields
-
--- a packet has them exactly if this is so of the frame that came in
-pub record IsAskedBy (fields : List MatchField) (e : Emission) (asked : Pulled) : Type 0 where
-  pub frame : (f : List ℕ) → IsFrame f → IsFrame (frame_of_actions (packet_actions e) f)
-  pub is : IsTrueOfFrames (packet_actions e) 0 fields asked
-
--- it never has them, or asks one of these lists of conditions
-abbrev pub AsksOneOf : List MatchField → List (Vec MatchField) → Emission → Type 0
-AsksOneOf fields lists e = IsAskedBy fields e Never ⊎ ((m : Vec MatchField) × Contains lists m × IsAskedBy fields e (When m))
-
-abbrev pub AreAsked : List MatchField → List Emission → List (Vec MatchField) → Type 0
-AreAsked fields emitted lists = (e : Emission) → Contains emitted e → AsksOneOf fields lists e
-
-abbrev pub SomeUnknown : List MatchField → List Emission → Type 0
-SomeUnknown fields emitted = (e : Emission) × Contains emitted e × IsUnknownPacket fields e
-
--- ---- sets of frames, divided by such conditions
+-- ---- sets of frames, divided by conditions
 
 abbrev pub InSomeSet : List FrameSet → List ℕ → ℕ → Type 0
 InSomeSet sets frame port = (s : FrameSet) × Contains sets s × InFrames s frame port
 
-abbrev pub AreAllIn : FrameSet → FrameSet → Type 0
-AreAllIn s old = (frame : List ℕ) (port : ℕ) → InFrames s frame port → InFrames old frame port
-
--- the conditions match each frame of the set, or none
-abbrev pub AreOneWay : List MatchField → FrameSet → Type 0
-AreOneWay m s =
-    ((frame : List ℕ) (port : ℕ) → InFrames s frame port → matches_map m (received_fields frame port) ≡ true)
-    ⊎ ((frame : List ℕ) (port : ℕ) → InFrames s frame port → matches_map m (received_fields frame port) ≡ false)
-
 -- all frames of some sets, by whether conditions match
 pub record AreDivided (m : List MatchField) (old new : List FrameSet) : Type 0 where
-  pub within : (s : FrameSet) → Contains new s → AreOneWay m s × ((o : FrameSet) × Contains old o × AreAllIn s o)
+  pub within : (s : FrameSet) → Contains new s → (o : FrameSet) × Contains old o × IsPartBy m o s
   pub all : (frame : List ℕ) (port : ℕ) → IsFrame frame → InSomeSet old frame port → InSomeSet new frame port
 
 -- all frames of a set, by each of these lists of conditions
 pub record AreDividedByAll (lists : List (Vec MatchField)) (old : FrameSet) (new : List FrameSet) : Type 0 where
-  pub within : (s : FrameSet) → Contains new s → AreAllIn s old
-  pub ways : (s : FrameSet) → Contains new s → (m : Vec MatchField) → Contains lists m → AreOneWay m.items s
+  pub within : (s : FrameSet) → Contains new s → IsPartByAll lists old s
   pub all : (frame : List ℕ) (port : ℕ) → IsFrame frame → InFrames old frame port → InSomeSet new frame port
 
 -- ---- searches in sets of frames with these steps
@@ -159,5 +129,4 @@ IsSoughtInSet w r lines steps s NoFrame =
 IsSoughtInSet w r lines steps s Undecided = FindsFrame s steps found.Undecided
 
 abbrev pub IsSoughtInSets : TheWorld → Requirement → List Step → ℕ → List FrameSet → Sought → Type 0
-IsSoughtInSets w r lines steps sets NoFrame = (s : FrameSet) → Contains sets s → IsSoughtInSet w r lines steps s NoFrame
-IsSoughtInSets w r lines steps sets sought = (s : FrameSet) × Contains sets s × IsSoughtInSet w r lines steps s sought
+IsSoughtInSets w r lines steps sets sought = IsSoughtInAll (IsSoughtInSet w r lines steps) sets sought

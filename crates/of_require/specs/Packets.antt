@@ -1,23 +1,26 @@
 -- WHICH FRAMES MAKE THE PACKETS of a path have some fields when they leave (OpenFlow 1.3.5, 5.12), and when that is not known.
-use Rattle.std.specs.Prelude.{◌≡◌, ◌⊎◌, ℕ, true, List}
+use Rattle.std.specs.Prelude.{◌≡◌, ◌⊎◌, ℕ, true, List, [], ◌∷◌}
+use Rattle.std.specs.Global.{Vec}
 use Rattle.std.specs.List.{Contains}
 use Rattle.of_oxm.specs.declared.match_field.MatchField.{MatchField}
-use Rattle.of_oxm.specs.Relations.{matches_map}
 use Rattle.of_rewrite.specs.Frames.{IsFrame}
 use Rattle.of_actions.specs.declared.action.Action.{Action}
 use Rattle.of_symbolic.specs.declared.overlay.Overlay.{Overlay}
-use Rattle.of_symbolic.specs.Branches.{rewritten_fields}
+use Rattle.of_symbolic.specs.declared.pulling.Pulled.{Pulled}
+use Rattle.of_symbolic.specs.declared.pulling.Pulled.TheVariants.{Never, When}
+use Rattle.of_symbolic.specs.Actions.{frame_of_actions}
 use Rattle.of_symbolic.specs.Overlays.{IsOverlay}
-use Rattle.of_symbolic.specs.Pulling.{is_unknown_in}
+use Rattle.of_symbolic.specs.Pulling.{IsTrueOfFrames, is_unknown_in}
 use Rattle.of_symbolic_run.specs.declared.finding.FrameFound.TheVariants as found
 use Rattle.of_symbolic_run.specs.declared.frame_set.FrameSet.{FrameSet}
 use Rattle.of_symbolic_run.specs.declared.state.Emission.{Emission}
 use Rattle.of_symbolic_run.specs.declared.state.Emission.TheVariants.{InvalidTtl, Output}
-use Rattle.of_symbolic_run.specs.FrameSets.{FindsFrame, InFrames}
+use Rattle.of_symbolic_run.specs.FrameSets.{AreFramesMatching, AreFramesWithout, FindsFrame}
 use Rattle.of_paths.specs.declared.path.Path.{Path}
 use Rattle.of_paths.specs.declared.path.PathClass.{PathClass}
 use Rattle.of_require.specs.declared.requirement.Demand.{Demand}
 use Rattle.of_require.specs.declared.requirement.Demand.TheVariants.{Has}
+use Rattle.of_require.specs.Requirements.{is_leaving}
 
 -- the actions that made a packet of the frame that came in
 abbrev pub packet_actions : Emission → List Action
@@ -30,23 +33,43 @@ pub record IsUnknownPacket (fields : List MatchField) (e : Emission) : Type 0 wh
   pub is : IsOverlay overlay (packet_actions e)
   pub unknown : is_unknown_in overlay fields ≡ true
 
--- the packet of each of these frames has the fields, or that of none
-abbrev pub HaveAlikePackets : List MatchField → FrameSet → Emission → Type 0
-HaveAlikePackets fields s e =
-    (f g : List ℕ) (p q : ℕ) → IsFrame f → IsFrame g → InFrames s f p → InFrames s g q →
-    matches_map fields (rewritten_fields (packet_actions e) 0 f p) ≡ matches_map fields (rewritten_fields (packet_actions e) 0 g q)
+abbrev pub SomeUnknown : List MatchField → List Emission → Type 0
+SomeUnknown fields emitted = (e : Emission) × Contains emitted e × IsUnknownPacket fields e
 
--- some frames of a path, whose packets are alike
-pub record AreSomeOf (fields : List MatchField) (p : Path) (s : FrameSet) : Type 0 where
-  pub within : (frame : List ℕ) (port : ℕ) → InFrames s frame port → InFrames p.frames frame port
-  pub alike : (e : Emission) → Contains p.emitted.items e → HaveAlikePackets fields s e
+-- a packet has the fields exactly if this is so of the frame that came in
+pub record IsAskedBy (fields : List MatchField) (e : Emission) (asked : Pulled) : Type 0 where
+  pub frame : (f : List ℕ) → IsFrame f → IsFrame (frame_of_actions (packet_actions e) f)
+  pub is : IsTrueOfFrames (packet_actions e) 0 fields asked
 
--- it is not known of some packet, or no frame was found of some that make packets alike
+-- the conditions that these packets ask of it, in this order; a packet that never has the fields asks none
+abbrev pub AreAsked : List MatchField → List Emission → List (Vec MatchField) → Type 0
+AreAsked fields [] lists = lists ≡ []
+AreAsked fields (e ∷ es) lists =
+    (IsAskedBy fields e Never × AreAsked fields es lists)
+    ⊎ ((m : Vec MatchField) × (rest : List (Vec MatchField)) × (lists ≡ m ∷ rest) × IsAskedBy fields e (When m) × AreAsked fields es rest)
+
+-- ---- frames, divided by such conditions
+
+-- those that they match, or those that they do not match
+abbrev pub IsPartBy : List MatchField → FrameSet → FrameSet → Type 0
+IsPartBy m old new = AreFramesMatching m old new ⊎ AreFramesWithout m old new
+
+-- divided by each of the lists, in this order
+abbrev pub IsPartByAll : List (Vec MatchField) → FrameSet → FrameSet → Type 0
+IsPartByAll [] old new = new ≡ old
+IsPartByAll (m ∷ lists) old new = (between : FrameSet) × IsPartBy m.items old between × IsPartByAll lists between new
+
+-- it is not known of some packet; or no frame was found of a set into which what the packets ask divides the frames of the path
 abbrev pub IsUnknownPath : List MatchField → ℕ → Path → Type 0
 IsUnknownPath fields steps p =
-    ((e : Emission) × Contains p.emitted.items e × IsUnknownPacket fields e) ⊎ ((s : FrameSet) × AreSomeOf fields p s × FindsFrame s steps found.Undecided)
+    SomeUnknown fields p.emitted.items
+    ⊎ ((lists : List (Vec MatchField)) × AreAsked fields p.emitted.items lists × ((s : FrameSet) × IsPartByAll lists p.frames s × FindsFrame s steps found.Undecided))
 
--- of some path of these classes, if fields are asked
+-- of some path of a class, of which something leaves by the places
+abbrev pub IsUnknownClass : Demand → List MatchField → ℕ → PathClass → Type 0
+IsUnknownClass demand fields steps c = (is_leaving demand c.items.items ≡ true) × ((p : Path) × Contains c.paths.items p × IsUnknownPath fields steps p)
+
+-- of some of these classes, if fields are asked
 abbrev pub IsUnknownAmong : Demand → ℕ → List PathClass → Type 0
-IsUnknownAmong (Has places fields) steps classes = (c : PathClass) × Contains classes c × ((p : Path) × Contains c.paths.items p × IsUnknownPath fields steps p)
+IsUnknownAmong (Has places fields) steps classes = (c : PathClass) × Contains classes c × IsUnknownClass (Has places fields) fields steps c
 IsUnknownAmong other steps classes = ⊥

@@ -135,7 +135,7 @@ fn seek_in_class<L: Lookup>(
 }
 
 // What was found if no frame decides so far: it is known of all, or not.
-fn sought_so_far(is_known: bool) -> Sought
+pub(crate) fn sought_so_far(is_known: bool) -> Sought
     ensures { result ≡ found_so_far is_known }
 {
     if is_known {

@@ -6,10 +6,10 @@ ghost use Rattle.of_datapath.specs.Numbers.{forwarding_of};
 ghost use Rattle.of_symbolic.specs.Parts.{AreListsOfConditions};
 ghost use Rattle.of_symbolic.specs.Pulling.{AsksConditions};
 ghost use Rattle.of_symbolic.specs.declared.pulling.Pulled.TheVariants.{Unknown};
-ghost use Rattle.of_require.specs.Deciding.{AreAsked, AreDivided, AreDividedByAll, IsAskedBy, IsSoughtInPath, IsSoughtInSet, IsSoughtInSets, SomeUnknown};
-ghost use Rattle.of_require.specs.Packets.{IsUnknownPacket, packet_actions as rewrites_in};
+ghost use Rattle.of_require.specs.Deciding.{AreDivided, AreDividedByAll, IsSoughtInPath, IsSoughtInSet, IsSoughtInSets};
+ghost use Rattle.of_require.specs.Packets.{AreAsked, IsAskedBy, IsUnknownPacket, SomeUnknown, packet_actions as rewrites_in};
 
-use crate::deciding::{Shown, Sought};
+use crate::deciding::{Shown, Sought, sought_so_far};
 use crate::doing::decides;
 use crate::requirement::Requirement;
 use of_classifier::Lookup;
@@ -146,11 +146,7 @@ fn seek_in_sets<L: Lookup>(
             Sought::Frame(shown) => return Ok(Sought::Frame(shown)),
         }
     }
-    Ok(if is_known {
-        Sought::NoFrame
-    } else {
-        Sought::Undecided
-    })
+    Ok(sought_so_far(is_known))
 }
 
 /// A frame of a path, whose packets have these fields or lack them, that decides a requirement that demands them. The search for each takes so many

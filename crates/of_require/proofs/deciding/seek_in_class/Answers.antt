@@ -14,6 +14,7 @@ returns-then-not-is_leaving g c = λ port places receives fits class one has.
 pub returns : goal.returns
 returns g c = λ port places receives fits class one has.
     let w = world_of (forwarding_of c.args.datapath.now) in
+    let leaving = ap (is_leaving c.args.requirement.now.demand) (sym c.deref.ensures) ∙ (sym c.is_leaving.ensures ∙ c.if-not-is_leaving.false) in
     let there : Contains c.args.class.paths.items c.in-Some.path = rw c.in-Some.ensures.items (at_end c.pop.new.self.items c.in-Some.path) in
-    class_sought w c.args.requirement.now c.args.fields.now c.args.steps port c.args.class.paths.items c.pop.new.self.items c.in-Some.path c.in-Some.ensures.items one c.in_ok-sought-in-Some.sought
+    class_sought w c.args.requirement.now c.args.fields.now c.args.steps port c.args.class.items.items leaving c.args.class.paths.items c.pop.new.self.items c.in-Some.path c.in-Some.ensures.items one c.in_ok-sought-in-Some.sought
     (c.in_ok-sought-in-Some.ensures port places receives fits (class.paths c.in-Some.path there) has)

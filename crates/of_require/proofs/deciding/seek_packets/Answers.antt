@@ -3,15 +3,16 @@ use Rattle.std.specs.List.{Contains}
 use Rattle.of_datapath.specs.Datapath.{world_of}
 use Rattle.of_datapath.specs.Numbers.{forwarding_of}
 use Rattle.of_paths.specs.declared.path.PathClass.{PathClass}
+use Rattle.of_require.specs.Deciding.{IsSoughtInClass}
 use Rattle.of_require.proofs.DecidingLemmas.{in_middle, one_more}
 use Rattle.of_require.proofs.ListLemmas.{at_end}
-use Rattle.of_require.proofs.PacketLemmas.{class_without}
+use Rattle.of_require.proofs.PacketLemmas.{one_without}
 use Rattle.of_require.proofs.deciding.seek_packets.Goals as goal
 
 pub loop-class-preserved-in-NoFrame : goal.loop-class-preserved-in-NoFrame
 loop-class-preserved-in-NoFrame g c = record {
   parts = one_more c.loop-class.yielded c.in-Some.class c.next.new.self.rest.items ∙ (ap (λ (l : List PathClass). c.loop-class.yielded ++ l) (sym c.in-Some.ensures.steps.0) ∙ c.loop-class.invariant.parts);
-  sought = class_without (world_of (forwarding_of c.args.datapath.now)) c.args.requirement.now c.args.fields.now c.args.steps c.loop-class.yielded c.in-Some.class c.loop-class.is_known c.loop-class.invariant.sought (rw c.in-NoFrame.is at c.in_ok-seek_in_class.ensures);
+  sought = one_without (IsSoughtInClass (world_of (forwarding_of c.args.datapath.now)) c.args.requirement.now c.args.fields.now c.args.steps) c.loop-class.yielded c.in-Some.class c.loop-class.is_known c.loop-class.invariant.sought (rw c.in-NoFrame.is at c.in_ok-seek_in_class.ensures);
 }
 
 pub loop-class-preserved : goal.loop-class-preserved

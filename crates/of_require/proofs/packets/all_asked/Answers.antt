@@ -1,6 +1,6 @@
-use Rattle.std.proofs.Common.{List, subst, sym}
-use Rattle.std.specs.List.{Contains}
+use Rattle.std.proofs.Common.{List, subst}
 use Rattle.of_symbolic_run.specs.declared.state.Emission.{Emission}
+use Rattle.of_require.specs.Packets.{AreAsked}
 use Rattle.of_require.proofs.ListLemmas.{all_taken}
 use Rattle.of_require.proofs.DividingLemmas.{asked_more, asked_never, conditions_more}
 use Rattle.of_require.proofs.packets.all_asked.Goals.{in-Never, in-When+in_ok-push-in-When}
@@ -19,4 +19,4 @@ loop-e-preserved c = elim c.match-branch-2.branch [
 ]
 
 pub returns-clause-known : goal.returns-clause-known
-returns-clause-known c e there = c.loop-e.invariant.asked e (subst (λ (l : List Emission). Contains l e) (sym (all_taken c.args.emitted.now c.loop-e.e-index c.loop-e-test.false)) there)
+returns-clause-known c = subst (λ (l : List Emission). AreAsked c.args.fields.now l c.loop-e.lists.items) (all_taken c.args.emitted.now c.loop-e.e-index c.loop-e-test.false) c.loop-e.invariant.asked

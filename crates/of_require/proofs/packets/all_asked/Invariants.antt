@@ -1,6 +1,6 @@
 use Rattle.std.proofs.Common.{take}
 use Rattle.of_symbolic.specs.Parts.{AreListsOfConditions}
-use Rattle.of_require.specs.Deciding.{AreAsked}
+use Rattle.of_require.specs.Packets.{AreAsked}
 use Rattle.of_require.proofs.packets.all_asked.Given as goal
 
 abbrev pub invariant-loop-e : goal.invariant-loop-e

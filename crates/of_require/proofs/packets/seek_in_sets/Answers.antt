@@ -1,25 +1,20 @@
-use Rattle.std.proofs.Common.{◌∙◌, List, subst, sym}
+use Rattle.std.proofs.Common.{List, subst, sym}
 use Rattle.of_datapath.specs.Datapath.{world_of}
 use Rattle.of_datapath.specs.Numbers.{forwarding_of}
-use Rattle.of_require.specs.declared.deciding.Sought.TheVariants.{NoFrame, Undecided}
 use Rattle.of_symbolic_run.specs.declared.frame_set.FrameSet.{FrameSet}
-use Rattle.of_require.specs.Deciding.{IsSoughtInSet, IsSoughtInSets}
-use Rattle.of_require.proofs.ListLemmas.{all_taken, each_taken, last_taken, some_taken}
-use Rattle.of_require.proofs.packets.seek_in_sets.Goals.{in-NoFrame, in-Undecided, then-is_known, else-is_known}
+use Rattle.of_require.specs.Deciding.{IsSoughtInSet, IsSoughtInSets, found_so_far}
+use Rattle.of_require.proofs.ListLemmas.{all_taken, at_end, taken_item}
+use Rattle.of_require.proofs.PacketLemmas.{one_without}
+use Rattle.of_require.proofs.packets.seek_in_sets.Goals.{in-NoFrame, in-Undecided}
 use Rattle.of_require.proofs.packets.seek_in_sets.Goals as goal
 
 pub loop-set-preserved : goal.loop-set-preserved
 loop-set-preserved g c =
-    let w = world_of (forwarding_of c.args.datapath.now) in
+    let is = IsSoughtInSet (world_of (forwarding_of c.args.datapath.now)) c.args.requirement.now c.args.lines.now c.args.steps in
+    let taken = taken_item c.args.sets.now c.loop-set.set-index c.set-item.result c.loop-set-test.true c.set-item.is in
     elim c.match-branch-2.branch [
-      | in-NoFrame h ↦ record {
-        none = λ is. each_taken (λ s. IsSoughtInSet w c.args.requirement.now c.args.lines.now c.args.steps s NoFrame) c.args.sets.now c.loop-set.set-index c.set-item.result c.loop-set-test.true c.set-item.is (c.loop-set.invariant.none (sym h.is_known-is ∙ is)) (rw h.in-NoFrame.is at c.in_ok-seek_in_set.ensures);
-        some = λ is. some_taken (λ s. IsSoughtInSet w c.args.requirement.now c.args.lines.now c.args.steps s Undecided) c.args.sets.now c.loop-set.set-index c.set-item.result c.loop-set-test.true c.set-item.is (c.loop-set.invariant.some (sym h.is_known-is ∙ is));
-      }
-      | in-Undecided h ↦ record {
-        none = λ is. (let fails = sym h.is_known-is ∙ is in absurd cc);
-        some = λ is. last_taken (λ s. IsSoughtInSet w c.args.requirement.now c.args.lines.now c.args.steps s Undecided) c.args.sets.now c.loop-set.set-index c.set-item.result c.loop-set-test.true c.set-item.is (rw h.in-Undecided.is at c.in_ok-seek_in_set.ensures);
-      }
+      | in-NoFrame h ↦ rw (taken, h.is_known-is) (one_without is _ c.set-item.result c.loop-set.is_known c.loop-set.invariant (rw h.in-NoFrame.is at c.in_ok-seek_in_set.ensures))
+      | in-Undecided h ↦ rw (taken, h.is_known-is) (c.set-item.result, at_end _ c.set-item.result, rw h.in-Undecided.is at c.in_ok-seek_in_set.ensures)
     ]
 
 pub returns-in-Frame : goal.returns-in-Frame
@@ -30,8 +25,5 @@ returns-in-Frame g c =
 pub returns : goal.returns
 returns g c =
     let w = world_of (forwarding_of c.args.datapath.now) in
-    let all = all_taken c.args.sets.now c.loop-set.set-index c.loop-set-test.false in
-    elim c.if-is_known.branch [
-      | then-is_known h ↦ rw h.result-is (subst (λ (l : List FrameSet). IsSoughtInSets w c.args.requirement.now c.args.lines.now c.args.steps l NoFrame) all (c.loop-set.invariant.none h.if-is_known.true))
-      | else-is_known h ↦ rw h.result-is (subst (λ (l : List FrameSet). IsSoughtInSets w c.args.requirement.now c.args.lines.now c.args.steps l Undecided) all (c.loop-set.invariant.some h.if-is_known.false))
-    ]
+    rw c.sought_so_far.ensures
+    (subst (λ (l : List FrameSet). IsSoughtInSets w c.args.requirement.now c.args.lines.now c.args.steps l (found_so_far c.loop-set.is_known)) (all_taken c.args.sets.now c.loop-set.set-index c.loop-set-test.false) c.loop-set.invariant)
