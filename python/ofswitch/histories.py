@@ -25,7 +25,7 @@ def history(
     program: StrPath | None = None,
     timeout: float = 600.0,
 ) -> list[dict[str, Any]]:
-    """The changes of the fate of a frame, as docs/JSON.md describes them: `line`, `row` or `message` and `by`, `before` and `after`.
+    """The changes of the fate of a frame, as docs/JSON.md describes them: `line`, `row` or `message` and `by`, `reason`, `before` and `after`.
 
     The log is an event file as a text, or its path (a `pathlib.Path`). The frame is bytes or words, as `trace` takes them; with `row`
     it is that of a row `f PORT HEX` in this line, and the history ends there. With `flow` they are the changes of the flow entries

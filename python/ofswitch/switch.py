@@ -3,8 +3,8 @@
 from __future__ import annotations
 
 import contextlib
-import functools
 import os
+import re
 import tempfile
 import threading
 import warnings
@@ -49,8 +49,8 @@ _BAD_ARGUMENT = 1
 _BAD_FILE = 2
 _LEFT_OUT = 4
 
-# How many frames in words are kept as bytes.
-_FRAMES_KEPT = 1024
+# Hexadecimal digits, which are a frame as well as words are.
+_DIGITS = re.compile(r"[0-9a-fA-F]+")
 
 
 class Switch:
@@ -237,6 +237,11 @@ class Switch:
         """
         if "in_port" in words:
             raise ValueError("in_port: the port is an argument of its own")
+        if words.isascii() and words.isprintable() and not _DIGITS.fullmatch(words):
+            answer = self._answer(f"bytes {words}").rstrip()
+            if _DIGITS.fullmatch(answer):
+                return bytes.fromhex(answer)
+        # a run of its own says what is wrong with the words
         return _frame_in_words(self._program, words, self._timeout)
 
     def steps(self, port: int, frame: Octets | str, *, explain: bool = False) -> str:
@@ -492,7 +497,6 @@ class _Story:
         self._run.close()
 
 
-@functools.lru_cache(maxsize=_FRAMES_KEPT)
 def _frame_in_words(program: str, words: str, timeout: float) -> bytes:
     """The frame that has the fields of these words. ValueError if there is none."""
     try:

@@ -510,9 +510,10 @@ def test_frames_in_words(switch, monkeypatch):
     assert switch.trace(1, words) == switch.trace(1, frame)
     assert switch.frame_of(frame.hex()) == frame
     assert "f 1 " + frame.hex() in switch.log
-    # words that were read before start no program
-    monkeypatch.setattr("ofswitch.switch.run_to_end", None)
+    # the run answers: no other is started
+    monkeypatch.setattr("ofswitch.program.subprocess", None)
     assert switch.frame_of(words) == frame
+    assert switch.frame(1, "udp, nw_src=10.0.0.1 nw_dst=10.0.0.2,tp_dst=53") == [Sent(2, frame)]
     monkeypatch.undo()
     with pytest.raises(ValueError, match="nw_src: needs ip"):
         switch.frame(1, "nw_src=10.0.0.1")

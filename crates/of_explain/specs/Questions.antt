@@ -1,6 +1,9 @@
 -- QUESTIONS in an event file: comments that ask about the switch at that place.
-use Rattle.std.specs.Prelude.{ℕ, List, [], ◌∷◌, ◌++◌, drop, take, length, nat_lt, codes, Option, Some, None, if◌then◌else◌}
+use Rattle.std.specs.Prelude.{ℕ, List, [], ◌∷◌, ◌++◌, drop, take, length, nat_lt, codes, Option, Some, None, Result, Ok, Err, if◌then◌else◌}
 use Rattle.std.specs.Str.{bytes_eq}
+use Rattle.hex.specs.Hex.{encode_lower}
+use Rattle.of_frame_words.specs.Frames.{ReceivedFrame, frame_in_words}
+use Rattle.of_frame_words.specs.Said.{WordRefusal}
 use Rattle.of_switch.specs.State.{State}
 use Rattle.of_replay.specs.Lexing.{first_word, after_first_word, word_number, hex_bytes}
 use Rattle.of_replay.specs.FileRuns.{switch_text}
@@ -21,6 +24,8 @@ pub data Question : Type 0 where
   Flows : Question
   -- what a frame would do that is received next
   Next : (manner : Manner) → (port : ℕ) → (frame : List ℕ) → Question
+  -- the frame that words say
+  FrameOf : (words : List ℕ) → Question
   -- nothing: the end of the answer says that the lines before were played
   Mark : Question
   Unknown : Question
@@ -47,18 +52,19 @@ abbrev pub next_question_by : Option Manner → List ℕ → Question
 next_question_by None words = Unknown
 next_question_by (Some manner) words = next_in manner words
 
--- `flows`, `mark`, or `frame`, `trace`, `explain` or `why` and a frame
+-- `flows`, `mark`, `bytes` and words, or `frame`, `trace`, `explain` or `why` and a frame
 abbrev pub question_named : List ℕ → Option (List ℕ) → Question
 question_named name None = if bytes_eq name (codes "flows") then Flows else (if bytes_eq name (codes "mark") then Mark else Unknown)
-question_named name (Some words) = next_question_by (manner_named name) words
+question_named name (Some words) = if bytes_eq name (codes "bytes") then FrameOf words else next_question_by (manner_named name) words
 
 unfoldable pub question_of : List ℕ → Question
 question_of words = question_named (first_word words) (after_first_word words)
 
--- the same, where the frame is beside it
+-- the same, where the frame or the words are beside it
 abbrev pub with_frame : List ℕ → Asked → Question
 with_frame frame asked.Flows = Flows
 with_frame frame (asked.Next manner port) = Next manner port frame
+with_frame frame asked.FrameOf = FrameOf frame
 with_frame frame asked.Mark = Mark
 with_frame frame asked.Unknown = Unknown
 
@@ -66,11 +72,17 @@ with_frame frame asked.Unknown = Unknown
 abbrev pub question_words : List ℕ → Option (List ℕ)
 question_words line = if nat_lt (length line) 3 then None else (if bytes_eq (take 3 line) (codes "#? ") then Some (drop 3 line) else None)
 
+-- its digits, or the word that is refused
+abbrev pub frame_line : Result ReceivedFrame WordRefusal → List ℕ
+frame_line (Ok r) = encode_lower r.frame ++ 10 ∷ []
+frame_line (Err refusal) = codes "no frame: " ++ refusal.word ++ 10 ∷ []
+
 -- THE ANSWER of a switch
 abbrev pub answer : State → Question → List ℕ
 answer s Flows = switch_text s
 answer s (Next (Steps form) port frame) = trace_on (Lines form) port frame s
 answer s (Next Words port frame) = frame_notes port frame s
+answer s (FrameOf words) = frame_line (frame_in_words 1 words)
 answer s Mark = []
 answer s Unknown = codes "unknown question" ++ 10 ∷ []
 

@@ -3,11 +3,14 @@ ghost use Rattle.std.specs.Prelude.{◌≡◌, ◌++◌, IfErr, OnOk};
 ghost use Rattle.std.specs.Option.{option_copied};
 ghost use Rattle.of_switch.specs.declared.switch_error.SwitchError.TheVariants.{NoMemory};
 ghost use Rattle.of_replay.specs.FileRuns.{switch_text};
-ghost use Rattle.of_explain.specs.Questions.{Next, answer, answered_question, question_words, with_answers, with_frame};
+ghost use Rattle.of_frame_words.specs.Frames.{frame_in_words};
+ghost use Rattle.of_explain.specs.Questions.{Next, answer, answered_question, frame_line, question_words, with_answers, with_frame};
 
 use crate::push_frame_notes;
 use crate::question::{Manner, Question, read_question};
+use of_build::push_hex;
 use of_classifier::Lookup;
+use of_frame_words::{NoFrame, read_frame};
 use of_replay::{Row, RowPrinter};
 use of_switch::{Switch, SwitchError};
 use of_text::{disassemble, is};
@@ -64,6 +67,22 @@ fn push_next<L: Lookup>(
     }
 }
 
+// Appends the digits of the frame that words say, or the word that is refused.
+fn push_frame_of(alloc: Global, out: &mut Vec<u8>, words: &[u8]) -> Result<(), AllocError>
+    ensures { OnOk result (out.new.items ≡ out.old.items ++ frame_line (frame_in_words 1 words.now)) }
+{
+    match read_frame(alloc, 1, words) {
+        Ok(received) => push_hex(alloc, out, &received.frame)?,
+        Err(NoFrame::Refused(refusal)) => {
+            out.extend_from_slice(b"no frame: ")?;
+            out.extend_from_slice(&refusal.word)?;
+        }
+        Err(NoFrame::NoMemory) => return Err(AllocError),
+    }
+    out.push(b'\n')?;
+    Ok(())
+}
+
 // Appends the answer to a question, without the line that ends it.
 fn push_answer<L: Lookup>(
     alloc: Global,
@@ -78,6 +97,7 @@ fn push_answer<L: Lookup>(
     match question {
         Question::Flows => Ok(push_flows(alloc, out, switch)?),
         Question::Next { manner, port } => push_next(alloc, out, switch, manner, port, frame),
+        Question::FrameOf => Ok(push_frame_of(alloc, out, frame)?),
         Question::Mark => Ok(()),
         Question::Unknown => Ok(out.extend_from_slice(b"unknown question\n")?),
     }
@@ -103,7 +123,7 @@ fn push_answered<L: Lookup>(
 /// Prints for each row what another printer does, and answers questions: comments that begin with `#? `. The last line of an answer is `?`.
 ///
 /// `flows` asks for the groups and flow tables as flow text; `frame PORT HEX` for what a frame would do that is received next, in words;
-/// `trace PORT HEX`, `explain PORT HEX` and `why PORT HEX` for its steps; `mark` for nothing. Nothing changes.
+/// `trace PORT HEX`, `explain PORT HEX` and `why PORT HEX` for its steps; `bytes WORDS` for the frame that has these fields; `mark` for nothing. Nothing changes.
 #[derive(Drop)]
 pub struct Answering<T> {
     pub rows: T,

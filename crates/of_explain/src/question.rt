@@ -16,13 +16,15 @@ pub enum Manner {
     Steps(Form),
 }
 
-/// What a comment asks. The bytes of a frame are in the buffer that it was read with.
+/// What a comment asks. The bytes of a frame, or its words, are in the buffer that it was read with.
 #[derive(Clone, Copy, PartialEq, Eq)]
 pub enum Question {
     /// The groups and flow tables.
     Flows,
     /// What a frame would do that is received next.
     Next { manner: Manner, port: u32 },
+    /// The frame that words say.
+    FrameOf,
     /// Nothing.
     Mark,
     Unknown,
@@ -82,13 +84,18 @@ fn read_next(manner: Manner, words: &[u8], frame: &mut Vec<u8>) -> Result<Questi
 fn read_named(name: &[u8], words: &[u8], frame: &mut Vec<u8>) -> Result<Question, AllocError>
     ensures { IfOk result (λ q. question_named name.now (Some words.now) ≡ with_frame frame.new.items q) }
 {
+    if is(name, b"bytes") {
+        frame.clear();
+        frame.extend_from_slice(words)?;
+        return Ok(Question::FrameOf);
+    }
     match manner_named(name) {
         Some(manner) => read_next(manner, words, frame),
         None => Ok(Question::Unknown),
     }
 }
 
-/// What these words ask. The bytes of a frame are put into the buffer.
+/// What these words ask. The bytes of a frame, or its words, are put into the buffer.
 #[tactic(auto, unfolding(crate::specs::Questions::question_of))]
 pub fn read_question(words: &[u8], frame: &mut Vec<u8>) -> Result<Question, AllocError>
     ensures { IfOk result (λ q. question_of words.now ≡ with_frame frame.new.items q) }

@@ -3,3 +3,4 @@ pub mod SaidLemmas
 pub mod LawLemmas
 mod PrintedLemmas
 mod ConditionLemmas
+mod FieldLemmas

@@ -4,3 +4,4 @@ pub mod Conditions
 pub mod Refusals
 pub mod Views
 pub mod Printed
+pub mod Fields

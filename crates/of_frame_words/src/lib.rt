@@ -2,6 +2,7 @@
 #![tactic(auto)]
 
 mod conditions;
+mod fields;
 mod frame;
 mod laws;
 mod printed;
@@ -10,6 +11,7 @@ mod why;
 mod words;
 
 pub use conditions::read_conditions;
+pub use fields::match_of;
 pub use frame::{Received, read_frame};
 pub use laws::frames_have_what_words_say;
 pub use printed::frame_words;

@@ -3,3 +3,4 @@ pub mod MarkLemmas
 pub mod TurnLemmas
 pub mod DifferingLemmas
 pub mod EntryLemmas
+pub mod ReasonLemmas

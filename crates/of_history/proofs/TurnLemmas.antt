@@ -15,11 +15,12 @@ use Rattle.of_switch.specs.Runs.{chunk_in, drain, drained, happened, then_more, 
 use Rattle.of_switch.proofs.Draining.{next_shorter}
 use Rattle.of_switch.specs.declared.port_change.PortChange.{PortChange}
 use Rattle.of_replay.specs.declared.rows.Row.{Row}
-use Rattle.of_replay.specs.declared.rows.Row.TheVariants as row
+use Rattle.of_replay.specs.declared.rows.Row.TheVariants as rows
 use Rattle.of_replay.specs.Rows.{with_bytes}
 use Rattle.of_replay.specs.RowTexts.{row_happened}
 use Rattle.of_history.specs.Turns.{Turn, after_turns, all_message_turns, chunk_turns, first_handled, message_turns, row_turns, turn_and, turn_of}
-use Rattle.of_history.specs.Changes.{TurnText, after_rows, row_expiring, rows_told_last, told_last, turns_told, unless_same}
+use Rattle.of_history.specs.Causes.{Cause, Message}
+use Rattle.of_history.specs.Changes.{ChangeText, after_rows, change_told, row_expiring, rows_told_last, told_last, turns_told}
 
 -- ---- where turns lead
 
@@ -74,24 +75,24 @@ module _ (seen : Forwarding → List ℕ) where
 -- ---- turns as they are told
 
 -- those so far were told, and enough of them are left
-pub record Telling (text : TurnText) (seen : Forwarding → List ℕ) (n : ℕ) (line : List ℕ) (first s : State) (k : ℕ) (before out : List ℕ) : Type 0 where
+pub record Telling (text : ChangeText) (seen : Forwarding → List ℕ) (row : Cause) (first s : State) (k : ℕ) (before out : List ℕ) : Type 0 where
   pub turns : ℕ
   pub enough : length s.connection.pending < turns
-  pub told : before ++ turns_told text seen n line 1 first (all_message_turns first) ≡ out ++ turns_told text seen n line (k + 1) s (message_turns turns s)
+  pub told : before ++ turns_told text seen row 1 first (all_message_turns first) ≡ out ++ turns_told text seen row (k + 1) s (message_turns turns s)
   pub leads : (drained first).state ≡ (drain turns s).state
 
-module _ (text : TurnText) (seen : Forwarding → List ℕ) (n : ℕ) (line : List ℕ) where
-  pub telling_none : (s : State) (out : List ℕ) → Telling text seen n line s s 0 out out
+module _ (text : ChangeText) (seen : Forwarding → List ℕ) (row : Cause) where
+  pub telling_none : (s : State) (out : List ℕ) → Telling text seen row s s 0 out out
   telling_none s out = record { turns = length s.connection.pending + 1; enough = omega arith; told = refl; leads = refl }
 
-  pub telling_more : (first s : State) (o : Outcome) (k next : ℕ) (message : Option (List ℕ)) (before out new old fresh : List ℕ) → next_of s ≡ Some o → next ≡ k + 1 →
-      message ≡ Some (first_handled s.connection.pending) → old ≡ seen s.core.forwarding → fresh ≡ seen o.state.core.forwarding →
-      new ≡ out ++ unless_same old fresh (text n line next message old fresh) → Telling text seen n line first s k before out → Telling text seen n line first o.state next before new
+  pub telling_more : (first s : State) (o : Outcome) (k next : ℕ) (message before out new old fresh : List ℕ) → next_of s ≡ Some o → next ≡ k + 1 →
+      message ≡ first_handled s.connection.pending → old ≡ seen s.core.forwarding → fresh ≡ seen o.state.core.forwarding →
+      new ≡ out ++ change_told text (record row { by = Message next message }) old fresh → Telling text seen row first s k before out → Telling text seen row first o.state next before new
   unfolding drain message_turns
   telling_more first s o k next message before out new old fresh h j m p q e t = by_turns t.turns t.enough t.told t.leads
     where
-      by_turns : (turns : ℕ) → length s.connection.pending < turns → before ++ turns_told text seen n line 1 first (all_message_turns first) ≡ out ++ turns_told text seen n line (k + 1) s (message_turns turns s) →
-          (drained first).state ≡ (drain turns s).state → Telling text seen n line first o.state next before new
+      by_turns : (turns : ℕ) → length s.connection.pending < turns → before ++ turns_told text seen row 1 first (all_message_turns first) ≡ out ++ turns_told text seen row (k + 1) s (message_turns turns s) →
+          (drained first).state ≡ (drain turns s).state → Telling text seen row first o.state next before new
       by_turns zero lt told leads = absurd (omega arith)
       by_turns (suc turns) lt told leads =
           let short = next_shorter s o h in
@@ -102,34 +103,34 @@ module _ (text : TurnText) (seen : Forwarding → List ℕ) (n : ℕ) (line : Li
             leads = leads ∙ rw h refl;
           }
 
-  pub telling_all : (first s : State) (k : ℕ) (before out : List ℕ) → next_of s ≡ None → Telling text seen n line first s k before out →
-      (out ≡ before ++ turns_told text seen n line 1 first (all_message_turns first)) × (s ≡ (drained first).state)
+  pub telling_all : (first s : State) (k : ℕ) (before out : List ℕ) → next_of s ≡ None → Telling text seen row first s k before out →
+      (out ≡ before ++ turns_told text seen row 1 first (all_message_turns first)) × (s ≡ (drained first).state)
   unfolding drain message_turns
   telling_all first s k before out h t = by_turns t.turns t.enough t.told t.leads
     where
-      by_turns : (turns : ℕ) → length s.connection.pending < turns → before ++ turns_told text seen n line 1 first (all_message_turns first) ≡ out ++ turns_told text seen n line (k + 1) s (message_turns turns s) →
-          (drained first).state ≡ (drain turns s).state → (out ≡ before ++ turns_told text seen n line 1 first (all_message_turns first)) × (s ≡ (drained first).state)
+      by_turns : (turns : ℕ) → length s.connection.pending < turns → before ++ turns_told text seen row 1 first (all_message_turns first) ≡ out ++ turns_told text seen row (k + 1) s (message_turns turns s) →
+          (drained first).state ≡ (drain turns s).state → (out ≡ before ++ turns_told text seen row 1 first (all_message_turns first)) × (s ≡ (drained first).state)
       by_turns zero lt told leads = absurd (omega arith)
       by_turns (suc turns) lt told leads = (sym (told ∙ rw h (append-nil out)), sym (leads ∙ rw h refl))
 
 -- ---- bytes that were received
 
 -- a row whose bytes are received first
-pub turns_beside : (text : TurnText) (seen : Forwarding → List ℕ) (n : ℕ) (line : List ℕ) (k : ℕ) (s t : State) (ts : List Turn) → s.core ≡ t.core → turns_told text seen n line k s ts ≡ turns_told text seen n line k t ts
-turns_beside text seen n line k s t [] e = refl
-turns_beside text seen n line k s t (x ∷ ts) e = rw e refl
+pub turns_beside : (text : ChangeText) (seen : Forwarding → List ℕ) (row : Cause) (k : ℕ) (s t : State) (ts : List Turn) → s.core ≡ t.core → turns_told text seen row k s ts ≡ turns_told text seen row k t ts
+turns_beside text seen row k s t [] e = refl
+turns_beside text seen row k s t (x ∷ ts) e = rw e refl
 
 fed_as : (r : Option SwitchError) (u : Unit {0}) (bytes : List ℕ) (s t : State) → Call r (λ _ new. new ≡ fed bytes s) s (Ok u) t → (r ≡ None) × (t ≡ fed bytes s)
 fed_as None u bytes s t h = (refl, h)
 fed_as (Some e) u bytes s t h = let no = h.0 in absurd cc
 
-pub chunk_told : {E : Type 0} (text : TurnText) (seen : Forwarding → List ℕ) (n : ℕ) (line : List ℕ) (r : Option SwitchError) (u : Unit {0}) (bytes : List ℕ) (s t : State) (result : Result (Unit {0}) E) (out new : List ℕ) →
-    Call r (λ _ new. new ≡ fed bytes s) s (Ok u) t → OnOk result (new ≡ out ++ turns_told text seen n line 1 t (all_message_turns t)) →
-    OnOk result (new ≡ out ++ turns_told text seen n line 1 s (chunk_turns bytes s r))
-chunk_told text seen n line r u bytes s t (Err e) out new fed_so said = tt
-chunk_told text seen n line r u bytes s t (Ok x) out new fed_so said =
+pub chunk_told : {E : Type 0} (text : ChangeText) (seen : Forwarding → List ℕ) (row : Cause) (r : Option SwitchError) (u : Unit {0}) (bytes : List ℕ) (s t : State) (result : Result (Unit {0}) E) (out new : List ℕ) →
+    Call r (λ _ new. new ≡ fed bytes s) s (Ok u) t → OnOk result (new ≡ out ++ turns_told text seen row 1 t (all_message_turns t)) →
+    OnOk result (new ≡ out ++ turns_told text seen row 1 s (chunk_turns bytes s r))
+chunk_told text seen row r u bytes s t (Err e) out new fed_so said = tt
+chunk_told text seen row r u bytes s t (Ok x) out new fed_so said =
     let same = fed_as r u bytes s t fed_so in
-    rw same.0 (said ∙ ap (λ (ts : List ℕ). out ++ ts) (rw same.1 (turns_beside text seen n line 1 (fed bytes s) s (all_message_turns (fed bytes s)) refl)))
+    rw same.0 (said ∙ ap (λ (ts : List ℕ). out ++ ts) (rw same.1 (turns_beside text seen row 1 (fed bytes s) s (all_message_turns (fed bytes s)) refl)))
 
 -- ---- a row that is one turn
 
@@ -138,7 +139,7 @@ pub record IsWhole (s : State) (row : Option Event) : Type 0 where
   pub is : row ≡ Some event
   pub turns : row_turns s row ≡ turn_of (happened event s).report (happened event s).state
 
-pub whole_row : (s : State) (bytes : List ℕ) (r : Row) → (r ≡ row.Connect) ⊎ ((r ≡ row.Lost) ⊎ (((x : ℕ) × (r ≡ row.Frame x)) ⊎ (((x : ℕ) × (r ≡ row.Moment x)) ⊎ ((x : PortChange) × (r ≡ row.Ports x))))) → IsWhole s (with_bytes bytes r)
+pub whole_row : (s : State) (bytes : List ℕ) (r : Row) → (r ≡ rows.Connect) ⊎ ((r ≡ rows.Lost) ⊎ (((x : ℕ) × (r ≡ rows.Frame x)) ⊎ (((x : ℕ) × (r ≡ rows.Moment x)) ⊎ ((x : PortChange) × (r ≡ rows.Ports x))))) → IsWhole s (with_bytes bytes r)
 whole_row s bytes r (inl e) = rw e (record { event = Connect; is = refl; turns = refl })
 whole_row s bytes r (inr (inl e)) = rw e (record { event = Lost; is = refl; turns = refl })
 whole_row s bytes r (inr (inr (inl e))) = rw e.1 (record { event = Frame e.0 bytes; is = refl; turns = refl })
@@ -147,7 +148,7 @@ whole_row s bytes r (inr (inr (inr (inr e)))) = rw e.1 (record { event = Ports e
 
 -- a row in which nothing expires
 pub quiet_row : (expiring : ℕ → Forwarding → List ℕ) (s : State) (bytes : List ℕ) (r : Row) →
-    (r ≡ row.Passed) ⊎ ((r ≡ row.Connect) ⊎ ((r ≡ row.Lost) ⊎ ((r ≡ row.Chunk) ⊎ (((x : ℕ) × (r ≡ row.Frame x)) ⊎ ((x : PortChange) × (r ≡ row.Ports x)))))) → [] ≡ row_expiring expiring s (with_bytes bytes r)
+    (r ≡ rows.Passed) ⊎ ((r ≡ rows.Connect) ⊎ ((r ≡ rows.Lost) ⊎ ((r ≡ rows.Chunk) ⊎ (((x : ℕ) × (r ≡ rows.Frame x)) ⊎ ((x : PortChange) × (r ≡ rows.Ports x)))))) → [] ≡ row_expiring expiring s (with_bytes bytes r)
 quiet_row expiring s bytes r (inl e) = rw e refl
 quiet_row expiring s bytes r (inr (inl e)) = rw e refl
 quiet_row expiring s bytes r (inr (inr (inl e))) = rw e refl

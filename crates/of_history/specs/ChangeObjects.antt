@@ -4,6 +4,9 @@ use Rattle.of_text.specs.Lines.{lines_of}
 use Rattle.of_json.specs.Parts.{key, listed, number_member}
 use Rattle.of_json.specs.Strings.{array_member, line_string, string_member}
 use Rattle.of_explain.specs.Requests.{request_notes}
+use Rattle.of_history.specs.declared.reason.Reason.{Reason}
+use Rattle.of_history.specs.Causes.{By, Message, Moment, Cause}
+use Rattle.of_history.specs.Reasons.{reason_words}
 use Rattle.of_history.specs.Changes.{ChangeText}
 
 -- a further member: the lines of a text without so many bytes before each
@@ -15,11 +18,20 @@ abbrev pub expired_member : List ℕ → List ℕ
 expired_member expired = if length expired == 0 then [] else lines_member (codes "expired") 13 expired
 
 -- `"row":"t 4000000000","expired":["table 0, priority 1, ..",..]`, or `"message":3,"by":["from the controller: FLOW_MOD xid 6 ..",..]`
-unfoldable pub cause_members : List ℕ → List ℕ → ℕ → Option (List ℕ) → List ℕ
-cause_members expired line k None = string_member (codes "row") line ++ expired_member expired
-cause_members expired line k (Some m) = number_member (codes "message") k ++ lines_member (codes "by") 4 (request_notes m)
+abbrev pub by_members : List ℕ → By → List ℕ
+by_members line (Message k m) = number_member (codes "message") k ++ lines_member (codes "by") 4 (request_notes m)
+by_members line (Moment expired) = string_member (codes "row") line ++ expired_member expired
+by_members line other = string_member (codes "row") line
 
--- `{"line":24,"message":3,"by":[..],"before":[..],"after":[..]}`: what the view was before and after it
+unfoldable pub cause_members : Cause → List ℕ
+cause_members c = by_members c.line c.by
+
+abbrev pub reason_member : Option Reason → List ℕ
+reason_member None = []
+reason_member (Some r) = string_member (codes "reason") (reason_words r)
+
+-- `{"line":24,"message":3,"by":[..],"reason":"..","before":[..],"after":[..]}`: what the view was before and after it
 unfoldable pub change_object : ChangeText
-change_object expired n line k cause old new =
-    123 ∷ key (codes "line") ++ decimal n ++ cause_members expired line k cause ++ lines_member (codes "before") 0 old ++ lines_member (codes "after") 0 new ++ 125 ∷ 10 ∷ []
+change_object c reason old new =
+    123 ∷ key (codes "line") ++ decimal c.number ++ cause_members c ++ reason_member reason
+    ++ lines_member (codes "before") 0 old ++ lines_member (codes "after") 0 new ++ 125 ∷ 10 ∷ []

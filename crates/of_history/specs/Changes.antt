@@ -5,27 +5,30 @@ use Rattle.std.specs.Str.{bytes_eq}
 use Rattle.of_text.specs.Lines.{ended, lines_of}
 use Rattle.of_datapath.specs.Datapath.{Forwarding}
 use Rattle.of_switch.specs.declared.event.Event.{Event}
-use Rattle.of_switch.specs.declared.event.Event.TheVariants.{Moment}
+use Rattle.of_switch.specs.declared.event.Event.TheVariants as events
 use Rattle.of_switch.specs.State.{State}
 use Rattle.of_replay.specs.Rows.{row_of_line}
 use Rattle.of_replay.specs.RowTexts.{RowText, row_happened}
 use Rattle.of_explain.specs.Requests.{request_notes}
+use Rattle.of_history.specs.Causes.{By, Message, Moment, Cause, by_row, cause_of_turn}
+use Rattle.of_history.specs.declared.reason.Reason.{Reason}
+use Rattle.of_history.specs.Reasons.{reason_note, reason_of}
 use Rattle.of_history.specs.Turns.{Turn, row_turns}
 
--- what is said of a change: by the number of the line, from 1, the line, the number of the turn in it, from 1, its message if it is one, and both texts
-abbrev pub TurnText : Type 0
-TurnText = ℕ → List ℕ → ℕ → Option (List ℕ) → List ℕ → List ℕ → List ℕ
-
--- by lines about what expires in the row, too
+-- what is said of a change: by who made it, the reason, and both texts
 abbrev pub ChangeText : Type 0
-ChangeText = List ℕ → TurnText
+ChangeText = Cause → Option Reason → List ℕ → List ℕ → List ℕ
 
 -- ---- in words
 
 -- `line 9: t 4000000000` and what expires, or `line 24, message 3` and the notes of the message
-unfoldable pub cause_words : List ℕ → ℕ → List ℕ → ℕ → Option (List ℕ) → List ℕ
-cause_words expired n line k None = codes "line " ++ decimal n ++ codes ": " ++ ended line ++ expired
-cause_words expired n line k (Some m) = codes "line " ++ decimal n ++ codes ", message " ++ decimal k ++ 10 ∷ request_notes m
+abbrev pub by_words : List ℕ → By → List ℕ
+by_words line (Message k m) = codes ", message " ++ decimal k ++ 10 ∷ request_notes m
+by_words line (Moment expired) = codes ": " ++ ended line ++ expired
+by_words line other = codes ": " ++ ended line
+
+unfoldable pub cause_words : Cause → List ℕ
+cause_words c = codes "line " ++ decimal c.number ++ by_words c.line c.by
 
 abbrev pub kept_line : List ℕ → List ℕ
 kept_line line = codes "      " ++ ended line
@@ -46,7 +49,7 @@ marked_lines (l ∷ old) [] = other_lines (l ∷ old) []
 marked_lines (l ∷ old) (m ∷ new) = if bytes_eq l m then kept_line l ++ marked_lines old new else other_lines (l ∷ old) (m ∷ new)
 
 unfoldable pub changed_words : ChangeText
-changed_words expired n line k cause old new = cause_words expired n line k cause ++ marked_lines (lines_of old) (lines_of new)
+changed_words cause reason old new = cause_words cause ++ reason_note reason ++ marked_lines (lines_of old) (lines_of new)
 
 -- ---- of a text whose lines are a set, such as flow entries
 
@@ -60,9 +63,9 @@ line_without other line = if has_line other line then [] else ended line
 abbrev pub text_without : List ℕ → List ℕ → List ℕ
 text_without other text = flat_map (line_without other) (lines_of text)
 
--- the same is said of the lines that went, and of those that came
+-- the same is said of the lines that went, and of those that came; the message says the reason
 abbrev pub line_by_line : ChangeText → ChangeText
-line_by_line text expired n line k cause old new = text expired n line k cause (text_without new old) (text_without old new)
+line_by_line text cause reason old new = text cause None (text_without new old) (text_without old new)
 
 -- for contracts inside this crate: each line of a text is one of another
 abbrev pub HasLinesOf : List ℕ → List ℕ → Type 0
@@ -74,25 +77,26 @@ HasLinesOf text part = (line : List ℕ) → IsTrue (has_line part line) → IsT
 abbrev pub unless_same : List ℕ → List ℕ → List ℕ → List ℕ
 unless_same old new text = if bytes_eq old new then [] else text
 
-abbrev pub turn_told : TurnText → (Forwarding → List ℕ) → ℕ → List ℕ → ℕ → State → Turn → List ℕ
-turn_told text seen n line k s t =
-    let old = seen s.core.forwarding in
-    let new = seen t.after.core.forwarding in
-    unless_same old new (text n line k t.cause old new)
+abbrev pub change_told : ChangeText → Cause → List ℕ → List ℕ → List ℕ
+change_told text cause old new = unless_same old new (text cause (reason_of cause.by old new) old new)
 
--- from the turn of that number in its line on
-abbrev pub turns_told : TurnText → (Forwarding → List ℕ) → ℕ → List ℕ → ℕ → State → List Turn → List ℕ
-turns_told text seen n line k s [] = []
-turns_told text seen n line k s (t ∷ ts) = turn_told text seen n line k s t ++ turns_told text seen n line (k + 1) t.after ts
+-- the turns of a row, from the one of that number on
+abbrev pub turns_told : ChangeText → (Forwarding → List ℕ) → Cause → ℕ → State → List Turn → List ℕ
+turns_told text seen row k s [] = []
+turns_told text seen row k s (t ∷ ts) =
+    change_told text (cause_of_turn row k t.message) (seen s.core.forwarding) (seen t.after.core.forwarding) ++ turns_told text seen row (k + 1) t.after ts
 
 -- what expires in a row: at a time, by the state before it; a time before the latest one counts as that
 abbrev pub row_expiring : (ℕ → Forwarding → List ℕ) → State → Option Event → List ℕ
-row_expiring expiring s (Some (Moment nanos)) = expiring (max s.core.forwarding.tables.latest nanos) s.core.forwarding
+row_expiring expiring s (Some (events.Moment nanos)) = expiring (max s.core.forwarding.tables.latest nanos) s.core.forwarding
 row_expiring expiring s other = []
+
+abbrev pub row_cause : ℕ → List ℕ → By → Cause
+row_cause n line by = record { number = n; line = line; by = by }
 
 -- THE TALE of a row: the turns that change the view
 abbrev pub history_of : ChangeText → (Forwarding → List ℕ) → (ℕ → Forwarding → List ℕ) → RowText
-history_of text seen expiring n s line row = turns_told (text (row_expiring expiring s row)) seen n line 1 s (row_turns s row)
+history_of text seen expiring n s line row = turns_told text seen (row_cause n line (by_row (row_expiring expiring s row) row)) 1 s (row_turns s row)
 
 -- the number of the first bad line, where the first of them has this one
 abbrev pub bad_and : ℕ → Option (Option Event) → Option ℕ → Option ℕ

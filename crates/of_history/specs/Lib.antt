@@ -2,5 +2,8 @@ pub mod Fates
 pub mod Expiring
 pub mod Selected
 pub mod Turns
+pub mod Causes
+pub mod CauseViews
+pub mod Reasons
 pub mod Changes
 pub mod ChangeObjects

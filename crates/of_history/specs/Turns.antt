@@ -13,7 +13,7 @@ use Rattle.of_switch.specs.Runs.{Report, Gives, IsRefused, happened}
 
 -- a message, or nothing where the row itself happens; and the switch after it
 pub record Turn : Type 0 where
-  pub cause : Option (List ℕ)
+  pub message : Option (List ℕ)
   pub after : State
 
 -- the bytes that are handled first: as many as their header says, and the header at least (7.1)
@@ -23,7 +23,7 @@ first_handled pending = take (max 8 (length_of pending)) pending
 -- none, or a message and then the rest
 abbrev pub turn_and : (State → List Turn) → State → Option Outcome → List Turn
 turn_and rest s None = []
-turn_and rest s (Some o) = record { cause = Some (first_handled s.connection.pending); after = o.state } ∷ rest o.state
+turn_and rest s (Some o) = record { message = Some (first_handled s.connection.pending); after = o.state } ∷ rest o.state
 
 -- of at most n messages
 unfoldable pub message_turns : ℕ → State → List Turn
@@ -40,7 +40,7 @@ chunk_turns bytes s None = all_message_turns (fed bytes s)
 
 abbrev pub turn_of : Report → State → List Turn
 turn_of (IsRefused refusal) after = []
-turn_of (Gives effects) after = record { cause = None; after = after } ∷ []
+turn_of (Gives effects) after = record { message = None; after = after } ∷ []
 
 abbrev pub event_turns : Event → State → List Turn
 event_turns (Chunk bytes) s = chunk_turns bytes s (feed_refusal s)

@@ -2,7 +2,9 @@
 ghost use Rattle.std.specs.Prelude.{◌≡◌, ◌++◌, IsTrue, IfNone, IfOk, IfSome, OnOk, false};
 ghost use Rattle.of_history.specs.Changes.{HasLinesOf, has_line, line_by_line, line_without, text_without};
 
+use crate::cause::Cause;
 use crate::marks::push_marked;
+use crate::reason::Reason;
 use crate::telling::ChangeTeller;
 use of_text::{cut, is};
 use std::alloc::{AllocError, Global};
@@ -77,7 +79,7 @@ fn without(alloc: Global, other: &[u8], text: &[u8]) -> Result<Vec<u8>, AllocErr
     Ok(lines)
 }
 
-/// Says it of the lines that went and of those that came, where the lines of a view are a set, such as flow entries.
+/// Says it of the lines that went and of those that came, where the lines of a view are a set, such as flow entries; and no reason, since the message says it.
 #[derive(Drop)]
 pub struct LineByLine<T>(pub T);
 
@@ -88,18 +90,13 @@ impl<T: ChangeTeller> ChangeTeller for LineByLine<T> {
         &self,
         alloc: Global,
         out: &mut Vec<u8>,
-        expired: &[u8],
-        number: u64,
-        line: &[u8],
-        turn: u64,
-        message: Option<&[u8]>,
+        cause: &Cause<'_>,
+        _reason: Option<Reason>,
         old: &[u8],
         new: &[u8],
     ) -> Result<(), AllocError> {
         let gone = without(alloc, new, old)?;
         let come = without(alloc, old, new)?;
-        self.0.tell(
-            alloc, out, expired, number, line, turn, message, &gone, &come,
-        )
+        self.0.tell(alloc, out, cause, None, &gone, &come)
     }
 }

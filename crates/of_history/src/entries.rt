@@ -1,7 +1,6 @@
 //! Selected flow entries.
 ghost use Rattle.std.specs.Prelude.{◌≡◌, ◌<◌, ◌++◌, IfOk, IsTrue, None, OnOk, Some, false};
-ghost use Rattle.std.specs.List.{flat_map, list_any, list_all};
-ghost use Rattle.of_oxm.specs.Relations.{covers_match, is_within as within};
+ghost use Rattle.std.specs.List.{flat_map, list_all};
 ghost use Rattle.of_actions.specs.InstructionLists.{is_served_body};
 ghost use Rattle.of_actions.specs.Supported.{is_supported};
 ghost use Rattle.of_table.specs.Entries.{entry_of, flows_of};
@@ -17,7 +16,7 @@ use crate::view::View;
 use of_actions::{Action, Instruction};
 use of_classifier::Lookup;
 use of_machine::Step;
-use of_oxm::{MatchField, bits_of};
+use of_oxm::{Match, covers};
 use of_switch::Switch;
 use of_table::{Entries, Entry};
 use of_trace::push_words_line;
@@ -37,35 +36,14 @@ pub struct EntryFilter {
     pub cookie_mask: u64,
 }
 
-fn is_within(asked: &MatchField, own: &MatchField) -> bool
-    ensures { result ≡ within asked.now own.now }
-{
-    let bits = bits_of(asked);
-    own.field.number() == asked.field.number()
-        && bits & bits_of(own) == bits
-        && own.value & bits == asked.value
-}
-
-fn some_within(asked: &MatchField, own: &[MatchField]) -> bool
-    ensures { result ≡ list_any (λ y. within asked.now y) own.now }
-{
-    own.iter().any(|field| is_within(asked, field))
-}
-
-fn are_within(asked: &[MatchField], own: &[MatchField]) -> bool
-    ensures { result ≡ covers_match asked.now own.now }
-{
-    asked.iter().all(|field| some_within(field, own))
-}
-
-fn is_selected(filter: EntryFilter, fields: &[MatchField], entry: &Entry) -> bool
+fn is_selected(filter: EntryFilter, fields: &Match, entry: &Entry) -> bool
     ensures { result ≡ selected filter fields.now (entry_of entry.now) }
 {
     let has_priority = match filter.priority {
         None => true,
         Some(priority) => entry.flow.priority == priority,
     };
-    are_within(fields, entry.flow.fields.fields())
+    covers(fields, &entry.flow.fields)
         && has_priority
         && entry.flow.cookie & filter.cookie_mask == filter.cookie & filter.cookie_mask
 }
@@ -175,7 +153,7 @@ fn push_line<L: Lookup>(
 #[derive(Drop)]
 pub struct EntriesView {
     pub filter: EntryFilter,
-    pub fields: Vec<MatchField>,
+    pub fields: Match,
 }
 
 impl EntriesView {
@@ -189,7 +167,7 @@ impl EntriesView {
         entry: &Entry,
     ) -> Result<(), AllocError>
         ensures { OnOk result (out.new.items ≡ out.old.items
-            ++ entry_selected self.now.filter self.now.fields.items switch.now.core.forwarding moment table (entry_of entry.now)) }
+            ++ entry_selected self.now.filter self.now.fields switch.now.core.forwarding moment table (entry_of entry.now)) }
     {
         if !is_selected(self.filter, &self.fields, entry) {
             return Ok(());
@@ -209,7 +187,7 @@ impl EntriesView {
         entries: Entries<'_>,
     ) -> Result<(), AllocError>
         ensures { OnOk result (out.new.items ≡ out.old.items
-            ++ flat_map (entry_selected self.now.filter self.now.fields.items switch.now.core.forwarding moment table) (flows_of entries.entry)) }
+            ++ flat_map (entry_selected self.now.filter self.now.fields switch.now.core.forwarding moment table) (flows_of entries.entry)) }
     {
         for entry in entries {
             self.push_entry(out, switch, moment, table, entry)?;
@@ -226,7 +204,7 @@ impl EntriesView {
         table: u8,
     ) -> Result<(), AllocError>
         requires { table < 16 }
-        ensures { OnOk result (out.new.items ≡ out.old.items ++ table_selected self.now.filter self.now.fields.items switch.now.core.forwarding moment table
+        ensures { OnOk result (out.new.items ≡ out.old.items ++ table_selected self.now.filter self.now.fields switch.now.core.forwarding moment table
             (table_at table switch.now.core.forwarding.tables)) }
     {
         match self.filter.table {
@@ -243,7 +221,7 @@ impl EntriesView {
         switch: &Switch<L>,
         moment: Option<u64>,
     ) -> Result<Vec<u8>, AllocError>
-        ensures { IfOk result (λ text. text.items ≡ selected_entries self.now.filter self.now.fields.items moment switch.now.core.forwarding) }
+        ensures { IfOk result (λ text. text.items ≡ selected_entries self.now.filter self.now.fields moment switch.now.core.forwarding) }
     {
         switch.datapath().tables.known();
         let mut out = Vec::new(alloc);
@@ -255,9 +233,9 @@ impl EntriesView {
 }
 
 impl<L: Lookup> View<L> for EntriesView {
-    ghost seen = { λ v. selected_entries v.filter v.fields.items None };
+    ghost seen = { λ v. selected_entries v.filter v.fields None };
 
-    ghost expiring = { λ v moment. selected_entries v.filter v.fields.items (Some moment) };
+    ghost expiring = { λ v moment. selected_entries v.filter v.fields (Some moment) };
 
     fn look(&self, alloc: Global, switch: &Switch<L>) -> Result<Vec<u8>, AllocError> {
         self.listed(alloc, switch, None)

@@ -1,8 +1,10 @@
 //! Changes as JSON.
 ghost use Rattle.std.specs.Prelude.{◌≡◌, ◌++◌, OnOk};
-ghost use Rattle.std.specs.Option.{option_copied};
-ghost use Rattle.of_history.specs.ChangeObjects.{cause_members, change_object, expired_member, lines_member};
+ghost use Rattle.of_history.specs.CauseViews.{by_of};
+ghost use Rattle.of_history.specs.ChangeObjects.{by_members, cause_members, change_object, expired_member, lines_member, reason_member};
 
+use crate::cause::{By, Cause};
+use crate::reason::Reason;
 use crate::telling::ChangeTeller;
 use of_explain::push_request;
 use of_json::{begin_array, push_key, push_line_strings, push_number_member, push_string_member};
@@ -42,30 +44,54 @@ fn push_expired_member(out: &mut Vec<u8>, expired: &[u8]) -> Result<(), AllocErr
     }
 }
 
+// Appends what a row or a message does.
+fn push_by_members(
+    alloc: Global,
+    out: &mut Vec<u8>,
+    line: &[u8],
+    by: By<'_>,
+) -> Result<(), AllocError>
+    ensures { OnOk result (out.new.items ≡ out.old.items ++ by_members line.now (by_of by)) }
+{
+    match by {
+        By::Message { number, bytes } => {
+            let mut notes = Vec::new(alloc);
+            push_request(alloc, &mut notes, bytes)?;
+            push_number_member(out, b"message", u128::from(number))?;
+            push_lines_member(out, b"by", INDENT, &notes)
+        }
+        By::Moment(expired) => {
+            push_string_member(out, b"row", line)?;
+            push_expired_member(out, expired)
+        }
+        By::Port | By::Row => push_string_member(out, b"row", line),
+    }
+}
+
 // Appends who it was.
 #[tactic(auto, unfolding(crate::specs::ChangeObjects::cause_members))]
 fn push_cause_members(
     alloc: Global,
     out: &mut Vec<u8>,
-    expired: &[u8],
-    line: &[u8],
-    turn: u64,
-    message: Option<&[u8]>,
+    cause: &Cause<'_>,
 ) -> Result<(), AllocError>
-    ensures { OnOk result (out.new.items ≡ out.old.items ++ cause_members expired.now line.now turn (option_copied message.entry)) }
+    ensures { OnOk result (out.new.items ≡ out.old.items ++ cause_members cause.now) }
 {
-    let Some(message) = message else {
-        push_string_member(out, b"row", line)?;
-        return push_expired_member(out, expired);
-    };
-    let mut notes = Vec::new(alloc);
-    push_request(alloc, &mut notes, message)?;
-    push_number_member(out, b"message", u128::from(turn))?;
-    push_lines_member(out, b"by", INDENT, &notes)
+    push_by_members(alloc, out, cause.line, cause.by)
+}
+
+// Appends why, if it is known.
+fn push_reason_member(out: &mut Vec<u8>, reason: Option<Reason>) -> Result<(), AllocError>
+    ensures { OnOk result (out.new.items ≡ out.old.items ++ reason_member reason) }
+{
+    match reason {
+        None => Ok(()),
+        Some(reason) => push_string_member(out, b"reason", reason.words()),
+    }
 }
 
 /// As JSON Lines: an object for each change, with the number of its line, the row, or the number of the message in it and its notes,
-/// and the lines of the view before and after it.
+/// the reason, and the lines of the view before and after it.
 #[derive(Drop)]
 pub struct InJson;
 
@@ -77,18 +103,16 @@ impl ChangeTeller for InJson {
         &self,
         alloc: Global,
         out: &mut Vec<u8>,
-        expired: &[u8],
-        number: u64,
-        line: &[u8],
-        turn: u64,
-        message: Option<&[u8]>,
+        cause: &Cause<'_>,
+        reason: Option<Reason>,
         old: &[u8],
         new: &[u8],
     ) -> Result<(), AllocError> {
         out.push(b'{')?;
         push_key(out, b"line")?;
-        push_decimal(out, u128::from(number))?;
-        push_cause_members(alloc, out, expired, line, turn, message)?;
+        push_decimal(out, u128::from(cause.number))?;
+        push_cause_members(alloc, out, cause)?;
+        push_reason_member(out, reason)?;
         push_lines_member(out, b"before", 0, old)?;
         push_lines_member(out, b"after", 0, new)?;
         out.extend_from_slice(b"}\n")

@@ -1,63 +1,69 @@
 //! What is said of a change.
 ghost use Rattle.std.specs.Prelude.{◌≡◌, ◌++◌, OnOk};
-ghost use Rattle.std.specs.Option.{option_copied};
-ghost use Rattle.of_history.specs.Changes.{ChangeText, cause_words, changed_words};
+ghost use Rattle.of_history.specs.CauseViews.{by_of};
+ghost use Rattle.of_history.specs.Changes.{ChangeText, by_words, cause_words, changed_words};
 
-use crate::marks::push_both;
+use crate::cause::{By, Cause};
+use crate::marks::{push_both, push_marked};
+use crate::reason::{Reason, push_reason};
 use of_explain::push_request;
 use of_values::push_decimal;
 use std::alloc::{AllocError, Global};
 
-/// Says who changed a view of a switch, and both texts.
+/// Says who changed a view of a switch, why, and both texts.
 pub trait ChangeTeller {
     /// What is said.
     ghost text: { ChangeText };
 
-    /// Appends it: by lines about what expires in the row, the number of the line, the line, the number of the turn in it, its message if it is one, and the view before and after.
+    /// Appends it: by the cause, the reason, and the view before and after.
     fn tell(
         &self,
         alloc: Global,
         out: &mut Vec<u8>,
-        expired: &[u8],
-        number: u64,
-        line: &[u8],
-        turn: u64,
-        message: Option<&[u8]>,
+        cause: &Cause<'_>,
+        reason: Option<Reason>,
         old: &[u8],
         new: &[u8],
     ) -> Result<(), AllocError>
-        ensures { OnOk result (out.new.items ≡ out.old.items ++ text expired.now number line.now turn (option_copied message.entry) old.now new.now) };
+        ensures { OnOk result (out.new.items ≡ out.old.items ++ text cause.now reason old.now new.now) };
+}
+
+// Appends what a row or a message does.
+fn push_by(
+    alloc: Global,
+    out: &mut Vec<u8>,
+    line: &[u8],
+    by: By<'_>,
+) -> Result<(), AllocError>
+    ensures { OnOk result (out.new.items ≡ out.old.items ++ by_words line.now (by_of by)) }
+{
+    match by {
+        By::Message { number, bytes } => {
+            out.extend_from_slice(b", message ")?;
+            push_decimal(out, u128::from(number))?;
+            out.push(b'\n')?;
+            push_request(alloc, out, bytes)
+        }
+        By::Moment(expired) => {
+            push_marked(out, b": ", line)?;
+            out.extend_from_slice(expired)
+        }
+        By::Port | By::Row => push_marked(out, b": ", line),
+    }
 }
 
 // Appends who it was.
 #[tactic(auto, unfolding(crate::specs::Changes::cause_words))]
-fn push_cause(
-    alloc: Global,
-    out: &mut Vec<u8>,
-    expired: &[u8],
-    number: u64,
-    line: &[u8],
-    turn: u64,
-    message: Option<&[u8]>,
-) -> Result<(), AllocError>
-    ensures { OnOk result (out.new.items ≡ out.old.items ++ cause_words expired.now number line.now turn (option_copied message.entry)) }
+fn push_cause(alloc: Global, out: &mut Vec<u8>, cause: &Cause<'_>) -> Result<(), AllocError>
+    ensures { OnOk result (out.new.items ≡ out.old.items ++ cause_words cause.now) }
 {
     out.extend_from_slice(b"line ")?;
-    push_decimal(out, u128::from(number))?;
-    let Some(message) = message else {
-        out.extend_from_slice(b": ")?;
-        out.extend_from_slice(line)?;
-        out.push(b'\n')?;
-        return out.extend_from_slice(expired);
-    };
-    out.extend_from_slice(b", message ")?;
-    push_decimal(out, u128::from(turn))?;
-    out.push(b'\n')?;
-    push_request(alloc, out, message)
+    push_decimal(out, u128::from(cause.number))?;
+    push_by(alloc, out, cause.line, cause.by)
 }
 
-/// In words: the row, or the message and what it says; then the lines of the view, of which those that went are marked by `-`, and those
-/// that came by `+`.
+/// In words: the row, or the message and what it says; the reason; then the lines of the view, of which those that went are marked by `-`,
+/// and those that came by `+`.
 #[derive(Drop)]
 pub struct InWords;
 
@@ -69,15 +75,13 @@ impl ChangeTeller for InWords {
         &self,
         alloc: Global,
         out: &mut Vec<u8>,
-        expired: &[u8],
-        number: u64,
-        line: &[u8],
-        turn: u64,
-        message: Option<&[u8]>,
+        cause: &Cause<'_>,
+        reason: Option<Reason>,
         old: &[u8],
         new: &[u8],
     ) -> Result<(), AllocError> {
-        push_cause(alloc, out, expired, number, line, turn, message)?;
+        push_cause(alloc, out, cause)?;
+        push_reason(out, reason)?;
         push_both(out, old, new)
     }
 }

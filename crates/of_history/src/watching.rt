@@ -1,6 +1,5 @@
 //! The history of a view of a switch.
 ghost use Rattle.std.specs.Prelude.{◌≡◌, ◌++◌, [], IfErr, IfOk, OnOk};
-ghost use Rattle.std.specs.Option.{option_copied};
 ghost use Rattle.of_text.specs.Lines.{lines_of};
 ghost use Rattle.of_switch.specs.declared.switch_error.SwitchError.TheVariants.{NoMemory};
 ghost use Rattle.of_switch.specs.State.{start};
@@ -10,8 +9,11 @@ ghost use Rattle.of_switch.specs.Runs.{drained, happened};
 ghost use Rattle.of_replay.specs.Rows.{with_bytes};
 ghost use Rattle.of_replay.specs.RowTexts.{row_happened, told};
 ghost use Rattle.of_history.specs.Turns.{HandlesFirst, all_message_turns, event_turns, first_handled, turn_of};
-ghost use Rattle.of_history.specs.Changes.{bad_from, history_of, row_expiring, turns_told, unless_same};
+ghost use Rattle.of_history.specs.Causes.{Row as ARow, by_row as caused_by};
+ghost use Rattle.of_history.specs.Changes.{bad_from, change_told, history_of, row_cause, row_expiring, turns_told};
 
+use crate::cause::{By, Cause, by_row};
+use crate::reason::reason_of;
 use crate::telling::ChangeTeller;
 use crate::view::View;
 use of_classifier::Lookup;
@@ -50,16 +52,9 @@ struct Watching<L: Lookup, V: View<L> + Drop, T: ChangeTeller + Drop> {
 
 impl<L: Lookup, V: View<L> + Drop, T: ChangeTeller + Drop> Watching<L, V, T> {
     // Looks at the switch after a turn, and says what that changed.
-    fn look_again(
-        &mut self,
-        expired: &[u8],
-        number: u64,
-        line: &[u8],
-        turn: u64,
-        message: Option<&[u8]>,
-    ) -> Result<(), AllocError>
-        ensures said { OnOk result (self.new.out.items ≡ self.old.out.items ++ unless_same self.old.seen.items self.new.seen.items
-            (T.text expired.now number line.now turn (option_copied message.entry) self.old.seen.items self.new.seen.items)) }
+    fn look_again(&mut self, cause: &Cause<'_>) -> Result<(), AllocError>
+        ensures said { OnOk result (self.new.out.items ≡ self.old.out.items
+            ++ change_told T.text cause.now self.old.seen.items self.new.seen.items) }
         ensures seen { OnOk result (self.new.seen.items ≡ V.seen self.old.view self.old.switch.core.forwarding) }
         ensures kept { (self.new.switch ≡ self.old.switch) × (self.new.view ≡ self.old.view) }
     {
@@ -67,17 +62,9 @@ impl<L: Lookup, V: View<L> + Drop, T: ChangeTeller + Drop> Watching<L, V, T> {
         if is(&self.seen, &seen) {
             return Ok(());
         }
-        self.teller.tell(
-            self.alloc,
-            &mut self.out,
-            expired,
-            number,
-            line,
-            turn,
-            message,
-            &self.seen,
-            &seen,
-        )?;
+        let reason = reason_of(self.alloc, cause.by, &self.seen, &seen)?;
+        self.teller
+            .tell(self.alloc, &mut self.out, cause, reason, &self.seen, &seen)?;
         self.seen = seen;
         Ok(())
     }
@@ -97,7 +84,7 @@ impl<L: Lookup, V: View<L> + Drop, T: ChangeTeller + Drop> Watching<L, V, T> {
     fn tell_messages(&mut self, number: u64, line: &[u8]) -> Result<(), SwitchError>
         requires { self.old.seen.items ≡ V.seen self.old.view self.old.switch.core.forwarding }
         ensures said { OnOk result (self.new.out.items ≡ self.old.out.items
-            ++ turns_told (T.text []) (V.seen self.old.view) number line.now 1 self.old.switch (all_message_turns self.old.switch)) }
+            ++ turns_told T.text (V.seen self.old.view) (row_cause number line.now ARow) 1 self.old.switch (all_message_turns self.old.switch)) }
         ensures switch { OnOk result (self.new.switch ≡ (drained self.old.switch).state) }
         ensures seen { OnOk result (self.new.seen.items ≡ V.seen self.old.view self.new.switch.core.forwarding) }
         ensures view { self.new.view ≡ self.old.view }
@@ -109,7 +96,14 @@ impl<L: Lookup, V: View<L> + Drop, T: ChangeTeller + Drop> Watching<L, V, T> {
         let mut message = Vec::new(self.alloc);
         while self.handle(&mut message)? {
             turn += 1;
-            self.look_again(&[], number, line, turn, Some(&message))?;
+            self.look_again(&Cause {
+                number,
+                line,
+                by: By::Message {
+                    number: turn,
+                    bytes: &message,
+                },
+            })?;
         }
         Ok(())
     }
@@ -118,7 +112,7 @@ impl<L: Lookup, V: View<L> + Drop, T: ChangeTeller + Drop> Watching<L, V, T> {
     fn tell_chunk(&mut self, number: u64, line: &[u8], chunk: &[u8]) -> Result<(), SwitchError>
         requires { self.old.seen.items ≡ V.seen self.old.view self.old.switch.core.forwarding }
         ensures said { OnOk result (self.new.out.items ≡ self.old.out.items
-            ++ turns_told (T.text []) (V.seen self.old.view) number line.now 1 self.old.switch (event_turns (Chunk chunk.now) self.old.switch)) }
+            ++ turns_told T.text (V.seen self.old.view) (row_cause number line.now ARow) 1 self.old.switch (event_turns (Chunk chunk.now) self.old.switch)) }
         ensures switch { OnOk result (self.new.switch ≡ (happened (Chunk chunk.now) self.old.switch).state) }
         ensures seen { OnOk result (self.new.seen.items ≡ V.seen self.old.view self.new.switch.core.forwarding) }
         ensures view { self.new.view ≡ self.old.view }
@@ -149,18 +143,16 @@ impl<L: Lookup, V: View<L> + Drop, T: ChangeTeller + Drop> Watching<L, V, T> {
         }
     }
 
-    // A row that is one turn, in which this expires.
+    // A row that is one turn.
     fn tell_whole(
         &mut self,
-        expired: &[u8],
-        number: u64,
-        line: &[u8],
+        cause: &Cause<'_>,
         row: Row,
         bytes: &[u8],
     ) -> Result<(), SwitchError>
         requires { self.old.seen.items ≡ V.seen self.old.view self.old.switch.core.forwarding }
         ensures said { (event : Event) → with_bytes bytes.now row ≡ Some event → OnOk result (self.new.out.items ≡ self.old.out.items
-            ++ turns_told (T.text expired.now) (V.seen self.old.view) number line.now 1 self.old.switch
+            ++ turns_told T.text (V.seen self.old.view) cause.now 1 self.old.switch
             (turn_of (happened event self.old.switch).report (happened event self.old.switch).state)) }
         ensures switch { OnOk result (self.new.switch ≡ (row_happened self.old.switch (with_bytes bytes.now row)).state) }
         ensures seen { OnOk result (self.new.seen.items ≡ V.seen self.old.view self.new.switch.core.forwarding) }
@@ -168,7 +160,7 @@ impl<L: Lookup, V: View<L> + Drop, T: ChangeTeller + Drop> Watching<L, V, T> {
         ensures err { IfErr result (λ e. e ≡ NoMemory) }
     {
         match play_row(self.alloc, &mut self.switch, row, bytes) {
-            Ok(_) => Ok(self.look_again(expired, number, line, 1, None)?),
+            Ok(_) => Ok(self.look_again(cause)?),
             Err(SwitchError::NoMemory) => Err(SwitchError::NoMemory),
             Err(_) => Ok(()),
         }
@@ -184,15 +176,17 @@ impl<L: Lookup, V: View<L> + Drop, T: ChangeTeller + Drop> Watching<L, V, T> {
     ) -> Result<(), SwitchError>
         requires { self.old.seen.items ≡ V.seen self.old.view self.old.switch.core.forwarding }
         ensures said { (event : Event) → with_bytes bytes.now row ≡ Some event → OnOk result (self.new.out.items ≡ self.old.out.items
-            ++ turns_told (T.text (row_expiring (V.expiring self.old.view) self.old.switch (with_bytes bytes.now row))) (V.seen self.old.view)
-            number line.now 1 self.old.switch (turn_of (happened event self.old.switch).report (happened event self.old.switch).state)) }
+            ++ turns_told T.text (V.seen self.old.view) (row_cause number line.now
+            (caused_by (row_expiring (V.expiring self.old.view) self.old.switch (with_bytes bytes.now row)) (with_bytes bytes.now row)))
+            1 self.old.switch (turn_of (happened event self.old.switch).report (happened event self.old.switch).state)) }
         ensures switch { OnOk result (self.new.switch ≡ (row_happened self.old.switch (with_bytes bytes.now row)).state) }
         ensures seen { OnOk result (self.new.seen.items ≡ V.seen self.old.view self.new.switch.core.forwarding) }
         ensures view { self.new.view ≡ self.old.view }
         ensures err { IfErr result (λ e. e ≡ NoMemory) }
     {
         let expired = self.expiring(row, bytes)?;
-        self.tell_whole(&expired, number, line, row, bytes)
+        let by = by_row(row, &expired);
+        self.tell_whole(&Cause { number, line, by }, row, bytes)
     }
 
     // Plays the row of a line, and says what its turns changed.

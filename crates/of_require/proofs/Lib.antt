@@ -1,7 +1,6 @@
 mod BareLemmas
 mod DecidingLemmas
 mod DividingLemmas
-mod FieldLemmas
 mod FileLemmas
 mod HavingLemmas
 mod ListLemmas

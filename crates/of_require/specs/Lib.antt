@@ -3,7 +3,6 @@ pub mod Requirements
 pub mod Packets
 pub mod Decisions
 pub mod Deciding
-pub mod Fields
 pub mod Refusals
 pub mod Reading
 pub mod RequirementFiles

@@ -23,7 +23,7 @@ use Rattle.of_require.specs.declared.requirement.Demand.TheVariants as demands
 use Rattle.of_require.specs.declared.requirement.Quantifier.{Quantifier}
 use Rattle.of_require.specs.declared.requirement.Quantifier.TheVariants.{AtLeastOne, Each, No}
 use Rattle.of_require.specs.declared.requirement.Requirement.{Requirement}
-use Rattle.of_require.specs.Fields.{is_match}
+use Rattle.of_frame_words.specs.Fields.{is_match}
 use Rattle.of_require.specs.Refusals.{LineRefusal, each_said, word_refused}
 use Rattle.of_require.specs.Requirements.{is_nothing}
 

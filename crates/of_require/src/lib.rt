@@ -4,7 +4,6 @@
 mod answers;
 mod deciding;
 mod doing;
-mod fields;
 mod json;
 mod junit;
 mod laws;

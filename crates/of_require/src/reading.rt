@@ -8,11 +8,10 @@ ghost use Rattle.of_ovs_words.specs.Outcomes.{numbered as numbered_in};
 ghost use Rattle.of_require.specs.Refusals.{LineStops};
 
 use crate::doing::names_nothing;
-use crate::fields::match_of;
 use crate::refusal::{NoRequirement, Refusal, Why, refuse};
 use crate::requirement::{Demand, Quantifier, Requirement};
 use of_actions::is_number;
-use of_frame_words::{NoFrame, read_conditions};
+use of_frame_words::{NoFrame, match_of, read_conditions};
 use of_lines::{cut, is};
 use of_ovs_words::{cut_word, numbered, port_in};
 use of_oxm::{Match, MatchField};

@@ -3,7 +3,7 @@ use crate::files::{NoFile, bytes_of};
 use crate::hinting::Seen;
 use crate::lookups::Lookups;
 use of_command_line::{EntriesAsked, HistoryAsked, HistoryOf};
-use of_frame_words::frame_words;
+use of_frame_words::{frame_words, match_of};
 use of_history::{
     EntriesView, EntryFilter, FrameView, InJson, InWords, LineByLine, LogHistory, history,
 };
@@ -18,8 +18,8 @@ use std::alloc::{AllocError, Global};
 #[derive(Clone, Copy, PartialEq, Eq)]
 pub enum HistoryVerdict {
     Told,
-    /// The row that an option names is not that of a frame, which standard error says.
-    NoFrame,
+    /// The row that an option names is not that of a frame, or no flow may have the match, which standard error says.
+    NoHistory,
 }
 
 // The bytes before the line of that number, from 1, and that line, which is empty where there are fewer lines.
@@ -82,26 +82,26 @@ fn frame_history(
     })
 }
 
-fn view_of(of: &EntriesAsked) -> Result<EntriesView, AllocError> {
-    Ok(EntriesView {
-        filter: EntryFilter {
-            table: of.table,
-            priority: of.priority,
-            cookie: of.cookie,
-            cookie_mask: of.cookie_mask,
-        },
-        fields: of.fields.clone()?,
-    })
+fn view_of(of: &EntriesAsked) -> Result<Option<EntriesView>, AllocError> {
+    let Some(fields) = match_of(of.fields.clone()?) else {
+        return Ok(None);
+    };
+    let filter = EntryFilter {
+        table: of.table,
+        priority: of.priority,
+        cookie: of.cookie,
+        cookie_mask: of.cookie_mask,
+    };
+    Ok(Some(EntriesView { filter, fields }))
 }
 
 // The history of flow entries over these rows, in words or as JSON.
 fn entries_history(
     alloc: Global,
     asked: &HistoryAsked,
-    of: &EntriesAsked,
+    view: EntriesView,
     rows: &[u8],
 ) -> Result<LogHistory, SwitchError> {
-    let view = view_of(of)?;
     if asked.json {
         return history::<Lookups, _, _>(alloc, asked.dpid, view, LineByLine(InJson), rows);
     }
@@ -120,7 +120,7 @@ fn write_history(rt: &HostRuntime, told: &LogHistory) -> Ended {
     }
 }
 
-// Prints the history that is asked for; None if a row is no frame.
+// Prints the history that is asked for; None if a row is no frame, or no flow may have a match.
 fn recount(
     rt: &HostRuntime,
     asked: &HistoryAsked,
@@ -142,7 +142,12 @@ fn recount(
             };
             frame_history(alloc, asked, view, rows)?
         }
-        HistoryOf::Entries(of) => entries_history(alloc, asked, of, bytes)?,
+        HistoryOf::Entries(of) => {
+            let Some(view) = view_of(of)? else {
+                return Ok(None);
+            };
+            entries_history(alloc, asked, view, bytes)?
+        }
     };
     Ok(Some(write_history(rt, &told)))
 }
@@ -154,8 +159,12 @@ pub fn recounted(rt: &HostRuntime, asked: &HistoryAsked) -> Result<HistoryVerdic
         Ok(Some(Ended::Done)) => Ok(HistoryVerdict::Told),
         Ok(Some(ended)) => Err(NoFile::Ended { seen, ended }),
         Ok(None) => {
-            let _ = eprintln!(rt; "bad row: the line is no row of a frame: f PORT HEX");
-            Ok(HistoryVerdict::NoFrame)
+            let why = match asked.of {
+                HistoryOf::Entries(_) => "bad flow: no flow may have this match",
+                _ => "bad row: the line is no row of a frame: f PORT HEX",
+            };
+            let _ = eprintln!(rt; "{why}");
+            Ok(HistoryVerdict::NoHistory)
         }
         Err(_) => Err(NoFile::Ended {
             seen,

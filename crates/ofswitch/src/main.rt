@@ -234,7 +234,7 @@ fn run_trace(rt: &HostRuntime, asked: &Trace) -> ExitCode {
 fn run_history(rt: &HostRuntime, asked: &HistoryAsked) -> ExitCode {
     match recounted(rt, asked) {
         Ok(HistoryVerdict::Told) => ExitCode::SUCCESS,
-        Ok(HistoryVerdict::NoFrame) => ExitCode::from(BAD_ARGUMENTS),
+        Ok(HistoryVerdict::NoHistory) => ExitCode::from(BAD_ARGUMENTS),
         Err(why) => end_unread(rt, asked.file.as_str(), why),
     }
 }

@@ -1,7 +1,8 @@
 use Rattle.std.proofs.Common.{◌≡◌, ◌+◌, ◌++◌, [], Some, refl, ◌∙◌, ap, arith}
 use Rattle.of_switch.specs.Steps.{gives}
 use Rattle.of_switch.proofs.Draining.{next_shorter}
-use Rattle.of_history.specs.Changes.{unless_same}
+use Rattle.of_history.specs.Causes.{Message, Row}
+use Rattle.of_history.specs.Changes.{change_told, row_cause}
 use Rattle.of_history.proofs.TurnLemmas.{telling_all, telling_more}
 use Rattle.of_history.proofs.watching.Watching.tell_messages.Goals as goal
 
@@ -18,24 +19,24 @@ loop-message-preserved g c =
     let out : c.handle.new.self.out.items ≡ c.loop-message.self.out.items = cc in
     let fresh : c.look_again.new.self.seen.items ≡ g.V.View.seen c.args.self.now.view c.handle.new.self.switch.core.forwarding = rw (← view) c.in_ok-look_again.ensures.seen in
     let shorter = next_shorter c.loop-message.self.switch (gives h.0 c.handle.new.self.switch) h.1 in
-    let said : c.look_again.new.self.out.items ≡ c.loop-message.self.out.items ++ unless_same c.loop-message.self.seen.items c.look_again.new.self.seen.items (g.T.ChangeTeller.text [] c.args.number c.args.line.now (c.loop-message.turn + 1) (Some c.deref.result.now) c.loop-message.self.seen.items c.look_again.new.self.seen.items) = rw (← seen, ← out) c.in_ok-look_again.ensures.said in
+    let said : c.look_again.new.self.out.items ≡ c.loop-message.self.out.items ++ change_told g.T.ChangeTeller.text (row_cause c.args.number c.args.line.now (Message (c.loop-message.turn + 1) c.deref.result.now)) c.loop-message.self.seen.items c.look_again.new.self.seen.items = rw (← seen, ← out) c.in_ok-look_again.ensures.said in
     record {
       view = c.in_ok-look_again.ensures.kept.1 ∙ view;
       fresh = rw c.in_ok-look_again.ensures.kept.0 fresh;
       few = rw c.in_ok-look_again.ensures.kept.0 (omega (arith, shorter, c.loop-message.invariant.few));
       telling = rw c.in_ok-look_again.ensures.kept.0
-          (telling_more (g.T.ChangeTeller.text []) (g.V.View.seen c.args.self.now.view) c.args.number c.args.line.now c.args.self.now.switch c.loop-message.self.switch (gives h.0 c.handle.new.self.switch)
-          c.loop-message.turn (c.loop-message.turn + 1) (Some c.deref.result.now) c.args.self.now.out.items c.loop-message.self.out.items c.look_again.new.self.out.items c.loop-message.self.seen.items c.look_again.new.self.seen.items
-          h.1 refl (ap Some (c.deref.ensures.value ∙ h.2)) c.loop-message.invariant.fresh fresh said c.loop-message.invariant.telling);
+          (telling_more g.T.ChangeTeller.text (g.V.View.seen c.args.self.now.view) (row_cause c.args.number c.args.line.now Row) c.args.self.now.switch c.loop-message.self.switch (gives h.0 c.handle.new.self.switch)
+          c.loop-message.turn (c.loop-message.turn + 1) c.deref.result.now c.args.self.now.out.items c.loop-message.self.out.items c.look_again.new.self.out.items c.loop-message.self.seen.items c.look_again.new.self.seen.items
+          h.1 refl (c.deref.ensures.value ∙ h.2) c.loop-message.invariant.fresh fresh said c.loop-message.invariant.telling);
     }
 
 pub returns-clause-said : goal.returns-clause-said
 returns-clause-said g c =
     let h = rw c.if-branch.false at c.in_ok-handle.ensures.handles in
     let out : c.handle.new.self.out.items ≡ c.loop-message.self.out.items = cc in
-    out ∙ (telling_all (g.T.ChangeTeller.text []) (g.V.View.seen c.args.self.now.view) c.args.number c.args.line.now c.args.self.now.switch c.loop-message.self.switch c.loop-message.turn c.args.self.now.out.items c.loop-message.self.out.items h.0 c.loop-message.invariant.telling).0
+    out ∙ (telling_all g.T.ChangeTeller.text (g.V.View.seen c.args.self.now.view) (row_cause c.args.number c.args.line.now Row) c.args.self.now.switch c.loop-message.self.switch c.loop-message.turn c.args.self.now.out.items c.loop-message.self.out.items h.0 c.loop-message.invariant.telling).0
 
 pub returns-clause-switch : goal.returns-clause-switch
 returns-clause-switch g c =
     let h = rw c.if-branch.false at c.in_ok-handle.ensures.handles in
-    h.1 ∙ (telling_all (g.T.ChangeTeller.text []) (g.V.View.seen c.args.self.now.view) c.args.number c.args.line.now c.args.self.now.switch c.loop-message.self.switch c.loop-message.turn c.args.self.now.out.items c.loop-message.self.out.items h.0 c.loop-message.invariant.telling).1
+    h.1 ∙ (telling_all g.T.ChangeTeller.text (g.V.View.seen c.args.self.now.view) (row_cause c.args.number c.args.line.now Row) c.args.self.now.switch c.loop-message.self.switch c.loop-message.turn c.args.self.now.out.items c.loop-message.self.out.items h.0 c.loop-message.invariant.telling).1

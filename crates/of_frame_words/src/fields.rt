@@ -2,7 +2,7 @@
 ghost use Rattle.std.specs.Prelude.{◌≡◌, ℕ, length, IsTrue, IfSome, IfNone, Option, false, nat_lt};
 ghost use Rattle.std.specs.List.{list_all};
 ghost use Rattle.of_layers.specs.Fields.{number_of};
-ghost use Rattle.of_require.specs.Fields.{rises_by_number as is_ascending_by, is_kept as is_kept_by, is_kept_mask as is_kept_mask_by, is_match};
+ghost use Rattle.of_frame_words.specs.Fields.{rises_by_number as is_ascending_by, is_kept as is_kept_by, is_kept_mask as is_kept_mask_by, is_match};
 
 use of_layers::Field;
 use of_oxm::{Match, MatchField, prerequisites_met};
