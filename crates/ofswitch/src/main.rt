@@ -3,6 +3,7 @@
 
 ghost use Rattle.std.specs.Prelude.{◌≡◌};
 
+mod beginning;
 mod checking;
 mod diffing;
 mod files;
@@ -18,6 +19,7 @@ mod seed;
 mod serving;
 mod tracing;
 
+use crate::beginning::events_of_tables;
 use crate::checking::{CheckVerdict, checked};
 use crate::diffing::diffed;
 use crate::files::{NoFile, Opened, bytes_of, open, read_whole, said_dpid};
@@ -290,11 +292,33 @@ fn rows_of(rt: &HostRuntime, events: Option<&str>) -> Result<Vec<Event>, ExitCod
     }
 }
 
+// What happens to a switch: first the events of its tables, and later those of the rows of its event file.
+#[derive(Drop)]
+struct Given {
+    first: Vec<Event>,
+    rows: Vec<Event>,
+}
+
+// What the files of a switch give; or the status with which the run ends.
+fn given_by(
+    rt: &HostRuntime,
+    tables: &Option<String>,
+    events: &Option<String>,
+) -> Result<Given, ExitCode> {
+    let tables = tables.as_ref().map(|path| path.as_str());
+    let first = match events_of_tables(rt, tables) {
+        Ok(first) => first,
+        Err(why) => return Err(end_unread(rt, tables.unwrap_or("-"), why)),
+    };
+    let rows = rows_of(rt, events.as_ref().map(|path| path.as_str()))?;
+    Ok(Given { first, rows })
+}
+
 fn run_serve(rt: &HostRuntime, asked: &Serve) -> ExitCode {
-    match rows_of(rt, asked.events.as_ref().map(|path| path.as_str())) {
-        Ok(rows) => {
+    match given_by(rt, &asked.tables, &asked.events) {
+        Ok(Given { first, rows }) => {
             let teller = Teller::new(rt);
-            let ended = serve_rows(&teller, asked, rows);
+            let ended = serve_rows(&teller, asked, &first, rows);
             end_serving(&teller, ended)
         }
         Err(code) => code,
@@ -302,13 +326,13 @@ fn run_serve(rt: &HostRuntime, asked: &Serve) -> ExitCode {
 }
 
 fn run_live(rt: &HostRuntime, asked: &Live) -> ExitCode {
-    match rows_of(rt, asked.events.as_ref().map(|path| path.as_str())) {
-        Ok(rows) => {
+    match given_by(rt, &asked.tables, &asked.events) {
+        Ok(Given { first, rows }) => {
             let teller = Teller::new(rt);
             if !are_peers(&teller, asked, &rows) {
                 return ExitCode::from(BAD_ARGUMENTS);
             }
-            let ended = live_rows(&teller, asked, rows);
+            let ended = live_rows(&teller, asked, &first, rows);
             end_serving(&teller, ended)
         }
         Err(code) => code,
