@@ -24,10 +24,11 @@ const EVENT_FILES: &str = "An event file has one event per line. Words are separ
 
 It prints the messages to the controller (`a HEX`), the frames that leave (`s PORT HEX`), `closed` if the switch ends the
 connection, and `refused N` if an event is not possible: 3 not connected, 4 already connected, 5 the port exists, 6 the
-port does not exist, 7 too many ports, 8 bad port number. With --explain it prints each row, and below it what the row
-did, in words: answers by name with their fields, errors by the standard's names, and the path of each frame. With --json
-beside it, each row is a JSON object in one line. The effects of all rows that were read are printed before the next read,
-so a program can send rows to `replay -` one by one, and read the effects of each.
+port does not exist, 7 too many ports, 8 bad port number. With --explain it prints each row behind the number of its line,
+and below it what the row did, in words: answers by name with their fields, errors by the standard's names, and the path of
+each frame. Of `t` rows one after the other that do nothing it prints the last one. With --json beside it, each row is a JSON
+object in one line. The effects of all rows that were read are printed before the next read, so a program can send rows to
+`replay -` one by one, and read the effects of each.
 
   ofswitch replay examples/first-path.events
   ofswitch replay --explain examples/first-path.events

@@ -7,6 +7,7 @@ mod beginning;
 mod checking;
 mod diffing;
 mod files;
+mod folding;
 mod hinting;
 mod history;
 mod importing;
@@ -23,6 +24,7 @@ use crate::beginning::events_of_tables;
 use crate::checking::{CheckVerdict, checked};
 use crate::diffing::diffed;
 use crate::files::{NoFile, Opened, bytes_of, open, read_whole, said_dpid};
+use crate::folding::Folded;
 use crate::history::{HistoryVerdict, recounted};
 use crate::lookups::Lookups;
 use crate::paths::{NoPaths, divided};
@@ -385,13 +387,22 @@ fn run<R: Read + Drop>(rt: &HostRuntime, run: &Run, reader: R) -> Ended {
             let (from, to) = (&mut reader, &mut writer);
             match (*output, *ask) {
                 (ReplayOutput::Effects, false) => play(rt, dpid, reads, &Plain, from, to),
-                (ReplayOutput::Explained, false) => play(rt, dpid, reads, &Explaining, from, to),
                 (ReplayOutput::Json, _) => play(rt, dpid, reads, &ExplainingJson, from, to),
                 (ReplayOutput::Effects, true) => {
                     play(rt, dpid, reads, &Answering { rows: Plain }, from, to)
                 }
+                (ReplayOutput::Explained, false) => {
+                    play_in_words(rt, dpid, reads, &Explaining, from, writer)
+                }
                 (ReplayOutput::Explained, true) => {
-                    play(rt, dpid, reads, &Answering { rows: Explaining }, from, to)
+                    play_in_words(
+                        rt,
+                        dpid,
+                        reads,
+                        &Answering { rows: Explaining },
+                        from,
+                        writer,
+                    )
                 }
             }
         }
@@ -413,6 +424,23 @@ fn play<T: RowPrinter<Lookups>, S: Source, W: Sink>(
     requires failures { W.failures writer.old ≡ 0 }
 {
     print_file::<Lookups, _, _, _>(rt.alloc(), dpid, reads, rows, reader, writer)
+}
+
+// The same in words, without the many time rows of a log.
+fn play_in_words<T: RowPrinter<Lookups>, S: Source, W: Sink + Drop>(
+    rt: &HostRuntime,
+    dpid: u64,
+    reads: u32,
+    rows: &T,
+    reader: &mut S,
+    writer: W,
+) -> Ended
+    requires reads { S.reads reader.old ≡ 0 }
+    requires failures { W.failures writer ≡ 0 }
+{
+    let mut folded = Folded::new(rt.alloc(), writer);
+    let ended = play(rt, dpid, reads, rows, reader, &mut folded);
+    folded.end(ended)
 }
 
 // Why the run ended, on standard error where it is a fault, and the status.
