@@ -478,8 +478,9 @@ class _Story:
 
     def __init__(self, run: Run) -> None:
         self._run = run
-        # how many bytes of the log were played
+        # how many bytes of the log were played, and in how many parts
         self._at = 0
+        self._parts = 0
         self._lines: list[bytes] = []
 
     def follow(self, log: IO[bytes]) -> None:
@@ -487,8 +488,14 @@ class _Story:
         log.seek(self._at)
         while block := log.read(_BLOCK_SIZE):
             block += log.readline()
-            self._lines += self._run.play(block)
+            self._lines += map(self._numbered, self._run.play(block))
             self._at += len(block)
+            self._parts += 1
+
+    def _numbered(self, line: bytes) -> bytes:
+        """A line with the number of its row in the log: the run has a question behind each part."""
+        number, colon, row = line.partition(b": ")
+        return b"%d: %s" % (int(number) - self._parts, row) if colon and number.isdigit() else line
 
     def text(self) -> str:
         return b"".join(it + b"\n" for it in self._lines).decode()

@@ -39,8 +39,8 @@ def test_a_failure_shows_the_rows_and_what_they_did(in_process):
         [
             "*ofswitch: the rows of switch 1, and what each did*",
             "ofswitch replay --explain */switch-1.events",
-            "port add 1 020000000001 p1 up",
-            "connect",
+            "1: port add 1 020000000001 p1 up",
+            "2: connect",
             "    to the controller: HELLO xid 0, 16 bytes",
         ]
     )
@@ -52,7 +52,7 @@ def test_a_failure_shows_the_rows_and_what_they_did(in_process):
 def test_a_failure_shows_each_switch(in_process):
     result = in_process(SEVERAL)
     result.assert_outcomes(failed=1)
-    result.stdout.fnmatch_lines(["*switch 1*", "port add 1 *", "*switch 2*", "port add 2 *"])
+    result.stdout.fnmatch_lines(["*switch 1*", "1: port add 1 *", "*switch 2*", "1: port add 2 *"])
 
 
 def test_a_passing_test_shows_nothing(in_process):
@@ -73,12 +73,12 @@ def test_a_killed_program_has_its_rows_shown(in_process):
         """
     )
     result.assert_outcomes(failed=1)
-    result.stdout.fnmatch_lines(["*ProgramError*signal 9*", "ofswitch replay --explain *", "connect"])
+    result.stdout.fnmatch_lines(["*ProgramError*signal 9*", "ofswitch replay --explain *", "1: connect"])
 
 
 def test_a_long_log_is_shown_in_part(in_process):
-    result = in_process("def test_that_fails(switch):\n    for n in range(300): switch.at(n)\n    assert False")
-    result.stdout.fnmatch_lines([".. 200 lines, and then", "t 200"])
+    result = in_process("def test_that_fails(switch):\n    for n in range(300): switch.play(f'# {n}')\n    assert False")
+    result.stdout.fnmatch_lines([".. 200 lines, and then", "201: # 200"])
 
 
 FRAMES = """
@@ -100,9 +100,9 @@ def test_that_fails(switch):
     "port, said",
     [
         # `load` without a connection is connect, a HELLO, the flow, and lost: rows 3 to 6, and after the first frame 8 to 11
-        (1, ["the frame of line 13, since line 10: nothing leaves (before: out by port 2)", "    FLOW_MOD, command ADD, priority 6, match in_port 1", "", "port add 1 *"]),
-        (2, ["the frame of line 13, since line 2: nothing leaves (before: not received)", "    port add 2 020000000002 p2 up", "", "port add 1 *"]),
-        (3, ["the frame of line 13: not received", "", "port add 1 *"]),
+        (1, ["the frame of line 13, since line 10: nothing leaves (before: out by port 2)", "    FLOW_MOD, command ADD, priority 6, match in_port 1", "", "1: port add 1 *"]),
+        (2, ["the frame of line 13, since line 2: nothing leaves (before: not received)", "    port add 2 020000000002 p2 up", "", "1: port add 1 *"]),
+        (3, ["the frame of line 13: not received", "", "1: port add 1 *"]),
     ],
 )
 def test_a_failure_says_what_changed_the_fate_of_its_frame(in_process, port, said):
@@ -149,7 +149,7 @@ def test_a_failure_shows_the_rows_that_matter(in_process):
     result.assert_outcomes(failed=1)
     shown = result.outlines
     start = next(at for at, it in enumerate(shown) if it.startswith("all rows: "))
-    rows = [it for it in shown[start + 3 :] if it.startswith(("port", "connect", "c ", "t ", "f ", "lost"))]
+    rows = [it.partition(": ")[2] for it in shown[start + 3 :] if it[:1].isdigit() and ": " in it]
     assert [it[:10] for it in rows] == ["port add 1", "port add 2", "connect", "c 04000008", "c 040e0058", f"f 1 {bytes(3).hex()}"]
     with open(shown[start].removeprefix("all rows: "), encoding="utf-8") as file:
         assert len(file.readlines()) == 8 + 4 + 50 + 1
@@ -166,5 +166,5 @@ def test_without_rows_there_is_nothing_to_compare(in_process, rows):
 
 def test_a_last_row_that_does_nothing_is_not_compared(in_process):
     result = in_process(SHRUNK % "pass", "--ofswitch-shrink")
-    result.stdout.fnmatch_lines(["ofswitch replay --explain */switch-1.events", "port add 8 *", "t 49"])
+    result.stdout.fnmatch_lines(["ofswitch replay --explain */switch-1.events", "8: port add 8 *", "*: t 49"])
     result.stdout.no_fnmatch_line("all rows: *")

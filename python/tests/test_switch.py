@@ -243,6 +243,7 @@ def test_flows_and_traces_change_nothing(switch):
     assert "FLOW_MOD" in switch.explain()
     assert switch.explain() == switch.explain()
     switch.port_link(1, up=True)
+    assert f"{len(switch.log.splitlines())}: port link 1 up" in switch.explain().splitlines()
     assert switch.explain() == switch.explain()
 
 

@@ -24,10 +24,11 @@ const EVENT_FILES: &str = "An event file has one event per line. Words are separ
 
 It prints the messages to the controller (`a HEX`), the frames that leave (`s PORT HEX`), `closed` if the switch ends the
 connection, and `refused N` if an event is not possible: 3 not connected, 4 already connected, 5 the port exists, 6 the
-port does not exist, 7 too many ports, 8 bad port number. With --explain it prints each row, and below it what the row
-did, in words: answers by name with their fields, errors by the standard's names, and the path of each frame. With --json
-beside it, each row is a JSON object in one line. The effects of all rows that were read are printed before the next read,
-so a program can send rows to `replay -` one by one, and read the effects of each.
+port does not exist, 7 too many ports, 8 bad port number. With --explain it prints each row behind the number of its line,
+and below it what the row did, in words: answers by name with their fields, errors by the standard's names, and the path of
+each frame. Of `t` rows one after the other that do nothing it prints the last one. With --json beside it, each row is a JSON
+object in one line. The effects of all rows that were read are printed before the next read, so a program can send rows to
+`replay -` one by one, and read the effects of each.
 
   ofswitch replay examples/first-path.events
   ofswitch replay --explain examples/first-path.events
@@ -194,11 +195,15 @@ connections, but its time advances only while there is one.
   ofswitch serve                                     wait at 127.0.0.1:6653
   ofswitch serve --connect 10.0.0.1:6653             connect to a controller that listens
   ofswitch serve --events ports.events               with ports and frames
+  ofswitch serve --tables br0.flows                  with groups and flows
 
 The event file has the rows of `replay`, except `connect`, `lost` and `c`, which are bad rows here. It is read completely
 before a controller connects. A row happens as soon as a controller is connected and each `t` row before it is due, in
 nanoseconds since the start. Frames that leave are printed (`s PORT HEX`); a line on standard error reports
 each connection and its end. The log is an event file of all that happens (`ofswitch live --help`).
+
+With --tables the switch begins with the groups and flows that `check` would read from that file: as if, before all else, a
+controller had sent the messages that `asm` prints, and had gone. The log has their rows in front.
 
 A turn is an accept, or one read of at most 65,536 bytes that waits at most 2 seconds.";
 
@@ -211,16 +216,18 @@ no network interface of its own, and no privileges.
   ofswitch live --ports 2                                     ports 1 and 2, at UDP port 4789; a controller connects to 127.0.0.1:6653
   ofswitch live --ports 2 --connect 10.0.0.1:6653             the switch connects to a controller
   ofswitch live --ports 4 --peer 1=10.0.0.7 --log run.events  port 1 is at 10.0.0.7; everything that happens is logged
+  ofswitch live --ports 2 --tables br0.flows                  with groups and flows from the start
   ip link add vx1 type vxlan id 1 remote SWITCH dstport 4789  a host's interface at port 1 (then: ip link set vx1 up)
 
 Without a controller the switch goes on forwarding, and flows expire by the clock. One controller is served at a time: another one
 that connects meanwhile is closed at once, unless nothing was heard of the first for 15 seconds. Without a HELLO a connection is
-closed after 10 seconds, and so is one that reads nothing for 10 seconds. If nothing was heard for 60 seconds of a controller that
-the switch connected to, the switch connects once more, and takes the new connection.
+closed after 10 seconds, and so is one that reads nothing for 10 seconds, or for which more than 256 MiB wait. If nothing was
+heard for 60 seconds of a controller that the switch connected to, the switch connects once more, and takes the new connection.
 
 The event file has the rows of `replay`, except `connect`, `lost` and `c`; its rows happen as soon as the time of each `t` row
 before them has come, in nanoseconds since the start. With `--rows -`, rows `f` and `port` on standard input happen as soon as
-they are read, such as `port link 1 down`. Standard error reports bad rows and refused rows; the switch goes on.
+they are read, such as `port link 1 down`. Standard error reports bad rows and refused rows; the switch goes on. For --tables see
+`ofswitch serve --help`.
 
 The log is an event file of all that happens, and a row is written before anything goes out for it. Its first line says how to
 replay it, such as `# replay with --dpid 2`. So `replay LOG` prints the
@@ -271,11 +278,7 @@ const REPLAY: [Argument; 6] = [
         kind: Kind::Positional,
         help: "The event file to run; - is standard input",
     },
-    Argument {
-        name: "dpid",
-        kind: Kind::Optional("dpid", "N"),
-        help: "The datapath_id, decimal or 0x and hexadecimal digits (by default 1)",
-    },
+    DATAPATH_ID,
     Argument {
         name: "explain",
         kind: Kind::Flag("explain"),
@@ -483,80 +486,87 @@ const PATHS_ARGUMENTS: [Argument; 8] = [
     },
 ];
 
-const SERVE: [Argument; 8] = [
-    Argument {
-        name: "listen",
-        kind: Kind::Optional("listen", "ADDR"),
-        help: "The address at which to wait for a controller, such as 127.0.0.1:6653 (the default) or [::]:6653",
-    },
-    Argument {
-        name: "connect",
-        kind: Kind::Excluded("connect", "ADDR", "listen"),
-        help: "The controller to connect to, such as 10.0.0.1:6653",
-    },
-    Argument {
-        name: "idle",
-        kind: Kind::Optional("idle", "S"),
-        help: "Close a connection of which nothing was heard for S seconds (by default never)",
-    },
-    Argument {
-        name: "FILE",
-        kind: Kind::Optional("events", "FILE"),
-        help: "An event file with ports and frames",
-    },
-    Argument {
-        name: "log",
-        kind: Kind::Optional("log", "FILE"),
-        help: "Log all events to this event file",
-    },
+// Of `serve` and of `live`.
+const LISTEN: Argument = Argument {
+    name: "listen",
+    kind: Kind::Optional("listen", "ADDR"),
+    help: "The address at which to wait for a controller, such as 127.0.0.1:6653 (the default) or [::]:6653",
+};
+
+const CONNECT: Argument = Argument {
+    name: "connect",
+    kind: Kind::Excluded("connect", "ADDR", "listen"),
+    help: "The controller to connect to, such as 10.0.0.1:6653",
+};
+
+const IDLE: Argument = Argument {
+    name: "idle",
+    kind: Kind::Optional("idle", "S"),
+    help: "Close a connection of which nothing was heard for S seconds (by default never)",
+};
+
+const TABLES: Argument = Argument {
+    name: "tables",
+    kind: Kind::Optional("tables", "FILE"),
+    help: "Begin with the groups and flows of a flow text, of what ovs-ofctl prints, or of an event file",
+};
+
+const EVENTS: Argument = Argument {
+    name: "FILE",
+    kind: Kind::Optional("events", "FILE"),
+    help: "An event file with ports and frames",
+};
+
+const LOG: Argument = Argument {
+    name: "log",
+    kind: Kind::Optional("log", "FILE"),
+    help: "Log all events to this event file",
+};
+
+const DATAPATH_ID: Argument = Argument {
+    name: "dpid",
+    kind: Kind::Optional("dpid", "N"),
+    help: "The datapath_id, decimal or 0x and hexadecimal digits (by default 1)",
+};
+
+const QUIET: Argument = Argument {
+    name: "quiet",
+    kind: Kind::Flag("quiet"),
+    help: "Do not report connections on standard error",
+};
+
+const SERVE: [Argument; 9] = [
+    LISTEN,
+    CONNECT,
+    IDLE,
+    TABLES,
+    EVENTS,
+    LOG,
     Argument {
         name: "turns",
         kind: Kind::Optional("turns", "N"),
         help: "End after N turns (by default 1000000)",
     },
-    Argument {
-        name: "dpid",
-        kind: Kind::Optional("dpid", "N"),
-        help: "The datapath_id, decimal or 0x and hexadecimal digits (by default 1)",
-    },
-    Argument {
-        name: "quiet",
-        kind: Kind::Flag("quiet"),
-        help: "Do not report connections on standard error",
-    },
+    DATAPATH_ID,
+    QUIET,
 ];
 
-const LIVE_ARGUMENTS: [Argument; 12] = [
+const LIVE_ARGUMENTS: [Argument; 13] = [
     Argument {
         name: "vxlan",
         kind: Kind::Optional("vxlan", "ADDR[:PORT]"),
         help: "The address and UDP port at which to receive datagrams (by default 0.0.0.0:4789)",
     },
-    Argument {
-        name: "listen",
-        kind: Kind::Optional("listen", "ADDR"),
-        help: "The address at which to wait for a controller, such as 127.0.0.1:6653 (the default) or [::]:6653",
-    },
-    Argument {
-        name: "connect",
-        kind: Kind::Excluded("connect", "ADDR", "listen"),
-        help: "The controller to connect to, such as 10.0.0.1:6653",
-    },
-    Argument {
-        name: "idle",
-        kind: Kind::Optional("idle", "S"),
-        help: "Close a connection of which nothing was heard for S seconds (by default never)",
-    },
+    LISTEN,
+    CONNECT,
+    IDLE,
     Argument {
         name: "ports",
         kind: Kind::Optional("ports", "N"),
         help: "Add the ports 1 to N, whose links are up (by default 0)",
     },
-    Argument {
-        name: "FILE",
-        kind: Kind::Optional("events", "FILE"),
-        help: "An event file with ports and frames",
-    },
+    TABLES,
+    EVENTS,
     Argument {
         name: "rows",
         kind: Kind::Optional("rows", "-"),
@@ -567,26 +577,14 @@ const LIVE_ARGUMENTS: [Argument; 12] = [
         kind: Kind::Repeated("peer", "N=ADDR[:PORT]"),
         help: "The address of the peer of port N (by default the sender of its last datagram)",
     },
-    Argument {
-        name: "log",
-        kind: Kind::Optional("log", "FILE"),
-        help: "Log all events to this event file",
-    },
+    LOG,
     Argument {
         name: "turns",
         kind: Kind::Optional("turns", "N"),
         help: "End after N turns (by default never)",
     },
-    Argument {
-        name: "dpid",
-        kind: Kind::Optional("dpid", "N"),
-        help: "The datapath_id, decimal or 0x and hexadecimal digits (by default 1)",
-    },
-    Argument {
-        name: "quiet",
-        kind: Kind::Flag("quiet"),
-        help: "Do not report connections on standard error",
-    },
+    DATAPATH_ID,
+    QUIET,
 ];
 
 // A subcommand: its name, its help before and after the arguments, and its arguments.

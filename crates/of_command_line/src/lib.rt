@@ -4,6 +4,7 @@
 mod checking;
 mod command;
 mod history;
+mod inputs;
 mod paths;
 mod port_list;
 mod received;
@@ -18,6 +19,7 @@ use clap::error::{Error, ErrorKind};
 use command::command;
 use history::history_of;
 pub use history::{EntriesAsked, HistoryAsked, HistoryOf};
+use inputs::{log_of, running_rows_of, tables_of};
 use of_wire::limits::TABLES;
 pub use paths::{Leading, PathsAsked};
 use paths::{paths_of, steps_of};
@@ -217,6 +219,8 @@ pub struct Serve {
     pub meeting: Meeting,
     /// For how many nanoseconds a connection may say nothing, if that is limited.
     pub idle: Option<u64>,
+    /// A file with the groups and flows with which the switch begins; `-` is standard input.
+    pub tables: Option<String>,
     /// An event file with ports and frames; `-` is standard input.
     pub events: Option<String>,
     /// Where all that happens is written.
@@ -238,6 +242,8 @@ pub struct Live {
     pub idle: Option<u64>,
     /// The switch has the ports 1 to this one, at most 64, and those of the event file.
     pub ports: u32,
+    /// A file with the groups and flows with which the switch begins; `-` is standard input.
+    pub tables: Option<String>,
     /// An event file with ports and frames; `-` is standard input.
     pub events: Option<String>,
     /// Whether rows of frames and ports are read from standard input while the switch runs.
@@ -527,6 +533,7 @@ fn serve_of<N: Net>(alloc: Global, net: &N, matches: &ArgMatches<'_>) -> Result<
     Ok(Serve {
         meeting: meeting_of(alloc, net, matches)?,
         idle: idle_of(alloc, matches.get_str("idle"))?,
+        tables: tables_of(alloc, matches)?,
         events: text_of(alloc, matches.get_str("FILE"))?,
         log: log_of(alloc, matches)?,
         turns: turns_of(alloc, matches.get_str("turns"))?,
@@ -542,8 +549,9 @@ fn live_of<N: Net>(alloc: Global, net: &N, matches: &ArgMatches<'_>) -> Result<L
         meeting: meeting_of(alloc, net, matches)?,
         idle: idle_of(alloc, matches.get_str("idle"))?,
         ports: ports_of(alloc, matches.get_str("ports"))?,
+        tables: tables_of(alloc, matches)?,
         events: text_of(alloc, matches.get_str("FILE"))?,
-        rows: running_rows_of(alloc, matches.get_str("rows"), matches.get_str("FILE"))?,
+        rows: running_rows_of(alloc, matches.get_str("rows"))?,
         peers: peers_of(alloc, tunnel, matches.get_strs("peer").unwrap_or(&[]))?,
         log: log_of(alloc, matches)?,
         turns: live_turns_of(alloc, matches.get_str("turns"))?,
@@ -574,23 +582,6 @@ fn ports_of(alloc: Global, word: Option<&str>) -> Result<u32, NoRequest> {
     match number_in(word.unwrap_or("0")) {
         Some(ports) if ports <= LAST_PORT => Ok(ports),
         _ => Err(refused(alloc, "bad ports: it is a number from 0 to 64\n")?),
-    }
-}
-
-// Rows come from standard input alone, which the event file may not be then.
-fn running_rows_of(
-    alloc: Global,
-    rows: Option<&str>,
-    events: Option<&str>,
-) -> Result<bool, NoRequest> {
-    match (rows, events) {
-        (None, _) => Ok(false),
-        (Some("-"), Some("-")) => Err(refused(
-            alloc,
-            "bad rows: --events and --rows cannot both read standard input\n",
-        )?),
-        (Some("-"), _) => Ok(true),
-        (Some(_), _) => Err(refused(alloc, "bad rows: it is -, for standard input\n")?),
     }
 }
 
@@ -654,15 +645,6 @@ fn peers_of(alloc: Global, tunnel: SocketAddr, words: &[&str]) -> Result<Vec<Por
         peers.push(peer).map_err(AllocError::from)?;
     }
     Ok(peers)
-}
-
-// The log, which is another file than the event file.
-fn log_of(alloc: Global, matches: &ArgMatches<'_>) -> Result<Option<String>, NoRequest> {
-    let log = matches.get_str("log");
-    if log.is_some() && log == matches.get_str("FILE") {
-        return Err(refused(alloc, "bad log: --events and --log are one file\n")?);
-    }
-    Ok(text_of(alloc, log)?)
 }
 
 // Seconds, as nanoseconds.

@@ -1,3 +1,4 @@
+pub mod FoldLemmas
 pub mod ReplyLemmas
 pub mod ReportLemmas
 pub mod RequestLemmas

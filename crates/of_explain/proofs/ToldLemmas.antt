@@ -13,10 +13,10 @@ use Rattle.of_explain.specs.Requests.{request_notes}
 use Rattle.of_explain.proofs.RequestLemmas.{messages_are}
 
 pub each_told : (n : ℕ) (s : State) (line chunk : List ℕ) (messages : List (List ℕ)) (rest : List ℕ) → is_disconnected s.connection.phase ≡ false → Splits (s.connection.pending ++ chunk) messages rest
-    → explained n s line (Some (Chunk chunk)) ≡ echoed line ++ (flat_map request_notes messages ++ effect_notes (chunk_in chunk s).effects)
+    → explained n s line (Some (Chunk chunk)) ≡ echoed n line ++ (flat_map request_notes messages ++ effect_notes (chunk_in chunk s).effects)
 each_told n s line chunk messages rest there split =
     let effects = (chunk_in chunk s).effects in
     let report : (row_happened s (Some (Chunk chunk))).report ≡ Gives effects = rw there refl in
-    ap (λ (r : Report). echoed line ++ report_notes (row_notes s (Some (Chunk chunk))) (Some (Chunk chunk)) r) report
-    ∙ (ap (λ (x : List (List ℕ)). echoed line ++ (flat_map request_notes x ++ (effect_notes effects ++ []))) (messages_are (s.connection.pending ++ chunk) messages rest split)
-    ∙ ap (λ (x : List ℕ). echoed line ++ (flat_map request_notes messages ++ x)) (append-nil (effect_notes effects)))
+    ap (λ (r : Report). echoed n line ++ report_notes (row_notes s (Some (Chunk chunk))) (Some (Chunk chunk)) r) report
+    ∙ (ap (λ (x : List (List ℕ)). echoed n line ++ (flat_map request_notes x ++ (effect_notes effects ++ []))) (messages_are (s.connection.pending ++ chunk) messages rest split)
+    ∙ ap (λ (x : List ℕ). echoed n line ++ (flat_map request_notes messages ++ x)) (append-nil (effect_notes effects)))

@@ -1,5 +1,5 @@
--- AN EVENT FILE EXPLAINED: its lines, and below each of them, after four spaces, what it did in words.
-use Rattle.std.specs.Prelude.{◌≡◌, ◌≢◌, ℕ, List, [], ◌∷◌, ◌++◌, codes, Option, Some, None, Result, Ok, Err, if◌then◌else◌}
+-- AN EVENT FILE EXPLAINED: its lines, each behind its number, and below each of them, after four spaces, what it did in words.
+use Rattle.std.specs.Prelude.{◌≡◌, ◌≢◌, ℕ, List, [], ◌∷◌, ◌++◌, codes, decimal, Option, Some, None, Result, Ok, Err, if◌then◌else◌}
 use Rattle.std.specs.List.{flat_map}
 use Rattle.smallvec.specs.SmallVec.{SmallVec}
 use Rattle.of_headers.specs.declared.headers.FrameFault.{FrameFault}
@@ -26,10 +26,10 @@ use Rattle.of_explain.specs.Messages.{message_words}
 use Rattle.of_explain.specs.Replies.{answer_lines}
 use Rattle.of_explain.specs.Requests.{chunk_notes}
 
--- a line as in the file; an empty one is left out
-abbrev pub echoed : List ℕ → List ℕ
-echoed [] = []
-echoed (b ∷ bs) = ended (b ∷ bs)
+-- a line as in the file, behind its number; an empty one is left out
+abbrev pub echoed : ℕ → List ℕ → List ℕ
+echoed n [] = []
+echoed n (b ∷ bs) = decimal n ++ codes ": " ++ ended (b ∷ bs)
 
 -- ---- what the switch gives: a note for each effect, and the lines below an answer
 
@@ -122,9 +122,9 @@ report_notes before row (IsRefused refusal) = note (switch_error_words refusal)
 abbrev pub notes_below : State → Option Event → List ℕ
 notes_below s row = report_notes (row_notes s row) row (row_happened s row).report
 
--- THE TALE: the line, and the notes below it
+-- THE TALE: the line behind its number, and the notes below it
 abbrev pub explained : RowText
-explained n s line row = echoed line ++ notes_below s row
+explained n s line row = echoed n line ++ notes_below s row
 
 -- ---- for contracts inside this crate
 

@@ -1,5 +1,6 @@
 pub mod Explained
 pub mod Fields
+pub mod Folding
 pub mod Messages
 pub mod Names
 pub mod Notes

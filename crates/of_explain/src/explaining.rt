@@ -13,7 +13,8 @@ use of_classifier::Lookup;
 use of_replay::{Ended, MOST_READS, Sink, Source, print_file};
 use std::alloc::Global;
 
-/// Plays the rows of a source as `replay` does, and writes each line, and below it, after four spaces, what it did in words.
+/// Plays the rows of a source as `replay` does, and writes each line behind its number, and below it, after four spaces, what it did in
+/// words.
 ///
 /// A row that happens has a note for each effect that `replay` would print, in order. Before them come, for a controller's
 /// bytes, each message that they complete (OpenFlow 1.3.5, 6.3.2 and 7.1), and for a frame its way: the port at which it is

@@ -15,6 +15,6 @@ ghost use Rattle.of_explain.specs.Requests.{request_notes};
 /// The messages are those into which the bytes that waited and those of the row split (OpenFlow 1.3.5, 6.3.2 and 7.1).
 pub fn each_message_is_told()
     ensures { (n : ℕ) (s : State) (line chunk : List ℕ) (messages : List (List ℕ)) (rest : List ℕ) → is_disconnected s.connection.phase ≡ false →
-        Splits (s.connection.pending ++ chunk) messages rest → explained n s line (Some (Chunk chunk)) ≡ echoed line ++
+        Splits (s.connection.pending ++ chunk) messages rest → explained n s line (Some (Chunk chunk)) ≡ echoed n line ++
         (flat_map request_notes messages ++ effect_notes (chunk_in chunk s).effects) }
 {}

@@ -12,15 +12,18 @@ use crate::requests::push_chunk;
 use of_classifier::Lookup;
 use of_replay::{Row, RowPrinter, play_row};
 use of_switch::{Effect, Effects, Switch, SwitchError};
+use of_values::push_decimal;
 use std::alloc::{AllocError, Global};
 
-// Appends a line as in the file. An empty one is left out.
-fn push_line(out: &mut Vec<u8>, line: &[u8]) -> Result<(), AllocError>
-    ensures { OnOk result (out.new.items ≡ out.old.items ++ echoed line.now) }
+// Appends a line as in the file, behind its number. An empty one is left out.
+fn push_line(out: &mut Vec<u8>, number: u64, line: &[u8]) -> Result<(), AllocError>
+    ensures { OnOk result (out.new.items ≡ out.old.items ++ echoed number line.now) }
 {
     if line.is_empty() {
         return Ok(());
     }
+    push_decimal(out, u128::from(number))?;
+    out.extend_from_slice(b": ")?;
     out.extend_from_slice(line)?;
     out.push(b'\n')?;
     Ok(())
@@ -108,7 +111,7 @@ pub fn tell_notes<L: Lookup>(
     push_report(alloc, out, &before, row, called)
 }
 
-/// Prints for each row its line, and below it what it did.
+/// Prints for each row its line, behind the number of the line, and below it what it did.
 #[derive(Drop)]
 pub struct Explaining;
 
@@ -119,13 +122,13 @@ impl<L: Lookup> RowPrinter<L> for Explaining {
         &self,
         alloc: Global,
         switch: &mut Switch<L>,
-        _number: u64,
+        number: u64,
         line: &[u8],
         row: Row,
         bytes: &[u8],
         out: &mut Vec<u8>,
     ) -> Result<(), SwitchError> {
-        push_line(out, line)?;
+        push_line(out, number, line)?;
         tell_notes(alloc, switch, row, bytes, out)
     }
 }

@@ -3,3 +3,4 @@ pub mod FlowLines
 pub mod NamedPorts
 pub mod Playing
 pub mod FileTables
+pub mod FirstEvents

@@ -1,14 +1,16 @@
 //! What files are read as: groups and flows of a flow text or of what ovs-ofctl prints, or the switch after the rows of an event file; and
-//! the ports of a switch that has the groups and flows of a file.
+//! the ports of a switch that has the groups and flows of a file, and the events that give it these.
 #![tactic(auto)]
 
 mod contents;
+mod first_events;
 mod flow_lines;
 mod playing;
 mod ports;
 mod tables;
 
 pub use contents::{Content, content_of};
+pub use first_events::first_events;
 pub use flow_lines::text_origins;
 pub use playing::play_file;
 pub use ports::{FIRST_PORTS, missing_ports, named_ports, ports_for};

@@ -91,8 +91,12 @@ since t l = let h = after_hearing t.hearing l in
 abbrev pub is_stuck : List ℕ → (since now : ℕ) → Bool
 is_stuck left since now = not (has_no_bytes left) && nat_le 10000000000 (now - since)
 
+-- and one for which more than 256 MiB are left
+abbrev pub is_flooded : List ℕ → Bool
+is_flooded left = nat_lt 268435456 (length left)
+
 abbrev pub is_given_up : LiveTurn → Live → Bool
-is_given_up t l = (is_written t.hearing l && t.failed) || is_stuck (is_left t l) (since t l) (after_hearing t.hearing l).time
+is_given_up t l = (is_written t.hearing l && t.failed) || is_stuck (is_left t l) (since t l) (after_hearing t.hearing l).time || is_flooded (is_left t l)
 
 -- it is closed if it was given up, or if the switch closed it
 abbrev pub is_closed : LiveTurn → Live → Bool

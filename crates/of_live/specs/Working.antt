@@ -11,7 +11,7 @@ use Rattle.of_network.specs.Inputs.{Came, Fault, is_ready}
 use Rattle.of_live.specs.Live.{Live, is_connected, begun}
 use Rattle.of_live.specs.Hearing.{Hearing, AreHandled, IsHearing, after_messages, events_of, after_hearing, wanted_of}
 use Rattle.of_network.specs.Acts.{Act, Records, Told, Logs, Writes}
-use Rattle.of_live.specs.Turns.{LiveTurn, IsLiveTurn, turn_acts, after_live_turn, closes, drops, live_effects, has_no_bytes, is_stuck, may_write, offered, results, rows_text}
+use Rattle.of_live.specs.Turns.{LiveTurn, IsLiveTurn, turn_acts, after_live_turn, closes, drops, live_effects, has_no_bytes, is_flooded, is_stuck, may_write, offered, results, rows_text}
 
 -- what events gave, and their rows
 pub record LiveWork : Type 0 where
@@ -67,7 +67,7 @@ offered_to a taken l = record l {
 
 -- and closing the connection
 abbrev pub is_closing : Asks → Bool → Live → Bool
-is_closing a failed l = a.is_open && ((failed || is_stuck l.waiting l.since l.time) || not (is_connected l))
+is_closing a failed l = a.is_open && ((failed || is_stuck l.waiting l.since l.time || is_flooded l.waiting) || not (is_connected l))
 
 abbrev pub after_closing : Asks → Bool → Live → Live
 after_closing a failed l = record l {

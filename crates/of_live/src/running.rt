@@ -37,8 +37,8 @@ fn take_turns<L: Lookup, N: Network>(
 /// Bytes of the controller wait until they are handled: messages are, one after the other, while less than 1 MiB waits for the
 /// connection, 64 in a turn at most, and none in one in which a frame comes.
 ///
-/// What the connection does not take waits for it. One that takes nothing for ten seconds, or fails, is closed, and the switch
-/// learns that it is lost when the next input comes.
+/// What the connection does not take waits for it. One that takes nothing for ten seconds, for which more than 256 MiB wait, or
+/// that fails, is closed, and the switch learns that it is lost when the next input comes.
 ///
 /// A network that fails ends as `ReadFault`, a log that cannot be written as `WriteFault`. Of a turn that ends so, or in which
 /// memory runs out, nothing goes out.

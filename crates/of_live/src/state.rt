@@ -11,7 +11,7 @@ ghost use Rattle.of_network.specs.Inputs.{IsInput, came_of};
 ghost use Rattle.of_live.specs.Live.{running_row_events, coming_events, frame_event, is_connected as connected, loss, peers_after, peers_of, received_datagram, rows_after, time_of, unheard_of};
 ghost use Rattle.of_live.specs.Hearing.{after_message, first_message, has_room as room_left, most_handled as most_after, next_message, wanted_of};
 ghost use Rattle.of_network.specs.Acts.{Records, Writes};
-ghost use Rattle.of_live.specs.Turns.{closes as closing_acts, dropped_in, dropped_of, drops, is_stuck as stuck, may_write as may_write_after};
+ghost use Rattle.of_live.specs.Turns.{closes as closing_acts, dropped_in, dropped_of, drops, is_flooded as flooded, is_stuck as stuck, may_write as may_write_after};
 ghost use Rattle.of_live.specs.Working.{Does, Goes, HandlesMessages, Hears, Passes, Settles, asks_by, is_closing, offered_acts, offered_to, offers, logged_text};
 
 use crate::work::{Work, happen, happen_bytes, happen_due, happen_frame};
@@ -30,6 +30,9 @@ use std::marker::Model;
 
 /// While so many bytes wait for a connection, no message of it is handled.
 const ROOM: usize = 1_048_576;
+
+/// A connection for which more bytes wait than these is closed.
+const MOST_WAITING: usize = 268_435_456;
 
 /// How many messages are handled in a turn at most.
 const MESSAGES: u32 = 64;
@@ -421,11 +424,19 @@ impl<L: Lookup> Live<L> {
         !self.waiting.left().is_empty() && self.time.saturating_sub(self.since) >= LONGEST_WAIT
     }
 
+    // Whether more than 256 MiB wait for the connection, so that it is given up.
+    fn is_flooded(&self) -> bool
+        ensures { result ≡ flooded self.now.waiting }
+    {
+        self.waiting.left().len() > MOST_WAITING
+    }
+
     // Whether the connection is closed.
     fn is_closed(&self, asks: Asks, failed: bool) -> bool
         ensures { result ≡ is_closing asks failed self.now }
     {
-        asks.is_open && (failed || self.is_stuck() || !self.switch.is_connected())
+        asks.is_open
+            && (failed || self.is_stuck() || self.is_flooded() || !self.switch.is_connected())
     }
 
     // Closes the connection, or keeps it open if there is one.
@@ -448,7 +459,8 @@ impl<L: Lookup> Live<L> {
         }
     }
 
-    // Offers what waits to the connection, and closes it if that fails, if it is stuck, or if the switch closed it.
+    // Offers what waits to the connection, and closes it if that fails, if it is stuck, if too much is left, or if the switch
+    // closed it.
     fn settle<N: Network>(&mut self, asks: Asks, network: &mut N)
         ensures settles { Settles asks self.old self.new (N.told network.old) (N.told network.new) }
         ensures keeps { N.keeps network.new ≡ N.keeps network.old }

@@ -52,6 +52,7 @@ impl<'r> Channel<'r> {
         teller: &'r Teller<'r>,
         machine: &'r Machine<'r>,
         asked: &Serve,
+        first: &[Event],
         course: Course,
         has_failed: &'r Cell<bool>,
     ) -> Result<Self, Unopened> {
@@ -61,7 +62,7 @@ impl<'r> Channel<'r> {
         let (meeting, idle, quiet) = (asked.meeting, asked.idle, asked.quiet);
         let controller = Controller::new(teller, meeting, idle, quiet, poll.registry());
         let controller = opened(controller, "listen")?;
-        let log = EventLog::begin(teller, &asked.log, asked.dpid)?;
+        let log = EventLog::begin(teller, &asked.log, asked.dpid, first)?;
         Ok(Channel {
             teller,
             machine,
@@ -257,19 +258,20 @@ pub struct Sockets<'r> {
 }
 
 impl<'r> Sockets<'r> {
-    /// Begins to listen, if controllers connect to the switch, and then the log, if there is to be one. `has_failed` becomes true if the
-    /// log cannot be written.
+    /// Begins to listen, if controllers connect to the switch, and then the log, if there is to be one, with the rows of what happened to
+    /// the switch already. `has_failed` becomes true if the log cannot be written.
     pub fn new(
         teller: &'r Teller<'r>,
         machine: &'r Machine<'r>,
         asked: &Serve,
+        first: &[Event],
         course: Course,
         has_failed: &'r Cell<bool>,
     ) -> Result<Self, Unopened>
         ensures { IfOk result (λ s. (s.accepts ≡ 0) × (s.reads ≡ 0) × (s.accept_failures ≡ 0) × (s.write_failures ≡ 0)) }
     {
         Ok(Sockets {
-            channel: Channel::new(teller, machine, asked, course, has_failed)?,
+            channel: Channel::new(teller, machine, asked, first, course, has_failed)?,
             accepts: 0,
             reads: 0,
             accept_failures: 0,

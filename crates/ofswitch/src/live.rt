@@ -1,4 +1,5 @@
 //! A switch that forwards the frames of a network.
+use crate::beginning::begun_switch;
 use crate::files::bytes_of;
 use crate::lookups::Lookups;
 use crate::seed::draw_seed;
@@ -8,7 +9,7 @@ use of_network::Peer;
 use of_replay::Ended;
 use of_sockets::Teller;
 use of_sockets::live::{PortRows, Sockets, endpoint_of, is_own};
-use of_switch::{Event, PortChange, Switch};
+use of_switch::{Event, PortChange};
 use std::alloc::AllocError;
 
 // The change that adds port N: its hardware address is 02, the low three bytes of the datapath_id and the number; pN, up.
@@ -97,30 +98,38 @@ fn set_peers(rt: &HostRuntime, asked: &[PortPeer]) -> Result<Vec<Peer>, AllocErr
     Ok(peers)
 }
 
-// The switch, before anything came.
+// The switch, before anything came: to which these events happened first, and with these rows to come.
 fn begun(
-    rt: &HostRuntime,
+    teller: &Teller<'_>,
     asked: &Asked,
+    first: &[Event],
     rows: Vec<Event>,
     seed: u64,
 ) -> Result<Live<Lookups>, AllocError> {
+    let rt = teller.rt;
     let mut all = first_ports(rt, asked)?;
     let mut rows = rows;
     all.append(&mut rows)?;
     let peers = set_peers(rt, asked.peers.as_slice())?;
-    let switch = Switch::<Lookups>::with_seed(rt.alloc(), asked.dpid, seed)?;
+    let switch = begun_switch(teller, asked.dpid, seed, first)?;
     Ok(Live::new(rt.alloc(), switch, all, peers))
 }
 
-/// Forwards the frames of a network on a new switch, with the events of a file. None, with a line on standard error, if it cannot begin.
-pub fn live_rows(teller: &Teller<'_>, asked: &Asked, rows: Vec<Event>) -> Option<Ended> {
+/// Forwards the frames of a network on a new switch to which events happened first, with the rows of a file. None, with a line on
+/// standard error, if it cannot begin.
+pub fn live_rows(
+    teller: &Teller<'_>,
+    asked: &Asked,
+    first: &[Event],
+    rows: Vec<Event>,
+) -> Option<Ended> {
     let rt = teller.rt;
     let seed = draw_seed(rt)?;
     let Ok(ports) = watched_ports(teller, asked, &rows) else {
         return Some(Ended::NoMemory);
     };
-    let mut network = Sockets::begin(teller, asked, ports)?;
-    let Ok(mut switch) = begun(rt, asked, rows, seed) else {
+    let mut network = Sockets::begin(teller, asked, first, ports)?;
+    let Ok(mut switch) = begun(teller, asked, first, rows, seed) else {
         return Some(Ended::NoMemory);
     };
     let ended = live(rt.alloc(), &mut switch, &mut network, asked.turns);

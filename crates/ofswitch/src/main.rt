@@ -3,10 +3,12 @@
 
 ghost use Rattle.std.specs.Prelude.{◌≡◌};
 
+mod beginning;
 mod checking;
 mod diffing;
 mod faults;
 mod files;
+mod folding;
 mod hinting;
 mod history;
 mod importing;
@@ -19,10 +21,12 @@ mod seed;
 mod serving;
 mod tracing;
 
+use crate::beginning::events_of_tables;
 use crate::checking::{CheckVerdict, checked};
 use crate::diffing::diffed;
 use crate::faults::print_fault;
 use crate::files::{NoFile, Opened, bytes_of, open, read_whole, said_dpid};
+use crate::folding::Folded;
 use crate::history::{HistoryVerdict, recounted};
 use crate::lookups::Lookups;
 use crate::paths::{NoPaths, divided};
@@ -305,11 +309,33 @@ fn rows_of(rt: &HostRuntime, events: Option<&str>) -> Result<Vec<Event>, ExitCod
     }
 }
 
+// What happens to a switch: first the events of its tables, and later those of the rows of its event file.
+#[derive(Drop)]
+struct Given {
+    first: Vec<Event>,
+    rows: Vec<Event>,
+}
+
+// What the files of a switch give; or the status with which the run ends.
+fn given_by(
+    rt: &HostRuntime,
+    tables: &Option<String>,
+    events: &Option<String>,
+) -> Result<Given, ExitCode> {
+    let tables = tables.as_ref().map(|path| path.as_str());
+    let first = match events_of_tables(rt, tables) {
+        Ok(first) => first,
+        Err(why) => return Err(end_unread(rt, tables.unwrap_or("-"), why)),
+    };
+    let rows = rows_of(rt, events.as_ref().map(|path| path.as_str()))?;
+    Ok(Given { first, rows })
+}
+
 fn run_serve(rt: &HostRuntime, asked: &Serve) -> ExitCode {
-    match rows_of(rt, asked.events.as_ref().map(|path| path.as_str())) {
-        Ok(rows) => {
+    match given_by(rt, &asked.tables, &asked.events) {
+        Ok(Given { first, rows }) => {
             let teller = Teller::new(rt);
-            let ended = serve_rows(&teller, asked, rows);
+            let ended = serve_rows(&teller, asked, &first, rows);
             end_serving(&teller, ended)
         }
         Err(code) => code,
@@ -317,13 +343,13 @@ fn run_serve(rt: &HostRuntime, asked: &Serve) -> ExitCode {
 }
 
 fn run_live(rt: &HostRuntime, asked: &Live) -> ExitCode {
-    match rows_of(rt, asked.events.as_ref().map(|path| path.as_str())) {
-        Ok(rows) => {
+    match given_by(rt, &asked.tables, &asked.events) {
+        Ok(Given { first, rows }) => {
             let teller = Teller::new(rt);
             if !are_peers(&teller, asked, &rows) {
                 return ExitCode::from(BAD_ARGUMENTS);
             }
-            let ended = live_rows(&teller, asked, rows);
+            let ended = live_rows(&teller, asked, &first, rows);
             end_serving(&teller, ended)
         }
         Err(code) => code,
@@ -376,13 +402,22 @@ fn run<R: Read + Drop>(rt: &HostRuntime, run: &Run, reader: R) -> Ended {
             let (from, to) = (&mut reader, &mut writer);
             match (*output, *ask) {
                 (ReplayOutput::Effects, false) => play(rt, dpid, reads, &Plain, from, to),
-                (ReplayOutput::Explained, false) => play(rt, dpid, reads, &Explaining, from, to),
                 (ReplayOutput::Json, _) => play(rt, dpid, reads, &ExplainingJson, from, to),
                 (ReplayOutput::Effects, true) => {
                     play(rt, dpid, reads, &Answering { rows: Plain }, from, to)
                 }
+                (ReplayOutput::Explained, false) => {
+                    play_in_words(rt, dpid, reads, &Explaining, from, writer)
+                }
                 (ReplayOutput::Explained, true) => {
-                    play(rt, dpid, reads, &Answering { rows: Explaining }, from, to)
+                    play_in_words(
+                        rt,
+                        dpid,
+                        reads,
+                        &Answering { rows: Explaining },
+                        from,
+                        writer,
+                    )
                 }
             }
         }
@@ -404,6 +439,23 @@ fn play<T: RowPrinter<Lookups>, S: Source, W: Sink>(
     requires failures { W.failures writer.old ≡ 0 }
 {
     print_file::<Lookups, _, _, _>(rt.alloc(), dpid, reads, rows, reader, writer)
+}
+
+// The same in words, without the many time rows of a log.
+fn play_in_words<T: RowPrinter<Lookups>, S: Source, W: Sink + Drop>(
+    rt: &HostRuntime,
+    dpid: u64,
+    reads: u32,
+    rows: &T,
+    reader: &mut S,
+    writer: W,
+) -> Ended
+    requires reads { S.reads reader.old ≡ 0 }
+    requires failures { W.failures writer ≡ 0 }
+{
+    let mut folded = Folded::new(rt.alloc(), writer);
+    let ended = play(rt, dpid, reads, rows, reader, &mut folded);
+    folded.end(ended)
 }
 
 // Why the run ended, on standard error where it is a fault, and the status.

@@ -1,4 +1,5 @@
 //! A switch that serves controllers over sockets.
+use crate::beginning::begun_switch;
 use crate::files::bytes_of;
 use crate::lookups::Lookups;
 use crate::seed::draw_seed;
@@ -8,7 +9,7 @@ use of_replay::streams::WriterSink;
 use of_serve::serve_on;
 use of_sockets::serving::Sockets;
 use of_sockets::{Course, Machine, MachineClock, Output, Refusals, Teller, said};
-use of_switch::{Event, Switch};
+use of_switch::Event;
 use of_wire::Bytes;
 use std::alloc::{AllocError, Global};
 use std::cell::Cell;
@@ -50,8 +51,14 @@ fn course_of(alloc: Global, rows: &[Event], keeps: bool) -> Result<Course, Alloc
     Ok(Course::new(all))
 }
 
-/// Serves controllers on a new switch, with the events of a file. None, with a line on standard error, if it cannot begin.
-pub fn serve_rows(teller: &Teller<'_>, asked: &Serve, rows: Vec<Event>) -> Option<Ended> {
+/// Serves controllers on a new switch to which events happened first, with the rows of a file. None, with a line on standard error, if it
+/// cannot begin.
+pub fn serve_rows(
+    teller: &Teller<'_>,
+    asked: &Serve,
+    first: &[Event],
+    rows: Vec<Event>,
+) -> Option<Ended> {
     let rt = teller.rt;
     let seed = draw_seed(rt)?;
     let machine = Machine::new(rt);
@@ -59,7 +66,7 @@ pub fn serve_rows(teller: &Teller<'_>, asked: &Serve, rows: Vec<Event>) -> Optio
     let Ok(course) = course_of(rt.alloc(), &rows, asked.log.is_some()) else {
         return Some(Ended::NoMemory);
     };
-    let sockets = Sockets::new(teller, &machine, asked, course, &has_failed);
+    let sockets = Sockets::new(teller, &machine, asked, first, course, &has_failed);
     if sockets.is_err() {
         let _ = said(teller, sockets);
         return None;
@@ -70,7 +77,7 @@ pub fn serve_rows(teller: &Teller<'_>, asked: &Serve, rows: Vec<Event>) -> Optio
         out: rt.stdout(),
         has_failed: &has_failed,
     });
-    let switch = match Switch::<Lookups>::with_seed(rt.alloc(), asked.dpid, seed) {
+    let switch = match begun_switch(teller, asked.dpid, seed, first) {
         Ok(switch) => switch,
         Err(AllocError) => return Some(Ended::NoMemory),
     };

@@ -8,6 +8,7 @@ use crate::opening::{Unopened, said};
 use crate::teller::Teller;
 use of_command_line::Live as Asked;
 use of_network::{Dropped, Endpoint, Input, Network, Wanted, Written};
+use of_switch::Event;
 
 /// Sockets, a clock and a log. What passed is not recorded.
 #[derive(Drop)]
@@ -18,22 +19,25 @@ pub struct Sockets<'r> {
 }
 
 impl<'r> Sockets<'r> {
-    /// Opens the sockets and the log. None, with a line on standard error, if one does not open.
+    /// Opens the sockets, and the log with the rows of what happened to the switch already. None, with a line on standard error, if one
+    /// does not open.
     pub fn begin(
         teller: &'r Teller<'r>,
         asked: &Asked,
+        first: &[Event],
         ports: Option<PortRows<'r>>,
     ) -> Option<Self> {
-        said(teller, Sockets::new(teller, asked, ports))
+        said(teller, Sockets::new(teller, asked, first, ports))
     }
 
     fn new(
         teller: &'r Teller<'r>,
         asked: &Asked,
+        first: &[Event],
         ports: Option<PortRows<'r>>,
     ) -> Result<Self, Unopened> {
         let outside = Outside::new(teller, asked, ports)?;
-        let log = EventLog::begin(teller, &asked.log, asked.dpid)?;
+        let log = EventLog::begin(teller, &asked.log, asked.dpid, first)?;
         let keeps = log.is_some();
         Ok(Sockets {
             outside,

@@ -1,0 +1,52 @@
+//! The files of a switch that serves: one of those that are read is standard input at most, and the log is none of them.
+
+use crate::{NoRequest, refused, text_of};
+use clap::ArgMatches;
+use std::alloc::Global;
+
+// Why two of what is read cannot both be standard input, if they are.
+fn same_inputs(matches: &ArgMatches<'_>) -> Option<&'static str> {
+    let tables = matches.get_str("tables") == Some("-");
+    let events = matches.get_str("FILE") == Some("-");
+    let rows = matches.get_str("rows") == Some("-");
+    match (tables, events, rows) {
+        (true, true, _) => Some(
+            "bad tables: --tables and --events cannot both read standard input\n",
+        ),
+        (true, _, true) => Some("bad rows: --tables and --rows cannot both read standard input\n"),
+        (_, true, true) => Some("bad rows: --events and --rows cannot both read standard input\n"),
+        _ => None,
+    }
+}
+
+/// The file with the groups and flows of a switch.
+pub(crate) fn tables_of(
+    alloc: Global,
+    matches: &ArgMatches<'_>,
+) -> Result<Option<String>, NoRequest> {
+    match same_inputs(matches) {
+        Some(why) => Err(refused(alloc, why)?),
+        None => Ok(text_of(alloc, matches.get_str("tables"))?),
+    }
+}
+
+/// Whether rows come while the switch runs, which is from standard input alone.
+pub(crate) fn running_rows_of(alloc: Global, rows: Option<&str>) -> Result<bool, NoRequest> {
+    match rows {
+        None => Ok(false),
+        Some("-") => Ok(true),
+        Some(_) => Err(refused(alloc, "bad rows: it is -, for standard input\n")?),
+    }
+}
+
+/// The log, which is another file than those that are read.
+pub(crate) fn log_of(alloc: Global, matches: &ArgMatches<'_>) -> Result<Option<String>, NoRequest> {
+    let log = matches.get_str("log");
+    if log.is_some() && log == matches.get_str("FILE") {
+        return Err(refused(alloc, "bad log: --events and --log are one file\n")?);
+    }
+    if log.is_some() && log == matches.get_str("tables") {
+        return Err(refused(alloc, "bad log: --tables and --log are one file\n")?);
+    }
+    Ok(text_of(alloc, log)?)
+}

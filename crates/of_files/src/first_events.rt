@@ -1,0 +1,36 @@
+//! Groups and flows as events, with which a switch begins.
+ghost use Rattle.std.specs.Prelude.{◌≡◌, ◌++◌, map, IfOk, OnOk};
+ghost use Rattle.of_switch.specs.declared.event.Event.TheVariants.{Chunk};
+ghost use Rattle.of_files.specs.FirstEvents.{first_events as first_events_of};
+
+use of_build::messages;
+use of_switch::Event;
+use of_text::Config;
+use of_wire::Bytes;
+use std::alloc::{AllocError, Global};
+
+/// A HELLO of version 4 without elements (OpenFlow 1.3.5, 7.5.1).
+const GREETING: [u8; 8] = [4, 0, 0, 8, 0, 0, 0, 0];
+
+// Appends messages of a controller, each as an event.
+fn push_messages(events: &mut Vec<Event>, messages: Vec<Bytes>) -> Result<(), AllocError>
+    ensures { OnOk result (events.new.items ≡ events.old.items ++ map Chunk messages.items) }
+{
+    for message in messages {
+        events.push(Event::Chunk(message))?;
+    }
+    Ok(())
+}
+
+/// The events that give a new switch the groups and flows of a configuration: those of the rows that `asm` writes, and then the
+/// controller is gone.
+pub fn first_events(alloc: Global, config: &Config) -> Result<Vec<Event>, AllocError>
+    ensures { IfOk result (λ events. events.items ≡ first_events_of config.now) }
+{
+    let mut events = Vec::new(alloc);
+    events.push(Event::Connect)?;
+    events.push(Event::Chunk(Bytes::from_slice(alloc, &GREETING)?))?;
+    push_messages(&mut events, messages(alloc, config)?)?;
+    events.push(Event::Lost)?;
+    Ok(events)
+}
