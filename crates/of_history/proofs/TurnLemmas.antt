@@ -20,7 +20,7 @@ use Rattle.of_replay.specs.Rows.{with_bytes}
 use Rattle.of_replay.specs.RowTexts.{row_happened}
 use Rattle.of_history.specs.Turns.{Turn, after_turns, all_message_turns, chunk_turns, first_handled, message_turns, row_turns, turn_and, turn_of}
 use Rattle.of_history.specs.Causes.{Cause, Message}
-use Rattle.of_history.specs.Changes.{ChangeText, after_rows, change_told, row_expiring, rows_told_last, told_last, turns_told}
+use Rattle.of_history.specs.Changes.{ChangeText, after_rows, told_change, row_expiring, rows_told_last, told_last, turns_told}
 
 -- ---- where turns lead
 
@@ -87,7 +87,7 @@ module _ (text : ChangeText) (seen : Forwarding → List ℕ) (row : Cause) wher
 
   pub telling_more : (first s : State) (o : Outcome) (k next : ℕ) (message before out new old fresh : List ℕ) → next_of s ≡ Some o → next ≡ k + 1 →
       message ≡ first_handled s.connection.pending → old ≡ seen s.core.forwarding → fresh ≡ seen o.state.core.forwarding →
-      new ≡ out ++ change_told text (record row { by = Message next message }) old fresh → Telling text seen row first s k before out → Telling text seen row first o.state next before new
+      new ≡ out ++ told_change text (record row { by = Message next message }) old fresh → Telling text seen row first s k before out → Telling text seen row first o.state next before new
   unfolding drain message_turns
   telling_more first s o k next message before out new old fresh h j m p q e t = by_turns t.turns t.enough t.told t.leads
     where

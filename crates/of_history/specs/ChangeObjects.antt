@@ -6,7 +6,7 @@ use Rattle.of_json.specs.Strings.{array_member, line_string, string_member}
 use Rattle.of_explain.specs.Requests.{request_notes}
 use Rattle.of_history.specs.declared.reason.Reason.{Reason}
 use Rattle.of_history.specs.Causes.{By, Message, Moment, Cause}
-use Rattle.of_history.specs.Reasons.{reason_words}
+use Rattle.of_history.specs.Reasons.{fate_reason_words}
 use Rattle.of_history.specs.Changes.{ChangeText}
 
 -- a further member: the lines of a text without so many bytes before each
@@ -28,7 +28,7 @@ cause_members c = by_members c.line c.by
 
 abbrev pub reason_member : Option Reason → List ℕ
 reason_member None = []
-reason_member (Some r) = string_member (codes "reason") (reason_words r)
+reason_member (Some r) = string_member (codes "reason") (fate_reason_words r)
 
 -- `{"line":24,"message":3,"by":[..],"reason":"..","before":[..],"after":[..]}`: what the view was before and after it
 unfoldable pub change_object : ChangeText

@@ -12,7 +12,7 @@ use Rattle.of_replay.specs.RowTexts.{RowText, row_happened}
 use Rattle.of_explain.specs.Requests.{request_notes}
 use Rattle.of_history.specs.Causes.{By, Message, Moment, Cause, by_row, cause_of_turn}
 use Rattle.of_history.specs.declared.reason.Reason.{Reason}
-use Rattle.of_history.specs.Reasons.{reason_note, reason_of}
+use Rattle.of_history.specs.Reasons.{fate_reason_note, fate_reason}
 use Rattle.of_history.specs.Turns.{Turn, row_turns}
 
 -- what is said of a change: by who made it, the reason, and both texts
@@ -49,7 +49,7 @@ marked_lines (l ∷ old) [] = other_lines (l ∷ old) []
 marked_lines (l ∷ old) (m ∷ new) = if bytes_eq l m then kept_line l ++ marked_lines old new else other_lines (l ∷ old) (m ∷ new)
 
 unfoldable pub changed_words : ChangeText
-changed_words cause reason old new = cause_words cause ++ reason_note reason ++ marked_lines (lines_of old) (lines_of new)
+changed_words cause reason old new = cause_words cause ++ fate_reason_note reason ++ marked_lines (lines_of old) (lines_of new)
 
 -- ---- of a text whose lines are a set, such as flow entries
 
@@ -77,14 +77,14 @@ HasLinesOf text part = (line : List ℕ) → IsTrue (has_line part line) → IsT
 abbrev pub unless_same : List ℕ → List ℕ → List ℕ → List ℕ
 unless_same old new text = if bytes_eq old new then [] else text
 
-abbrev pub change_told : ChangeText → Cause → List ℕ → List ℕ → List ℕ
-change_told text cause old new = unless_same old new (text cause (reason_of cause.by old new) old new)
+abbrev pub told_change : ChangeText → Cause → List ℕ → List ℕ → List ℕ
+told_change text cause old new = unless_same old new (text cause (fate_reason cause.by old new) old new)
 
 -- the turns of a row, from the one of that number on
 abbrev pub turns_told : ChangeText → (Forwarding → List ℕ) → Cause → ℕ → State → List Turn → List ℕ
 turns_told text seen row k s [] = []
 turns_told text seen row k s (t ∷ ts) =
-    change_told text (cause_of_turn row k t.message) (seen s.core.forwarding) (seen t.after.core.forwarding) ++ turns_told text seen row (k + 1) t.after ts
+    told_change text (cause_of_turn row k t.message) (seen s.core.forwarding) (seen t.after.core.forwarding) ++ turns_told text seen row (k + 1) t.after ts
 
 -- what expires in a row: at a time, by the state before it; a time before the latest one counts as that
 abbrev pub row_expiring : (ℕ → Forwarding → List ℕ) → State → Option Event → List ℕ

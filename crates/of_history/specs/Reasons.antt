@@ -51,25 +51,25 @@ by_reading (Ok message) at_lookup = by_message message at_lookup
 by_reading (Err code) at_lookup = None
 
 -- THE REASON, of the fates before and after; no other row changes one
-unfoldable pub reason_of : By → List ℕ → List ℕ → Option Reason
-reason_of (by.Message k m) old new = by_reading (message_of m) (parts_at_lookup (lines_of old) (lines_of new))
-reason_of (by.Moment expired) old new = Some Expired
-reason_of by.Port old new = Some Port
-reason_of by.Row old new = None
+unfoldable pub fate_reason : By → List ℕ → List ℕ → Option Reason
+fate_reason (by.Message k m) old new = by_reading (message_of m) (parts_at_lookup (lines_of old) (lines_of new))
+fate_reason (by.Moment expired) old new = Some Expired
+fate_reason by.Port old new = Some Port
+fate_reason by.Row old new = None
 
 -- ---- in words
 
-abbrev pub reason_words : Reason → List ℕ
-reason_words Added = codes "an entry was added, so another one wins"
-reason_words Replaced = codes "the entry was replaced"
-reason_words Modified = codes "the entry was modified"
-reason_words Deleted = codes "the entry was deleted"
-reason_words Expired = codes "the entry expired"
-reason_words WithGroup = codes "the entry was deleted with its group"
-reason_words GroupDeleted = codes "a group was deleted"
-reason_words Buckets = codes "the buckets of a group changed"
-reason_words Port = codes "a port changed"
+abbrev pub fate_reason_words : Reason → List ℕ
+fate_reason_words Added = codes "an entry was added, so another one wins"
+fate_reason_words Replaced = codes "the entry was replaced"
+fate_reason_words Modified = codes "the entry was modified"
+fate_reason_words Deleted = codes "the entry was deleted"
+fate_reason_words Expired = codes "the entry expired"
+fate_reason_words WithGroup = codes "the entry was deleted with its group"
+fate_reason_words GroupDeleted = codes "a group was deleted"
+fate_reason_words Buckets = codes "the buckets of a group changed"
+fate_reason_words Port = codes "a port changed"
 
-abbrev pub reason_note : Option Reason → List ℕ
-reason_note None = []
-reason_note (Some r) = note (codes "reason: " ++ reason_words r)
+abbrev pub fate_reason_note : Option Reason → List ℕ
+fate_reason_note None = []
+fate_reason_note (Some r) = note (codes "reason: " ++ fate_reason_words r)

@@ -70,11 +70,7 @@ fn push_by_members(
 
 // Appends who it was.
 #[tactic(auto, unfolding(crate::specs::ChangeObjects::cause_members))]
-fn push_cause_members(
-    alloc: Global,
-    out: &mut Vec<u8>,
-    cause: &Cause<'_>,
-) -> Result<(), AllocError>
+fn push_cause_members(alloc: Global, out: &mut Vec<u8>, cause: &Cause<'_>) -> Result<(), AllocError>
     ensures { OnOk result (out.new.items ≡ out.old.items ++ cause_members cause.now) }
 {
     push_by_members(alloc, out, cause.line, cause.by)

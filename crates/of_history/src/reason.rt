@@ -3,7 +3,7 @@ ghost use Rattle.std.specs.Prelude.{◌≡◌, ◌++◌, IfOk, OnOk, codes};
 ghost use Rattle.of_messages.specs.Messages.{message_of};
 ghost use Rattle.of_text.specs.Lines.{lines_of};
 ghost use Rattle.of_history.specs.CauseViews.{by_of};
-ghost use Rattle.of_history.specs.Reasons.{by_command as reason_by_command, by_group_mod as reason_by_group, by_message as reason_by_message, by_reading, is_lookup as is_of_lookup, parts_at_lookup as part_at_lookup, reason_note, reason_of as reason_for, reason_words};
+ghost use Rattle.of_history.specs.Reasons.{by_command as reason_by_command, by_group_mod as reason_by_group, by_message as reason_by_message, by_reading, is_lookup as is_of_lookup, parts_at_lookup as part_at_lookup, fate_reason_note, fate_reason, fate_reason_words};
 
 use crate::cause::By;
 use of_messages::{FlowModCommand, GroupMod, Message, read_message};
@@ -32,7 +32,7 @@ pub enum Reason {
 impl Reason {
     /// In words.
     pub fn words(self) -> &'static [u8]
-        ensures { result.now ≡ reason_words self }
+        ensures { result.now ≡ fate_reason_words self }
     {
         match self {
             Reason::Added => b"an entry was added, so another one wins",
@@ -127,14 +127,14 @@ fn by_bytes(alloc: Global, bytes: &[u8], at_lookup: bool) -> Result<Option<Reaso
 }
 
 /// Why the fate of a frame changed from one text to another.
-#[tactic(auto, unfolding(crate::specs::Reasons::reason_of))]
+#[tactic(auto, unfolding(crate::specs::Reasons::fate_reason))]
 pub fn reason_of(
     alloc: Global,
     by: By<'_>,
     old: &[u8],
     new: &[u8],
 ) -> Result<Option<Reason>, AllocError>
-    ensures { IfOk result (λ reason. reason ≡ reason_for (by_of by) old.now new.now) }
+    ensures { IfOk result (λ reason. reason ≡ fate_reason (by_of by) old.now new.now) }
 {
     match by {
         By::Message { bytes, .. } => by_bytes(alloc, bytes, parts_at_lookup(old, new)),
@@ -146,7 +146,7 @@ pub fn reason_of(
 
 /// Appends a note about it, if it is known.
 pub fn push_reason(out: &mut Vec<u8>, reason: Option<Reason>) -> Result<(), AllocError>
-    ensures { OnOk result (out.new.items ≡ out.old.items ++ reason_note reason) }
+    ensures { OnOk result (out.new.items ≡ out.old.items ++ fate_reason_note reason) }
 {
     let Some(reason) = reason else {
         return Ok(());

@@ -29,12 +29,7 @@ pub trait ChangeTeller {
 }
 
 // Appends what a row or a message does.
-fn push_by(
-    alloc: Global,
-    out: &mut Vec<u8>,
-    line: &[u8],
-    by: By<'_>,
-) -> Result<(), AllocError>
+fn push_by(alloc: Global, out: &mut Vec<u8>, line: &[u8], by: By<'_>) -> Result<(), AllocError>
     ensures { OnOk result (out.new.items ≡ out.old.items ++ by_words line.now (by_of by)) }
 {
     match by {

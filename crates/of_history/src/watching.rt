@@ -10,7 +10,7 @@ ghost use Rattle.of_replay.specs.Rows.{with_bytes};
 ghost use Rattle.of_replay.specs.RowTexts.{row_happened, told};
 ghost use Rattle.of_history.specs.Turns.{HandlesFirst, all_message_turns, event_turns, first_handled, turn_of};
 ghost use Rattle.of_history.specs.Causes.{Row as ARow, by_row as caused_by};
-ghost use Rattle.of_history.specs.Changes.{bad_from, change_told, history_of, row_cause, row_expiring, turns_told};
+ghost use Rattle.of_history.specs.Changes.{bad_from, told_change, history_of, row_cause, row_expiring, turns_told};
 
 use crate::cause::{By, Cause, by_row};
 use crate::reason::reason_of;
@@ -54,7 +54,7 @@ impl<L: Lookup, V: View<L> + Drop, T: ChangeTeller + Drop> Watching<L, V, T> {
     // Looks at the switch after a turn, and says what that changed.
     fn look_again(&mut self, cause: &Cause<'_>) -> Result<(), AllocError>
         ensures said { OnOk result (self.new.out.items ≡ self.old.out.items
-            ++ change_told T.text cause.now self.old.seen.items self.new.seen.items) }
+            ++ told_change T.text cause.now self.old.seen.items self.new.seen.items) }
         ensures seen { OnOk result (self.new.seen.items ≡ V.seen self.old.view self.old.switch.core.forwarding) }
         ensures kept { (self.new.switch ≡ self.old.switch) × (self.new.view ≡ self.old.view) }
     {
@@ -63,8 +63,7 @@ impl<L: Lookup, V: View<L> + Drop, T: ChangeTeller + Drop> Watching<L, V, T> {
             return Ok(());
         }
         let reason = reason_of(self.alloc, cause.by, &self.seen, &seen)?;
-        self.teller
-            .tell(self.alloc, &mut self.out, cause, reason, &self.seen, &seen)?;
+        self.teller.tell(self.alloc, &mut self.out, cause, reason, &self.seen, &seen)?;
         self.seen = seen;
         Ok(())
     }
@@ -144,12 +143,7 @@ impl<L: Lookup, V: View<L> + Drop, T: ChangeTeller + Drop> Watching<L, V, T> {
     }
 
     // A row that is one turn.
-    fn tell_whole(
-        &mut self,
-        cause: &Cause<'_>,
-        row: Row,
-        bytes: &[u8],
-    ) -> Result<(), SwitchError>
+    fn tell_whole(&mut self, cause: &Cause<'_>, row: Row, bytes: &[u8]) -> Result<(), SwitchError>
         requires { self.old.seen.items ≡ V.seen self.old.view self.old.switch.core.forwarding }
         ensures said { (event : Event) → with_bytes bytes.now row ≡ Some event → OnOk result (self.new.out.items ≡ self.old.out.items
             ++ turns_told T.text (V.seen self.old.view) cause.now 1 self.old.switch

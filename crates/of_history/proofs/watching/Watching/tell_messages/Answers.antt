@@ -2,7 +2,7 @@ use Rattle.std.proofs.Common.{◌≡◌, ◌+◌, ◌++◌, [], Some, refl, ◌�
 use Rattle.of_switch.specs.Steps.{gives}
 use Rattle.of_switch.proofs.Draining.{next_shorter}
 use Rattle.of_history.specs.Causes.{Message, Row}
-use Rattle.of_history.specs.Changes.{change_told, row_cause}
+use Rattle.of_history.specs.Changes.{told_change, row_cause}
 use Rattle.of_history.proofs.TurnLemmas.{telling_all, telling_more}
 use Rattle.of_history.proofs.watching.Watching.tell_messages.Goals as goal
 
@@ -19,7 +19,7 @@ loop-message-preserved g c =
     let out : c.handle.new.self.out.items ≡ c.loop-message.self.out.items = cc in
     let fresh : c.look_again.new.self.seen.items ≡ g.V.View.seen c.args.self.now.view c.handle.new.self.switch.core.forwarding = rw (← view) c.in_ok-look_again.ensures.seen in
     let shorter = next_shorter c.loop-message.self.switch (gives h.0 c.handle.new.self.switch) h.1 in
-    let said : c.look_again.new.self.out.items ≡ c.loop-message.self.out.items ++ change_told g.T.ChangeTeller.text (row_cause c.args.number c.args.line.now (Message (c.loop-message.turn + 1) c.deref.result.now)) c.loop-message.self.seen.items c.look_again.new.self.seen.items = rw (← seen, ← out) c.in_ok-look_again.ensures.said in
+    let said : c.look_again.new.self.out.items ≡ c.loop-message.self.out.items ++ told_change g.T.ChangeTeller.text (row_cause c.args.number c.args.line.now (Message (c.loop-message.turn + 1) c.deref.result.now)) c.loop-message.self.seen.items c.look_again.new.self.seen.items = rw (← seen, ← out) c.in_ok-look_again.ensures.said in
     record {
       view = c.in_ok-look_again.ensures.kept.1 ∙ view;
       fresh = rw c.in_ok-look_again.ensures.kept.0 fresh;
