@@ -153,6 +153,7 @@ def add_live(commands: argparse._SubParsersAction[Parser]) -> None:
     way.add_argument("--listen", metavar="ADDR", help="the address at which to wait for a controller (by default 127.0.0.1:6653)")
     way.add_argument("--connect", metavar="ADDR", help="the controller to connect to")
     live.add_argument("--events", metavar="FILE", help="an event file that is played at the start, after the ports are added")
+    live.add_argument("--tables", metavar="FILE", help="begin with the groups and flows of a flow text, of what ovs-ofctl prints, or of an event file")
     live.add_argument("--log", metavar="FILE", help="log all events to this event file")
     live.add_argument("--idle", metavar="S", help="close a connection of which nothing was heard for S seconds (by default never)")
     live.add_argument("--turns", metavar="N", help="end after N turns (by default never)")
@@ -332,7 +333,7 @@ def run_live(asked: argparse.Namespace) -> int:
     ports = dict(asked.ports)
     if len(ports) < len(asked.ports):
         parser().error("a port has one interface")
-    words = [word for name in ("listen", "connect", "idle", "log", "turns", "dpid") if (value := getattr(asked, name)) is not None for word in (f"--{name}", value)]
+    words = [word for name in ("listen", "connect", "idle", "tables", "log", "turns", "dpid") if (value := getattr(asked, name)) is not None for word in (f"--{name}", value)]
     words += ["--quiet"] if asked.quiet else []
     for number in (signal.SIGTERM, signal.SIGHUP):
         signal.signal(number, terminate)

@@ -1,16 +1,17 @@
 -- Rows in words, line by line and byte by byte.
-use Rattle.std.proofs.Common.{◌≡◌, ◌∙◌, ℕ, Bool, true, false, List, [], ◌∷◌, ◌++◌, ap, refl, sym, append_assoc, eqb}
+use Rattle.std.proofs.Common.{◌≡◌, ◌∙◌, ℕ, Bool, true, false, List, [], ◌∷◌, ◌++◌, ◌+◌, ◌<◌, add-one, ap, get_or, length, refl, sym, subst, take, append_assoc, eqb}
 use Rattle.std.specs.Prelude.{◌&&◌, if◌then◌else◌}
 use Rattle.std.proofs.lemmas.List.{append-nil}
+use Rattle.std.proofs.Math.Seq.{take-suc}
 use Rattle.of_text.specs.Lines.{ended}
-use Rattle.of_replay.specs.Lexing.{last_from, whole_from, whole_lines}
+use Rattle.of_replay.specs.Lexing.{last_from, whole_lines}
 use Rattle.of_replay.proofs.Cutting.{last_join, whole_join}
-use Rattle.of_explain.specs.Folding.{Fold, IsFolded, folded_lines, folded_text, held_line, is_moment, moment_follows}
+use Rattle.of_explain.specs.Folding.{Fold, IsFolded, folded_lines, folded_text, held_line, is_moment}
 
 -- LINE BY LINE
 
 -- what is printed of a line
-shown : Bool → List ℕ → List ℕ
+abbrev pub shown : Bool → List ℕ → List ℕ
 shown left_out line = if left_out then [] else ended line
 
 line_added : (after : Bool) (ls : List (List ℕ)) (x : List ℕ) → folded_lines after (ls ++ x ∷ []) ≡ folded_lines (is_moment x) ls ++ shown (is_moment x && after) x
@@ -80,6 +81,16 @@ byte_comes text printed b f f' e h held begun =
       held_is = held ∙ (h.held_is ∙ ap held_line (sym all));
       begun_is = begun ∙ (ap (λ (y : List ℕ). y ++ b ∷ []) h.begun_is ∙ sym more);
     }
+
+-- bytes one after the other
+
+pub same_folded : (text text' printed printed' : List ℕ) (f : Fold) → text ≡ text' → printed ≡ printed' → IsFolded text printed f → IsFolded text' printed' f
+same_folded text text' printed printed' f e o h = subst (λ (y : List ℕ). IsFolded text' y f) o (subst (λ (y : List ℕ). IsFolded y printed f) e h)
+
+pub byte_more : (before xs : List ℕ) (i x : ℕ) → i < length xs → x ≡ get_or xs i x → (before ++ take i xs) ++ x ∷ [] ≡ before ++ take (i + 1) xs
+byte_more before xs i x lt is =
+    append_assoc before (take i xs) (x ∷ [])
+    ∙ ap (λ (ys : List ℕ). before ++ ys) (sym (ap (λ (n : ℕ). take n xs) (add-one i) ∙ (take-suc xs i x lt ∙ ap (λ (y : ℕ). take i xs ++ y ∷ []) (sym is))))
 
 -- THE END
 

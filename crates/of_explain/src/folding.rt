@@ -1,5 +1,6 @@
 //! Rows in words, without the many time rows of a log.
 ghost use Rattle.std.specs.Prelude.{◌≡◌, ◌++◌, ◌∷◌, [], ℕ, List, IfOk, OnOk, if◌then◌else◌};
+ghost use Rattle.std.specs.List.{list_all};
 ghost use Rattle.of_text.specs.Lines.{ended};
 ghost use Rattle.of_replay.specs.Lexing.{is_digit as is_decimal_digit};
 ghost use Rattle.of_explain.specs.Folding.{IsFolded, folded_text, is_moment as is_moment_line, is_time_row as is_time_words};
@@ -33,6 +34,12 @@ fn is_digit(byte: u8) -> bool
     byte >= b'0' && byte <= b'9'
 }
 
+fn are_digits(word: &[u8]) -> bool
+    ensures { result ≡ list_all is_decimal_digit word.now }
+{
+    word.iter().all(|byte| is_digit(*byte))
+}
+
 // Whether what comes behind the number of a line and a colon is a time row.
 fn is_time_row(row: &[u8]) -> bool
     ensures { result ≡ is_time_words row.now }
@@ -49,7 +56,7 @@ fn is_moment(line: &[u8]) -> bool
     ensures { result ≡ is_moment_line line.now }
 {
     let (number, row) = cut(line, b':');
-    number.iter().all(|byte| is_digit(*byte)) && is_time_row(row)
+    are_digits(number) && is_time_row(row)
 }
 
 // Appends a line and its end.
@@ -95,10 +102,11 @@ impl Folding {
         ensures { OnOk result ((text printed : List ℕ) → IsFolded text (printed ++ out.old.items) self.old →
             IsFolded (text ++ byte ∷ []) (printed ++ out.new.items) self.new) }
     {
-        if byte == b'\n' {
-            return self.end_line(out);
+        if byte != b'\n' {
+            return Ok(self.begun.push(byte)?);
         }
-        Ok(self.begun.push(byte)?)
+        self.end_line(out)?;
+        Ok(())
     }
 
     /// More of the text comes: what is printed now.
