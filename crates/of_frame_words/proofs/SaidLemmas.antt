@@ -1,5 +1,5 @@
 -- The fields that settings say, and the frame with these.
-use Rattle.std.proofs.Common.{◌≡◌, ℕ, ◌+◌, ◌<◌, ◌≤◌, false, cond, List, [], length, drop, get_or, Option, Some, None, Result, Ok, Err, refl, sym, ap, ◌∙◌, drop_of_length-le}
+use Rattle.std.proofs.Common.{◌≡◌, ℕ, ◌+◌, ◌<◌, ◌≤◌, false, cond, List, [], length, drop, get_or, Option, Some, None, Result, Ok, Err, refl, sym, subst, ap, ◌∙◌, drop_of_length-le}
 use Rattle.std.specs.Prelude.{◌==◌, bit_and, IfErr}
 use Rattle.std.proofs.Math.Path.{fun_ext}
 use Rattle.std.proofs.lemmas.List.{drop_more}
@@ -8,6 +8,8 @@ use Rattle.of_layers.specs.declared.field.Field.TheVariants.{InPort}
 use Rattle.of_layers.specs.Fields.{row_of, number_of, ones_of}
 use Rattle.of_headers.specs.declared.key.FieldKey.{FieldKey}
 use Rattle.of_headers.specs.FieldMap.{value}
+use Rattle.of_rewrite.specs.Frames.{frame_ttl}
+use Rattle.of_rewrite.proofs.Framing.{ttl_frame}
 use Rattle.of_frames.specs.declared.shape.Shape.{Shape}
 use Rattle.of_frames.specs.declared.shape.Tagging.{Tagging}
 use Rattle.of_frames.specs.Given.{number, or_zero}
@@ -21,7 +23,7 @@ use Rattle.of_ovs_words.proofs.WordLemmas.{first_word}
 use Rattle.of_frame_words.specs.declared.why.NoFrame.{NoFrame}
 use Rattle.of_frame_words.specs.declared.why.NoFrame.TheVariants.{NoMemory, Refused}
 use Rattle.of_oxm.specs.Relations.{first_difference as missed}
-use Rattle.of_frame_words.specs.Frames.{ReceivedFrame, at_port, with_setting, set_by, shape_by, tagging_by, received_frame, received_by, frame_in_words, map_of, why_missed, unless_missed, checked, with_ttl_word, with_ttl_words}
+use Rattle.of_frame_words.specs.Frames.{IsReadable, ReceivedFrame, at_port, with_setting, set_by, shape_by, tagging_by, received_frame, received_by, frame_in_words, map_of, why_missed, unless_missed, checked, with_ttl_word, with_ttl_words}
 use Rattle.of_frame_words.specs.Refusals.{IsRefusal, FrameStops}
 use Rattle.of_frame_words.specs.Said.{WordRefusal, with_setting_words}
 use Rattle.of_frame_words.proofs.WordLemmas.{refusal_stops}
@@ -86,6 +88,9 @@ pub frame_is : (port : ℕ) (text : List ℕ) (s settings : List MatchField) (r 
 frame_is port text s settings r c e w h k = checked_first port text s settings r e w h ∙ ap (λ (o : Result ReceivedFrame WordRefusal). o >>= with_ttl_words (words_from 0 text)) k
 
 -- ---- the TTL
+
+pub ttl_readable : (n : ℕ) (s t : List ℕ) → IsReadable s → t ≡ frame_ttl n s → IsReadable t
+ttl_readable n s t h e = let aged = ttl_frame n s h.0 in subst IsReadable (sym e) (aged.1, rw aged.0 h.1)
 
 pub ttls_next : (r : ReceivedFrame) (rest word after : List ℕ) → 0 < length rest → word ≡ word_in 0 rest → after ≡ after_word 0 rest → with_ttl_words (words_from 0 rest) r ≡ (with_ttl_word word r >>= with_ttl_words (words_from 0 after))
 ttls_next r rest word after some w a = ap (λ (ws : List (List ℕ)). with_ttl_words ws r) (first_word rest some) ∙ rw (w, a) refl

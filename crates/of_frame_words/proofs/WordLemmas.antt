@@ -1,5 +1,5 @@
 -- Words for a frame, one after the other.
-use Rattle.std.proofs.Common.{◌≡◌, ℕ, ◌<◌, eqb, sym, Bool, true, false, cond, List, [], length, Result, Ok, Err, refl, ap, ◌∙◌, subst}
+use Rattle.std.proofs.Common.{◌≡◌, ℕ, ◌<◌, sym, Bool, true, false, cond, List, [], length, Result, Ok, Err, refl, ap, ◌∙◌, subst}
 use Rattle.of_oxm.specs.declared.match_field.MatchField.{MatchField}
 use Rattle.of_ovs_words.specs.declared.why.Why.{Why as WordWhy}
 use Rattle.of_ovs_words.specs.Outcomes.{◌>>=◌}

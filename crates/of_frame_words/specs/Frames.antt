@@ -1,5 +1,5 @@
 -- FRAMES IN WORDS: the frame that has the fields which words say. Fields of its headers of which no word says anything are 0; TTL and hop limit are 64 then.
-use Rattle.std.specs.Prelude.{◌≡◌, ◌⊎◌, ℕ, ◌==◌, nat_le, not, Bool, true, false, List, [], ◌∷◌, bit_and, Option, Some, None, Result, Ok, Err, if◌then◌else◌}
+use Rattle.std.specs.Prelude.{◌≡◌, ◌⊎◌, ℕ, ◌<◌, ◌^◌, ◌==◌, nat_le, not, Bool, true, false, List, [], ◌∷◌, length, bit_and, Option, Some, None, Result, Ok, Err, if◌then◌else◌}
 use Rattle.std.specs.List.{list_any}
 use Rattle.of_layers.specs.declared.field.Field.{Field}
 use Rattle.of_layers.specs.declared.field.Field.TheVariants.{InPort, EthType, VlanVid, IpProto}
@@ -128,6 +128,10 @@ frame_in_words port text =
     with_setting_words false [] (words_from 0 text) >>= λ settings. checked settings (received_frame port settings) >>= with_ttl_words (words_from 0 text)
 
 -- ---- what such a frame is
+
+-- bytes that are a frame, so few that their bits can be counted in 64 bits
+abbrev pub IsReadable : List ℕ → Type 0
+IsReadable frame = IsFrame frame × (length frame < 2 ^ 61)
 
 -- no setting is of this field
 abbrev pub is_unsaid : List MatchField → Field → Bool

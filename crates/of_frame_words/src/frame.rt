@@ -1,8 +1,7 @@
 //! The frame that words say.
 ghost use Rattle.std.specs.Prelude.{◌≡◌, IfOk, IfErr, Ok};
-ghost use Rattle.of_rewrite.specs.Frames.{IsFrame};
 ghost use Rattle.of_ovs_words.specs.Words.{words_from};
-ghost use Rattle.of_frame_words.specs.Frames.{checked as checked_so, frame_in_words, received_frame as received_so, with_ttl_word as with_ttl_word_so, with_ttl_words as with_ttl_words_so};
+ghost use Rattle.of_frame_words.specs.Frames.{IsReadable, checked as checked_so, frame_in_words, received_frame as received_so, with_ttl_word as with_ttl_word_so, with_ttl_words as with_ttl_words_so};
 ghost use Rattle.of_frame_words.specs.Refusals.{FrameStops};
 ghost use Rattle.of_frame_words.specs.Views.{view_received};
 
@@ -26,7 +25,7 @@ pub struct Received {
 // The frame that settings say, received at this port unless they say another one.
 fn frame_said(alloc: Global, port: u32, settings: &[MatchField]) -> Result<Received, AllocError>
     ensures received { IfOk result (λ r. view_received r ≡ received_so port settings.now) }
-    ensures frame { IfOk result (λ r. IsFrame r.frame.items) }
+    ensures frame { IfOk result (λ r. IsReadable r.frame.items) }
 {
     let key = key_said(port, settings);
     let numbers = &key.numbers;
@@ -40,8 +39,8 @@ fn frame_said(alloc: Global, port: u32, settings: &[MatchField]) -> Result<Recei
 
 // The frame, if it has all that the settings say.
 fn checked(alloc: Global, settings: &[MatchField], received: Received) -> Result<Received, NoFrame>
-    requires { IsFrame received.frame.items }
-    ensures frame { IfOk result (λ r. IsFrame r.frame.items) }
+    requires { IsReadable received.frame.items }
+    ensures frame { IfOk result (λ r. IsReadable r.frame.items) }
     ensures read { IfOk result (λ r. checked_so settings.now (view_received received) ≡ Ok (view_received r)) }
     ensures stopped { IfErr result (FrameStops (checked_so settings.now (view_received received))) }
 {
@@ -53,11 +52,11 @@ fn checked(alloc: Global, settings: &[MatchField], received: Received) -> Result
 }
 
 // The frame with the TTL that a word says, if it is one for the TTL.
-#[tactic(auto, unfolding(crate::specs::Frames::with_ttl_word))]
+#[tactic(auto, using(crate::proofs::SaidLemmas::ttl_readable), unfolding(crate::specs::Frames::with_ttl_word))]
 fn with_ttl_word(alloc: Global, received: Received, word: &[u8]) -> Result<Received, NoFrame>
-    requires { IsFrame received.frame.items }
+    requires { IsReadable received.frame.items }
     ensures read { IfOk result (λ r. with_ttl_word_so word.now (view_received received) ≡ Ok (view_received r)) }
-    ensures frame { IfOk result (λ r. IsFrame r.frame.items) }
+    ensures frame { IfOk result (λ r. IsReadable r.frame.items) }
     ensures stopped { IfErr result (FrameStops (with_ttl_word_so word.now (view_received received))) }
 {
     if !is_ttl_word(word) {
@@ -81,7 +80,7 @@ fn with_ttl_word(alloc: Global, received: Received, word: &[u8]) -> Result<Recei
 
 // The frame with the TTL that words say.
 fn with_ttl_words(alloc: Global, received: Received, text: &[u8]) -> Result<Received, NoFrame>
-    requires { IsFrame received.frame.items }
+    requires { IsReadable received.frame.items }
     ensures read { IfOk result (λ r. with_ttl_words_so (words_from 0 text.now) (view_received received) ≡ Ok (view_received r)) }
     ensures stopped { IfErr result (FrameStops (with_ttl_words_so (words_from 0 text.now) (view_received received))) }
 {
