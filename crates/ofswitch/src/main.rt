@@ -399,12 +399,23 @@ fn run<R: Read + Drop>(rt: &HostRuntime, run: &Run, reader: R) -> Ended {
             reads,
         } => {
             let (dpid, reads) = (*dpid, *reads);
-            let (from, to) = (&mut reader, &mut writer);
+            let from = &mut reader;
             match (*output, *ask) {
-                (ReplayOutput::Effects, false) => play(rt, dpid, reads, &Plain, from, to),
-                (ReplayOutput::Json, _) => play(rt, dpid, reads, &ExplainingJson, from, to),
+                (ReplayOutput::Effects, false) => {
+                    play(rt, dpid, reads, &Plain, from, &mut writer)
+                }
+                (ReplayOutput::Json, _) => {
+                    play(rt, dpid, reads, &ExplainingJson, from, &mut writer)
+                }
                 (ReplayOutput::Effects, true) => {
-                    play(rt, dpid, reads, &Answering { rows: Plain }, from, to)
+                    play(
+                        rt,
+                        dpid,
+                        reads,
+                        &Answering { rows: Plain },
+                        from,
+                        &mut writer,
+                    )
                 }
                 (ReplayOutput::Explained, false) => {
                     play_in_words(rt, dpid, reads, &Explaining, from, writer)
