@@ -2,15 +2,15 @@
 //! the ports of a switch that has the groups and flows of a file, and the events that give it these.
 #![tactic(auto)]
 
+mod beginning;
 mod contents;
-mod first_events;
 mod flow_lines;
 mod playing;
 mod ports;
 mod tables;
 
+pub use beginning::first_events;
 pub use contents::{Content, content_of};
-pub use first_events::first_events;
 pub use flow_lines::text_origins;
 pub use playing::play_file;
 pub use ports::{FIRST_PORTS, missing_ports, named_ports, ports_for};

@@ -34,7 +34,7 @@ pub fn events_of_tables(rt: &HostRuntime, tables: Option<&str>) -> Result<Vec<Ev
 
 // Says an ERROR that the switch answers.
 fn say_error(teller: &Teller<'_>, answer: &[u8]) -> Result<(), AllocError> {
-    if answer.get(1) == Some(&ERROR) {
+    if answer.get(1).copied() == Some(ERROR) {
         let mut words = Vec::new(teller.rt.alloc());
         push_message(teller.rt.alloc(), &mut words, answer)?;
         let words = std::str::from_utf8(&words).unwrap_or("?");

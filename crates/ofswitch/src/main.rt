@@ -398,26 +398,18 @@ fn run<R: Read + Drop>(rt: &HostRuntime, run: &Run, reader: R) -> Ended {
             ask,
             reads,
         } => {
-            let (dpid, reads) = (*dpid, *reads);
-            let (from, to) = (&mut reader, &mut writer);
+            let (dpid, reads, from) = (*dpid, *reads, &mut reader);
             match (*output, *ask) {
-                (ReplayOutput::Effects, false) => play(rt, dpid, reads, &Plain, from, to),
-                (ReplayOutput::Json, _) => play(rt, dpid, reads, &ExplainingJson, from, to),
+                (ReplayOutput::Effects, false) => {
+                    play(rt, dpid, reads, &Plain, from, &mut writer)
+                }
                 (ReplayOutput::Effects, true) => {
-                    play(rt, dpid, reads, &Answering { rows: Plain }, from, to)
+                    let rows = Answering { rows: Plain };
+                    play(rt, dpid, reads, &rows, from, &mut writer)
                 }
-                (ReplayOutput::Explained, false) => {
-                    play_in_words(rt, dpid, reads, &Explaining, from, writer)
-                }
-                (ReplayOutput::Explained, true) => {
-                    play_in_words(
-                        rt,
-                        dpid,
-                        reads,
-                        &Answering { rows: Explaining },
-                        from,
-                        writer,
-                    )
+                (ReplayOutput::Explained, ask) => explain(rt, dpid, reads, ask, from, writer),
+                (ReplayOutput::Json, _) => {
+                    play(rt, dpid, reads, &ExplainingJson, from, &mut writer)
                 }
             }
         }
@@ -442,11 +434,11 @@ fn play<T: RowPrinter<Lookups>, S: Source, W: Sink>(
 }
 
 // The same in words, without the many time rows of a log.
-fn play_in_words<T: RowPrinter<Lookups>, S: Source, W: Sink + Drop>(
+fn explain<S: Source, W: Sink + Drop>(
     rt: &HostRuntime,
     dpid: u64,
     reads: u32,
-    rows: &T,
+    ask: bool,
     reader: &mut S,
     writer: W,
 ) -> Ended
@@ -454,7 +446,12 @@ fn play_in_words<T: RowPrinter<Lookups>, S: Source, W: Sink + Drop>(
     requires failures { W.failures writer ≡ 0 }
 {
     let mut folded = Folded::new(rt.alloc(), writer);
-    let ended = play(rt, dpid, reads, rows, reader, &mut folded);
+    let ended = if ask {
+        let rows = Answering { rows: Explaining };
+        play(rt, dpid, reads, &rows, reader, &mut folded)
+    } else {
+        play(rt, dpid, reads, &Explaining, reader, &mut folded)
+    };
     folded.end(ended)
 }
 
