@@ -36,19 +36,19 @@ def group(number):
     return struct.pack("!HHI", 22, 8, number)
 
 
-def flow(*actions, in_port=None, priority=10, hard=0, flags=0, xid=2):
-    """A FLOW_MOD that adds a flow to table 0."""
+def flow(*actions, in_port=None, priority=10, hard=0, flags=0, xid=2, command=0):
+    """A FLOW_MOD that adds a flow to table 0, or modifies (1) or deletes it (3)."""
     match = struct.pack("!HHII4x", 1, 12, 0x80000004, in_port) if in_port else struct.pack("!HH4x", 1, 4)
     applied = b"".join(actions)
     instructions = struct.pack("!HH4x", 4, 8 + len(applied)) + applied if actions else b""
-    body = struct.pack("!QQBBHHHIIIH2x", 0, 0, 0, 0, 0, hard, priority, NO_BUFFER, ANY, ANY, flags)
+    body = struct.pack("!QQBBHHHIIIH2x", 0, 0, 0, command, 0, hard, priority, NO_BUFFER, ANY, ANY, flags)
     return header(14, xid, body + match + instructions)
 
 
-def failover_group(number, *ports, xid=3):
-    """A GROUP_MOD that adds a FAST-FAILOVER group, with a bucket for each port that watches it."""
+def failover_group(number, *ports, xid=3, command=0):
+    """A GROUP_MOD that adds a FAST-FAILOVER group, with a bucket for each port that watches it, or modifies (1) or deletes it (2)."""
     buckets = b"".join(struct.pack("!HHII4x", 32, 0, port, ANY) + output(port) for port in ports)
-    return header(15, xid, struct.pack("!HBxI", 0, 3, number) + buckets)
+    return header(15, xid, struct.pack("!HBxI", command, 3, number) + buckets)
 
 
 def packet_out(frame, *actions, in_port=CONTROLLER, xid=4):

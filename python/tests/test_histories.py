@@ -29,10 +29,33 @@ def test_says_since_when_and_who_did_it(switch):
     found = switch.history(1, FRAME)
     assert [(it["line"], it.get("message")) for it in found] == [(1, None), (6, 2), (8, 1)]
     assert found[1]["by"][0].startswith("from the controller: FLOW_MOD xid 7 ADD table 0")
+    assert [it["reason"] for it in found] == ["a port changed", *["an entry was added, so another one wins"] * 2]
     assert found[1]["after"][-1] == f"out by port 2: {FRAME.hex()}"
     assert (found[2]["before"], found[2]["after"][-1]) == (found[1]["after"], "nothing leaves")
     # that of another port
     assert [it["row"] for it in switch.history(3, FRAME)] == [PORTS[2], "port link 3 down"]
+
+
+def test_the_reasons_of_changes(switch):
+    to_group = messages.flow(messages.group(1), in_port=1)
+    switch.feed(OUT + messages.flow(messages.output(3), in_port=1) + messages.flow(in_port=1, command=1) + messages.flow(in_port=1, command=3))
+    switch.feed(messages.failover_group(1, 3) + messages.flow(messages.group(1), in_port=1, hard=1) + messages.failover_group(1, 2, command=1))
+    switch.at(1_000_000_000)
+    switch.feed(to_group + messages.failover_group(1, command=2))
+    added = "an entry was added, so another one wins"
+    assert [it["reason"] for it in switch.history(1, FRAME)] == [
+        "a port changed",
+        added,
+        "the entry was replaced",
+        "the entry was modified",
+        "the entry was deleted",
+        added,
+        "the buckets of a group changed",
+        "the entry expired",
+        added,
+        "the entry was deleted with its group",
+    ]
+    assert all("reason" not in it for it in switch.history_of("table=0"))
 
 
 def test_words_and_rows_of_a_log(switch, tmp_path):
