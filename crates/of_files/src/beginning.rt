@@ -13,11 +13,15 @@ use std::alloc::{AllocError, Global};
 const GREETING: [u8; 8] = [4, 0, 0, 8, 0, 0, 0, 0];
 
 // Appends messages of a controller, each as an event.
-fn push_messages(events: &mut Vec<Event>, messages: Vec<Bytes>) -> Result<(), AllocError>
-    ensures { OnOk result (events.new.items ≡ events.old.items ++ map Chunk messages.items) }
+fn push_messages(
+    alloc: Global,
+    events: &mut Vec<Event>,
+    messages: &[Bytes],
+) -> Result<(), AllocError>
+    ensures { OnOk result (events.new.items ≡ events.old.items ++ map Chunk messages.now) }
 {
     for message in messages {
-        events.push(Event::Chunk(message))?;
+        events.push(Event::Chunk(Bytes::from_slice(alloc, message.as_slice())?))?;
     }
     Ok(())
 }
@@ -30,7 +34,7 @@ pub fn first_events(alloc: Global, config: &Config) -> Result<Vec<Event>, AllocE
     let mut events = Vec::new(alloc);
     events.push(Event::Connect)?;
     events.push(Event::Chunk(Bytes::from_slice(alloc, &GREETING)?))?;
-    push_messages(&mut events, messages(alloc, config)?)?;
+    push_messages(alloc, &mut events, &messages(alloc, config)?)?;
     events.push(Event::Lost)?;
     Ok(events)
 }
