@@ -1,10 +1,11 @@
-use Rattle.std.proofs.Common.{◌≡◌, ◌∙◌, ◌++◌, ◌∷◌, List, ap, subst, sym}
+use Rattle.std.proofs.Common.{◌≡◌, ◌∙◌, ◌++◌, ◌∷◌, List, ℕ, true, ap, eqb, refl, subst, sym}
 use Rattle.std.specs.List.{Contains}
+use Rattle.std.proofs.lemmas.List.{append-nil}
 use Rattle.of_datapath.specs.Datapath.{world_of}
 use Rattle.of_datapath.specs.Numbers.{forwarding_of}
 use Rattle.of_paths.specs.declared.path.PathClass.{PathClass}
 use Rattle.of_require.specs.Deciding.{IsSoughtInClass}
-use Rattle.of_require.proofs.DecidingLemmas.{in_middle, one_more}
+use Rattle.of_require.proofs.DecidingLemmas.{in_middle, no_items, one_more}
 use Rattle.of_require.proofs.ListLemmas.{at_end}
 use Rattle.of_require.proofs.PacketLemmas.{one_without}
 use Rattle.of_require.proofs.deciding.seek_packets.Goals as goal
@@ -26,3 +27,10 @@ returns-in-Frame g c =
     let own = rw c.in-Frame.is at c.in_ok-seek_in_class.ensures in
     let parts : c.loop-class.yielded ++ c.in-Some.class ∷ c.next.new.self.rest.items ≡ c.args.classes.items = ap (λ (l : List PathClass). c.loop-class.yielded ++ l) (sym c.in-Some.ensures.steps.0) ∙ c.loop-class.invariant.parts in
     (c.in-Some.class, subst (λ (l : List PathClass). Contains l c.in-Some.class) parts (in_middle c.loop-class.yielded c.in-Some.class c.next.new.self.rest.items), own)
+
+pub returns : goal.returns
+returns g c =
+    let rest = c.loop-class.class-iterator.rest in
+    let none = no_items rest.items true (ap (λ (n : ℕ). eqb n 0) (sym c.in-None.ensures.steps.0 ∙ rest.ok.0)) refl in
+    let all : c.loop-class.yielded ≡ c.args.classes.items = sym (append-nil c.loop-class.yielded) ∙ (ap (λ (l : List PathClass). c.loop-class.yielded ++ l) (sym none) ∙ c.loop-class.invariant.parts) in
+    rw (c.sought_so_far.ensures, sym all) c.loop-class.invariant.sought
