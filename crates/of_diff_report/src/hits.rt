@@ -1,6 +1,7 @@
 //! The entries that a frame hits at one of two switches.
 ghost use Rattle.std.specs.Prelude.{◌≡◌, ◌++◌, IfOk, OnOk};
 ghost use Rattle.std.specs.List.{flat_map};
+ghost use Rattle.of_datapath.specs.DryRun.{steps_in};
 ghost use Rattle.of_diff_report.specs.EntryHits.{entry_of_hit, hit_entries_member, hit_line, hit_lines, hits_in};
 
 use of_classifier::Lookup;
@@ -16,6 +17,13 @@ use std::alloc::{AllocError, Global};
 pub struct FileFlows<'a> {
     pub config: &'a Config,
     pub origins: &'a [Vec<Origin>],
+}
+
+/// One of the two switches.
+#[derive(Drop)]
+pub struct DiffSide<'a, L: Lookup> {
+    pub flows: FileFlows<'a>,
+    pub switch: &'a Switch<L>,
 }
 
 fn traced<L: Lookup>(

@@ -1,8 +1,9 @@
 //! What is found about two switches, as JSON.
-ghost use Rattle.std.specs.Prelude.{◌≡◌, ◌++◌, decimal, IfOk, OnOk};
+ghost use Rattle.std.specs.Prelude.{◌≡◌, ◌++◌, codes, decimal, IfOk, OnOk};
+ghost use Rattle.of_json.specs.Strings.{array_member};
 ghost use Rattle.of_diff_report.specs.DiffJson.{at_member, both_hits_members, diff_document, diff_head, diff_json, difference_members, difference_object, differences_listed, missing_member, other_ports_json, same_in_json, undecided_member, undecided_string, why_name};
 
-use crate::hits::{FileFlows, push_hits_member};
+use crate::hits::{DiffSide, push_hits_member};
 use crate::words::is_same_with;
 use of_alike::Where;
 use of_classifier::Lookup;
@@ -47,21 +48,29 @@ fn push_difference_members(
 fn push_both_hits<L: Lookup>(
     alloc: Global,
     out: &mut Vec<u8>,
-    first: (&FileFlows<'_>, &Switch<L>),
-    second: (&FileFlows<'_>, &Switch<L>),
+    first: &DiffSide<'_, L>,
+    second: &DiffSide<'_, L>,
     port: u32,
     frame: &[u8],
 ) -> Result<(), AllocError>
     ensures { OnOk result (out.new.items ≡ out.old.items ++
-        both_hits_members first.0.now second.0.now first.1.now.core.forwarding second.1.now.core.forwarding port frame.now) }
+        both_hits_members first.now.flows second.now.flows first.now.switch.now.core.forwarding second.now.switch.now.core.forwarding port frame.now) }
 {
-    push_hits_member(alloc, out, b"first_entries", first.1, first.0, port, frame)?;
+    push_hits_member(
+        alloc,
+        out,
+        b"first_entries",
+        first.switch,
+        &first.flows,
+        port,
+        frame,
+    )?;
     push_hits_member(
         alloc,
         out,
         b"second_entries",
-        second.1,
-        second.0,
+        second.switch,
+        &second.flows,
         port,
         frame,
     )
@@ -71,12 +80,12 @@ fn push_both_hits<L: Lookup>(
 fn push_difference_object<L: Lookup>(
     alloc: Global,
     out: &mut Vec<u8>,
-    first: (&FileFlows<'_>, &Switch<L>),
-    second: (&FileFlows<'_>, &Switch<L>),
+    first: &DiffSide<'_, L>,
+    second: &DiffSide<'_, L>,
     difference: &Difference,
 ) -> Result<(), AllocError>
     ensures { OnOk result (out.new.items ≡ out.old.items ++
-        difference_object first.0.now second.0.now first.1.now.core.forwarding second.1.now.core.forwarding difference.now) }
+        difference_object first.now.flows second.now.flows first.now.switch.now.core.forwarding second.now.switch.now.core.forwarding difference.now) }
 {
     out.push(b'{')?;
     push_difference_members(alloc, out, difference)?;
@@ -95,12 +104,12 @@ fn push_difference_object<L: Lookup>(
 // The objects of differences.
 fn difference_objects<L: Lookup>(
     alloc: Global,
-    first: (&FileFlows<'_>, &Switch<L>),
-    second: (&FileFlows<'_>, &Switch<L>),
+    first: &DiffSide<'_, L>,
+    second: &DiffSide<'_, L>,
     found: &[Difference],
 ) -> Result<Vec<u8>, AllocError>
     ensures { IfOk result (λ text. text.items ≡
-        differences_listed first.0.now second.0.now first.1.now.core.forwarding second.1.now.core.forwarding found.now) }
+        differences_listed first.now.flows second.now.flows first.now.switch.now.core.forwarding second.now.switch.now.core.forwarding found.now) }
 {
     let mut out = Vec::new(alloc);
     push_listed(&mut out, found, |out, difference| {
@@ -160,7 +169,17 @@ fn push_missing_member(out: &mut Vec<u8>, missing: &[u32]) -> Result<(), AllocEr
     push_array_member(out, b"missing_ports", missing, push_port)
 }
 
-#[tactic(auto, unfolding(crate::specs::DiffJson::diff_document, of_json::specs::Strings::array_member))]
+#[tactic(auto, unfolding(of_json::specs::Strings::array_member))]
+fn push_objects_member(out: &mut Vec<u8>, objects: &[u8]) -> Result<(), AllocError>
+    ensures { OnOk result (out.new.items ≡ out.old.items ++ array_member (codes "differences") objects.now) }
+{
+    begin_array(out, b"differences")?;
+    out.extend_from_slice(objects)?;
+    out.push(b']')?;
+    Ok(())
+}
+
+#[tactic(auto, unfolding(crate::specs::DiffJson::diff_document))]
 fn document(
     alloc: Global,
     same: &[u8],
@@ -175,9 +194,7 @@ fn document(
     out.push(b'{')?;
     push_head(&mut out, same, ports_differ)?;
     push_missing_member(&mut out, missing)?;
-    begin_array(&mut out, b"differences")?;
-    out.extend_from_slice(objects)?;
-    out.push(b']')?;
+    push_objects_member(&mut out, objects)?;
     push_undecided_member(&mut out, undecided)?;
     out.push(b'}')?;
     out.push(b'\n')?;
@@ -199,13 +216,13 @@ fn same_word(missing: &[u32], found: &Differences) -> &'static [u8]
 /// What is found about two switches, as JSON.
 pub fn differences_as_json<L: Lookup>(
     alloc: Global,
-    first: (&FileFlows<'_>, &Switch<L>),
-    second: (&FileFlows<'_>, &Switch<L>),
+    first: &DiffSide<'_, L>,
+    second: &DiffSide<'_, L>,
     missing: &[u32],
     found: &Differences,
 ) -> Result<Vec<u8>, AllocError>
     ensures { IfOk result (λ text. text.items ≡
-        diff_json first.0.now second.0.now missing.now first.1.now.core.forwarding second.1.now.core.forwarding found.now) }
+        diff_json first.now.flows second.now.flows missing.now first.now.switch.now.core.forwarding second.now.switch.now.core.forwarding found.now) }
 {
     let objects = difference_objects(alloc, first, second, &found.found)?;
     document(

@@ -6,5 +6,5 @@ mod json;
 mod words;
 mod writing;
 
-pub use hits::FileFlows;
+pub use hits::{DiffSide, FileFlows};
 pub use writing::{DiffForm, DiffVerdict, write_differences};

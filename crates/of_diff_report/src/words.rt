@@ -3,7 +3,7 @@ ghost use Rattle.std.specs.Prelude.{◌≡◌, ◌++◌, ◌∷◌, IfOk, OnOk};
 ghost use Rattle.std.specs.List.{flat_map};
 ghost use Rattle.of_diff_report.specs.DiffWords.{are_same, are_same_with, count_why, diff_summary, diff_words, difference_count, difference_words, is_why, missing_line, missing_lines, other_ports_words, same_words, sets_line, sets_words, switch_words, undecided_line, undecided_words, where_words, undecided_why};
 
-use crate::hits::{FileFlows, push_hit_lines};
+use crate::hits::{DiffSide, push_hit_lines};
 use of_alike::Where;
 use of_classifier::Lookup;
 use of_diff::{Difference, Differences, Undecided, Why};
@@ -76,15 +76,15 @@ fn push_switch<L: Lookup>(
     alloc: Global,
     out: &mut Vec<u8>,
     who: &[u8],
-    of: (&FileFlows<'_>, &Switch<L>),
+    of: &DiffSide<'_, L>,
     port: u32,
     frame: &[u8],
     items: &[Item],
 ) -> Result<(), AllocError>
     ensures { OnOk result (out.new.items ≡ out.old.items ++
-        switch_words who.now of.0.now of.1.now.core.forwarding port frame.now items.now) }
+        switch_words who.now of.now.flows of.now.switch.now.core.forwarding port frame.now items.now) }
 {
-    push_hit_lines(alloc, out, who, of.1, of.0, port, frame)?;
+    push_hit_lines(alloc, out, who, of.switch, &of.flows, port, frame)?;
     push_side(alloc, out, who, items)
 }
 
@@ -92,16 +92,16 @@ fn push_switch<L: Lookup>(
 fn push_difference<L: Lookup>(
     alloc: Global,
     out: &mut Vec<u8>,
-    first: (&FileFlows<'_>, &Switch<L>),
-    second: (&FileFlows<'_>, &Switch<L>),
+    first: &DiffSide<'_, L>,
+    second: &DiffSide<'_, L>,
     difference: &Difference,
 ) -> Result<(), AllocError>
     ensures { OnOk result (out.new.items ≡ out.old.items ++
-        difference_words first.0.now second.0.now first.1.now.core.forwarding second.1.now.core.forwarding difference.now) }
+        difference_words first.now.flows second.now.flows first.now.switch.now.core.forwarding second.now.switch.now.core.forwarding difference.now) }
 {
     let (port, frame) = (difference.in_port, difference.frame.as_slice());
     push_where(out, difference.at)?;
-    push_heading(alloc, out, first.1, port, frame)?;
+    push_heading(alloc, out, first.switch, port, frame)?;
     push_frame_lines(alloc, out, port, frame)?;
     push_switch(
         alloc,
@@ -127,12 +127,12 @@ fn push_difference<L: Lookup>(
 fn push_differences<L: Lookup>(
     alloc: Global,
     out: &mut Vec<u8>,
-    first: (&FileFlows<'_>, &Switch<L>),
-    second: (&FileFlows<'_>, &Switch<L>),
+    first: &DiffSide<'_, L>,
+    second: &DiffSide<'_, L>,
     found: &[Difference],
 ) -> Result<(), AllocError>
     ensures { OnOk result (out.new.items ≡ out.old.items ++
-        flat_map (difference_words first.0.now second.0.now first.1.now.core.forwarding second.1.now.core.forwarding) found.now) }
+        flat_map (difference_words first.now.flows second.now.flows first.now.switch.now.core.forwarding second.now.switch.now.core.forwarding) found.now) }
 {
     for difference in found {
         push_difference(alloc, out, first, second, difference)?;
@@ -257,13 +257,13 @@ fn push_summary(out: &mut Vec<u8>, missing: &[u32], found: &Differences) -> Resu
 #[tactic(auto, unfolding(crate::specs::DiffWords::diff_words))]
 pub fn differences_in_words<L: Lookup>(
     alloc: Global,
-    first: (&FileFlows<'_>, &Switch<L>),
-    second: (&FileFlows<'_>, &Switch<L>),
+    first: &DiffSide<'_, L>,
+    second: &DiffSide<'_, L>,
     missing: &[u32],
     found: &Differences,
 ) -> Result<Vec<u8>, AllocError>
     ensures { IfOk result (λ text. text.items ≡
-        diff_words first.0.now second.0.now missing.now first.1.now.core.forwarding second.1.now.core.forwarding found.now) }
+        diff_words first.now.flows second.now.flows missing.now first.now.switch.now.core.forwarding second.now.switch.now.core.forwarding found.now) }
 {
     let mut out = Vec::new(alloc);
     push_missing(&mut out, missing)?;

@@ -9,7 +9,7 @@ ghost use Rattle.of_diff.specs.declared.difference.Difference.{Difference};
 ghost use Rattle.of_diff_report.specs.declared.hits.FileFlows.{FileFlows as AFileFlows};
 ghost use Rattle.of_diff_report.specs.DiffFiles.{AreFoundBetween, IsDiffReport, IsVerdict, diff_text, diff_verdict, verdict_on};
 
-use crate::hits::FileFlows;
+use crate::hits::DiffSide;
 use crate::json::{differences_as_json, other_ports_as_json};
 use crate::words::{differences_in_words, is_same_with, other_ports_in_words};
 use of_alike::Compared;
@@ -68,13 +68,13 @@ fn other_ports_in(alloc: Global, form: DiffForm, missing: &[u32]) -> Result<Vec<
 fn found_in<L: Lookup>(
     alloc: Global,
     form: DiffForm,
-    first: (&FileFlows<'_>, &Switch<L>),
-    second: (&FileFlows<'_>, &Switch<L>),
+    first: &DiffSide<'_, L>,
+    second: &DiffSide<'_, L>,
     missing: &[u32],
     found: &Differences,
 ) -> Result<Vec<u8>, AllocError>
     ensures { IfOk result (λ text. text.items ≡
-        diff_text form first.0.now second.0.now missing.now first.1.now.core.forwarding second.1.now.core.forwarding (Some found.now)) }
+        diff_text form first.now.flows second.now.flows missing.now first.now.switch.now.core.forwarding second.now.switch.now.core.forwarding (Some found.now)) }
 {
     match form {
         DiffForm::Words => differences_in_words(alloc, first, second, missing, found),
@@ -86,13 +86,13 @@ fn found_in<L: Lookup>(
 fn text_in<L: Lookup>(
     alloc: Global,
     form: DiffForm,
-    first: (&FileFlows<'_>, &Switch<L>),
-    second: (&FileFlows<'_>, &Switch<L>),
+    first: &DiffSide<'_, L>,
+    second: &DiffSide<'_, L>,
     missing: &[u32],
     found: &Option<Differences>,
 ) -> Result<Vec<u8>, AllocError>
     ensures { IfOk result (λ text. text.items ≡
-        diff_text form first.0.now second.0.now missing.now first.1.now.core.forwarding second.1.now.core.forwarding found.now) }
+        diff_text form first.now.flows second.now.flows missing.now first.now.switch.now.core.forwarding second.now.switch.now.core.forwarding found.now) }
 {
     match found {
         None => other_ports_in(alloc, form, missing),
@@ -131,8 +131,8 @@ fn verdict_of(missing: &[u32], found: &Option<Differences>) -> DiffVerdict
 /// Err is `WriteFault`, where a write failed and a prefix of the text was written; or `NoMemory`, where nothing was.
 pub fn write_differences<L: Lookup, W: Sink>(
     alloc: Global,
-    first: (&FileFlows<'_>, &Switch<L>),
-    second: (&FileFlows<'_>, &Switch<L>),
+    first: &DiffSide<'_, L>,
+    second: &DiffSide<'_, L>,
     missing: &[u32],
     compared: Compared,
     steps: usize,
@@ -140,15 +140,15 @@ pub fn write_differences<L: Lookup, W: Sink>(
     writer: &mut W,
 ) -> Result<DiffVerdict, Ended>
     requires { W.failures writer.old ≡ 0 }
-    ensures output { Writes (IsDiffReport result form first.0.now second.0.now missing.now compared steps first.1.now.core.forwarding
-        second.1.now.core.forwarding) (ended_as result) (W.taken writer.old) (W.taken writer.new) }
-    ensures verdict { IfOk result (IsVerdict compared first.1.now.core.forwarding second.1.now.core.forwarding) }
-    ensures same { result ≡ Ok DiffVerdict.Same → (frame : List ℕ) (port : ℕ) → IsReceivedAt (world_of first.1.now.core.forwarding) frame port
-        → IsTreatedAlike compared (world_of first.1.now.core.forwarding) (world_of second.1.now.core.forwarding) frame port }
+    ensures output { Writes (IsDiffReport result form first.now.flows second.now.flows missing.now compared steps first.now.switch.now.core.forwarding
+        second.now.switch.now.core.forwarding) (ended_as result) (W.taken writer.old) (W.taken writer.new) }
+    ensures verdict { IfOk result (IsVerdict compared first.now.switch.now.core.forwarding second.now.switch.now.core.forwarding) }
+    ensures same { result ≡ Ok DiffVerdict.Same → (frame : List ℕ) (port : ℕ) → IsReceivedAt (world_of first.now.switch.now.core.forwarding) frame port
+        → IsTreatedAlike compared (world_of first.now.switch.now.core.forwarding) (world_of second.now.switch.now.core.forwarding) frame port }
     ensures none_missing { result ≡ Ok DiffVerdict.Same → missing.now ≡ [] }
     ensures write_fault { (ended_as result ≡ Ended.WriteFault) ↔ (0 < W.failures writer.new) }
 {
-    let Ok(found) = find_differences(alloc, first.1, second.1, compared, steps) else {
+    let Ok(found) = find_differences(alloc, first.switch, second.switch, compared, steps) else {
         return Err(Ended::NoMemory);
     };
     let Ok(text) = text_in(alloc, form, first, second, missing, &found) else {

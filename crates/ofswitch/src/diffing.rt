@@ -5,7 +5,7 @@ use crate::files::{
 use crate::lookups::Lookups;
 use of_alike::Compared;
 use of_command_line::{Diff, FileKind};
-use of_diff_report::{DiffForm, DiffVerdict, FileFlows, write_differences};
+use of_diff_report::{DiffForm, DiffSide, DiffVerdict, FileFlows, write_differences};
 use of_files::FileTables;
 use of_replay::streams::WriterSink;
 use of_replay::{Ended, switch_of_config};
@@ -27,10 +27,13 @@ struct FileSwitch {
     tables: FileTables,
 }
 
-fn flows_of(of: &FileSwitch) -> FileFlows<'_> {
-    FileFlows {
-        config: &of.tables.config,
-        origins: &of.tables.origins,
+fn side_of(of: &FileSwitch) -> DiffSide<'_, Lookups> {
+    DiffSide {
+        flows: FileFlows {
+            config: &of.tables.config,
+            origins: &of.tables.origins,
+        },
+        switch: &of.switch,
     }
 }
 
@@ -123,8 +126,8 @@ fn found_between(
     let mut writer = WriterSink::new(rt.stdout());
     write_differences(
         rt.alloc(),
-        (&flows_of(first), &first.switch),
-        (&flows_of(second), &second.switch),
+        &side_of(first),
+        &side_of(second),
         missing,
         compared_of(asked.frames),
         asked.steps as usize,

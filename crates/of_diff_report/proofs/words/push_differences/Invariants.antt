@@ -5,5 +5,5 @@ use Rattle.of_diff_report.proofs.words.push_differences.Given as goal
 
 abbrev pub invariant-loop-difference : goal.invariant-loop-difference
 invariant-loop-difference g l =
-    let words = difference_words l.first.0.now l.second.0.now l.first.1.now.core.forwarding l.second.1.now.core.forwarding in
+    let words = difference_words l.first.flows l.second.flows l.first.switch.now.core.forwarding l.second.switch.now.core.forwarding in
     l.out.items ++ flat_map words (drop l.difference-index l.found) ≡ l.fn.out.items ++ flat_map words l.found
