@@ -1,5 +1,6 @@
 //! Answers to questions.
-ghost use Rattle.std.specs.Prelude.{◌≡◌, ◌++◌, IfErr, OnOk};
+ghost use Rattle.std.specs.Prelude.{◌≡◌, ◌++◌, ◌∷◌, [], IfErr, OnOk, codes};
+ghost use Rattle.hex.specs.Hex.{encode_lower};
 ghost use Rattle.std.specs.Option.{option_copied};
 ghost use Rattle.of_switch.specs.declared.switch_error.SwitchError.TheVariants.{NoMemory};
 ghost use Rattle.of_replay.specs.FileRuns.{switch_text};
@@ -67,20 +68,32 @@ fn push_next<L: Lookup>(
     }
 }
 
+fn push_frame_digits(alloc: Global, out: &mut Vec<u8>, frame: &[u8]) -> Result<(), AllocError>
+    ensures { OnOk result (out.new.items ≡ out.old.items ++ encode_lower frame.now ++ 10 ∷ []) }
+{
+    push_hex(alloc, out, frame)?;
+    out.push(b'\n')?;
+    Ok(())
+}
+
+fn push_refused_word(out: &mut Vec<u8>, word: &[u8]) -> Result<(), AllocError>
+    ensures { OnOk result (out.new.items ≡ out.old.items ++ codes "no frame: " ++ word.now ++ 10 ∷ []) }
+{
+    out.extend_from_slice(b"no frame: ")?;
+    out.extend_from_slice(word)?;
+    out.push(b'\n')?;
+    Ok(())
+}
+
 // Appends the digits of the frame that words say, or the word that is refused.
 fn push_frame_of(alloc: Global, out: &mut Vec<u8>, words: &[u8]) -> Result<(), AllocError>
     ensures { OnOk result (out.new.items ≡ out.old.items ++ frame_line (frame_in_words 1 words.now)) }
 {
     match read_frame(alloc, 1, words) {
-        Ok(received) => push_hex(alloc, out, &received.frame)?,
-        Err(NoFrame::Refused(refusal)) => {
-            out.extend_from_slice(b"no frame: ")?;
-            out.extend_from_slice(&refusal.word)?;
-        }
-        Err(NoFrame::NoMemory) => return Err(AllocError),
+        Ok(received) => push_frame_digits(alloc, out, &received.frame),
+        Err(NoFrame::Refused(refusal)) => push_refused_word(out, &refusal.word),
+        Err(NoFrame::NoMemory) => Err(AllocError),
     }
-    out.push(b'\n')?;
-    Ok(())
 }
 
 // Appends the answer to a question, without the line that ends it.
