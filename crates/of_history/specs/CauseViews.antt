@@ -1,10 +1,11 @@
--- By whom, as the code has it.
+-- By whom, as the code has it: beside the message, or the lines about what expires.
+use Rattle.std.specs.Prelude.{ℕ, List}
 use Rattle.of_history.specs.declared.cause.By.{By}
 use Rattle.of_history.specs.declared.cause.By.TheVariants.{Message, Moment, Port, Row}
 use Rattle.of_history.specs.Causes as seen
 
-abbrev pub by_of : By → seen.By
-by_of (Message number bytes) = seen.Message number bytes.now
-by_of (Moment expired) = seen.Moment expired.now
-by_of Port = seen.Port
-by_of Row = seen.Row
+abbrev pub by_of : By → List ℕ → seen.By
+by_of (Message number) text = seen.Message number text
+by_of Moment text = seen.Moment text
+by_of Port text = seen.Port
+by_of Row text = seen.Row

@@ -10,7 +10,7 @@ use Rattle.of_messages.specs.declared.message.FlowModCommand.TheVariants.{Add, M
 use Rattle.of_messages.specs.declared.group_mod.GroupMod.{GroupMod}
 use Rattle.of_messages.specs.declared.group_mod.GroupMod.TheVariants as group
 use Rattle.of_messages.specs.Messages.{message_of}
-use Rattle.of_text.specs.Lines.{lines_of, note}
+use Rattle.of_text.specs.Lines.{ended, lines_of}
 use Rattle.of_history.specs.declared.reason.Reason.{Reason}
 use Rattle.of_history.specs.declared.reason.Reason.TheVariants.{Added, Replaced, Modified, Deleted, Expired, WithGroup, GroupDeleted, Buckets, Port}
 use Rattle.of_history.specs.Causes.{By}
@@ -72,4 +72,4 @@ fate_reason_words Port = codes "a port changed"
 
 abbrev pub fate_reason_note : Option Reason → List ℕ
 fate_reason_note None = []
-fate_reason_note (Some r) = note (codes "reason: " ++ fate_reason_words r)
+fate_reason_note (Some r) = codes "    reason: " ++ ended (fate_reason_words r)

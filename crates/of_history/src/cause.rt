@@ -9,15 +9,11 @@ use std::marker::Model;
 
 /// What changed it.
 #[derive(Clone, Copy)]
-pub enum By<'a> {
-    /// A message of the controller.
-    Message {
-        /// Which one of the row, from 1.
-        number: u64,
-        bytes: &'a [u8],
-    },
-    /// A time, with lines about what expires then.
-    Moment(&'a [u8]),
+pub enum By {
+    /// The message of the controller that has this number in the row, from 1.
+    Message(u64),
+    /// A time.
+    Moment,
     /// A port is added or removed, or its link changes.
     Port,
     /// Another row.
@@ -30,7 +26,9 @@ pub struct Cause<'a> {
     /// The number of the row's line, from 1.
     pub number: u64,
     pub line: &'a [u8],
-    pub by: By<'a>,
+    pub by: By,
+    /// The message, or lines about what expires at the time.
+    pub text: &'a [u8],
 }
 
 impl<'a> Model for Cause<'a> {
@@ -39,15 +37,15 @@ impl<'a> Model for Cause<'a> {
 
     ghost Value = { TheCause };
 
-    ghost view = { λ c. record { number = c.number; line = c.line.now; by = by_whom c.by } };
+    ghost view = { λ c. record { number = c.number; line = c.line.now; by = by_whom c.by c.text.now } };
 }
 
-/// By a row in which these lines expire.
-pub fn by_row(row: Row, expired: &[u8]) -> By<'_>
-    ensures { (bytes : List ℕ) → by_of result ≡ caused_by expired.now (with_bytes bytes row) }
+/// By a row.
+pub fn by_row(row: Row) -> By
+    ensures { (bytes expired : List ℕ) → by_of result expired ≡ caused_by expired (with_bytes bytes row) }
 {
     match row {
-        Row::Moment { .. } => By::Moment(expired),
+        Row::Moment { .. } => By::Moment,
         Row::Ports(_) => By::Port,
         Row::Passed | Row::Connect | Row::Lost | Row::Chunk | Row::Frame { .. } => By::Row,
     }

@@ -1,7 +1,6 @@
 //! Changes as JSON.
 ghost use Rattle.std.specs.Prelude.{◌≡◌, ◌++◌, OnOk};
-ghost use Rattle.of_history.specs.CauseViews.{by_of};
-ghost use Rattle.of_history.specs.ChangeObjects.{by_members, cause_members, change_object, expired_member, lines_member, reason_member};
+ghost use Rattle.of_history.specs.ChangeObjects.{cause_members, change_object, expired_member, lines_member, reason_member};
 
 use crate::cause::{By, Cause};
 use crate::reason::Reason;
@@ -44,36 +43,24 @@ fn push_expired_member(out: &mut Vec<u8>, expired: &[u8]) -> Result<(), AllocErr
     }
 }
 
-// Appends what a row or a message does.
-fn push_by_members(
-    alloc: Global,
-    out: &mut Vec<u8>,
-    line: &[u8],
-    by: By<'_>,
-) -> Result<(), AllocError>
-    ensures { OnOk result (out.new.items ≡ out.old.items ++ by_members line.now (by_of by)) }
-{
-    match by {
-        By::Message { number, bytes } => {
-            let mut notes = Vec::new(alloc);
-            push_request(alloc, &mut notes, bytes)?;
-            push_number_member(out, b"message", u128::from(number))?;
-            push_lines_member(out, b"by", INDENT, &notes)
-        }
-        By::Moment(expired) => {
-            push_string_member(out, b"row", line)?;
-            push_expired_member(out, expired)
-        }
-        By::Port | By::Row => push_string_member(out, b"row", line),
-    }
-}
-
 // Appends who it was.
 #[tactic(auto, unfolding(crate::specs::ChangeObjects::cause_members))]
 fn push_cause_members(alloc: Global, out: &mut Vec<u8>, cause: &Cause<'_>) -> Result<(), AllocError>
     ensures { OnOk result (out.new.items ≡ out.old.items ++ cause_members cause.now) }
 {
-    push_by_members(alloc, out, cause.line, cause.by)
+    match cause.by {
+        By::Message(number) => {
+            let mut notes = Vec::new(alloc);
+            push_request(alloc, &mut notes, cause.text)?;
+            push_number_member(out, b"message", u128::from(number))?;
+            push_lines_member(out, b"by", INDENT, &notes)
+        }
+        By::Moment => {
+            push_string_member(out, b"row", cause.line)?;
+            push_expired_member(out, cause.text)
+        }
+        By::Port | By::Row => push_string_member(out, b"row", cause.line),
+    }
 }
 
 // Appends why, if it is known.

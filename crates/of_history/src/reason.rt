@@ -1,13 +1,13 @@
 //! Why the fate of a frame changed.
-ghost use Rattle.std.specs.Prelude.{◌≡◌, ◌++◌, IfOk, OnOk, codes};
+ghost use Rattle.std.specs.Prelude.{◌≡◌, ◌++◌, IfOk, OnOk};
 ghost use Rattle.of_messages.specs.Messages.{message_of};
 ghost use Rattle.of_text.specs.Lines.{lines_of};
-ghost use Rattle.of_history.specs.CauseViews.{by_of};
 ghost use Rattle.of_history.specs.Reasons.{by_command as reason_by_command, by_group_mod as reason_by_group, by_message as reason_by_message, by_reading, is_lookup as is_of_lookup, parts_at_lookup as part_at_lookup, fate_reason_note, fate_reason, fate_reason_words};
 
-use crate::cause::By;
+use crate::cause::{By, Cause};
+use crate::marks::push_marked;
 use of_messages::{FlowModCommand, GroupMod, Message, read_message};
-use of_text::{begin_note, cut, end_note, is};
+use of_text::{cut, is};
 use of_wire::ReadError;
 use std::alloc::{AllocError, Global};
 
@@ -130,15 +130,15 @@ fn by_bytes(alloc: Global, bytes: &[u8], at_lookup: bool) -> Result<Option<Reaso
 #[tactic(auto, unfolding(crate::specs::Reasons::fate_reason))]
 pub fn reason_of(
     alloc: Global,
-    by: By<'_>,
+    cause: &Cause<'_>,
     old: &[u8],
     new: &[u8],
 ) -> Result<Option<Reason>, AllocError>
-    ensures { IfOk result (λ reason. reason ≡ fate_reason (by_of by) old.now new.now) }
+    ensures { IfOk result (λ reason. reason ≡ fate_reason cause.now.by old.now new.now) }
 {
-    match by {
-        By::Message { bytes, .. } => by_bytes(alloc, bytes, parts_at_lookup(old, new)),
-        By::Moment(_) => Ok(Some(Reason::Expired)),
+    match cause.by {
+        By::Message(_) => by_bytes(alloc, cause.text, parts_at_lookup(old, new)),
+        By::Moment => Ok(Some(Reason::Expired)),
         By::Port => Ok(Some(Reason::Port)),
         By::Row => Ok(None),
     }
@@ -148,11 +148,8 @@ pub fn reason_of(
 pub fn push_reason(out: &mut Vec<u8>, reason: Option<Reason>) -> Result<(), AllocError>
     ensures { OnOk result (out.new.items ≡ out.old.items ++ fate_reason_note reason) }
 {
-    let Some(reason) = reason else {
-        return Ok(());
-    };
-    begin_note(out)?;
-    out.extend_from_slice(b"reason: ")?;
-    out.extend_from_slice(reason.words())?;
-    end_note(out)
+    match reason {
+        None => Ok(()),
+        Some(reason) => push_marked(out, b"    reason: ", reason.words()),
+    }
 }

@@ -1,6 +1,5 @@
 //! What is said of a change.
 ghost use Rattle.std.specs.Prelude.{◌≡◌, ◌++◌, OnOk};
-ghost use Rattle.of_history.specs.CauseViews.{by_of};
 ghost use Rattle.of_history.specs.Changes.{ChangeText, by_words, cause_words, changed_words};
 
 use crate::cause::{By, Cause};
@@ -29,21 +28,21 @@ pub trait ChangeTeller {
 }
 
 // Appends what a row or a message does.
-fn push_by(alloc: Global, out: &mut Vec<u8>, line: &[u8], by: By<'_>) -> Result<(), AllocError>
-    ensures { OnOk result (out.new.items ≡ out.old.items ++ by_words line.now (by_of by)) }
+fn push_by(alloc: Global, out: &mut Vec<u8>, cause: &Cause<'_>) -> Result<(), AllocError>
+    ensures { OnOk result (out.new.items ≡ out.old.items ++ by_words cause.now.line cause.now.by) }
 {
-    match by {
-        By::Message { number, bytes } => {
+    match cause.by {
+        By::Message(number) => {
             out.extend_from_slice(b", message ")?;
             push_decimal(out, u128::from(number))?;
             out.push(b'\n')?;
-            push_request(alloc, out, bytes)
+            push_request(alloc, out, cause.text)
         }
-        By::Moment(expired) => {
-            push_marked(out, b": ", line)?;
-            out.extend_from_slice(expired)
+        By::Moment => {
+            push_marked(out, b": ", cause.line)?;
+            out.extend_from_slice(cause.text)
         }
-        By::Port | By::Row => push_marked(out, b": ", line),
+        By::Port | By::Row => push_marked(out, b": ", cause.line),
     }
 }
 
@@ -54,7 +53,7 @@ fn push_cause(alloc: Global, out: &mut Vec<u8>, cause: &Cause<'_>) -> Result<(),
 {
     out.extend_from_slice(b"line ")?;
     push_decimal(out, u128::from(cause.number))?;
-    push_by(alloc, out, cause.line, cause.by)
+    push_by(alloc, out, cause)
 }
 
 /// In words: the row, or the message and what it says; the reason; then the lines of the view, of which those that went are marked by `-`,

@@ -62,7 +62,7 @@ impl<L: Lookup, V: View<L> + Drop, T: ChangeTeller + Drop> Watching<L, V, T> {
         if is(&self.seen, &seen) {
             return Ok(());
         }
-        let reason = reason_of(self.alloc, cause.by, &self.seen, &seen)?;
+        let reason = reason_of(self.alloc, cause, &self.seen, &seen)?;
         self.teller.tell(self.alloc, &mut self.out, cause, reason, &self.seen, &seen)?;
         self.seen = seen;
         Ok(())
@@ -98,10 +98,8 @@ impl<L: Lookup, V: View<L> + Drop, T: ChangeTeller + Drop> Watching<L, V, T> {
             self.look_again(&Cause {
                 number,
                 line,
-                by: By::Message {
-                    number: turn,
-                    bytes: &message,
-                },
+                by: By::Message(turn),
+                text: &message,
             })?;
         }
         Ok(())
@@ -179,8 +177,13 @@ impl<L: Lookup, V: View<L> + Drop, T: ChangeTeller + Drop> Watching<L, V, T> {
         ensures err { IfErr result (λ e. e ≡ NoMemory) }
     {
         let expired = self.expiring(row, bytes)?;
-        let by = by_row(row, &expired);
-        self.tell_whole(&Cause { number, line, by }, row, bytes)
+        let cause = Cause {
+            number,
+            line,
+            by: by_row(row),
+            text: &expired,
+        };
+        self.tell_whole(&cause, row, bytes)
     }
 
     // Plays the row of a line, and says what its turns changed.
