@@ -74,7 +74,8 @@ fn found_in<L: Lookup>(
     found: &Differences,
 ) -> Result<Vec<u8>, AllocError>
     ensures { IfOk result (λ text. text.items ≡
-        diff_text form first.now.flows second.now.flows missing.now first.now.switch.now.core.forwarding second.now.switch.now.core.forwarding (Some found.now)) }
+        diff_text form first.now.flows second.now.flows
+        missing.now first.now.switch.now.core.forwarding second.now.switch.now.core.forwarding (Some found.now)) }
 {
     match form {
         DiffForm::Words => differences_in_words(alloc, first, second, missing, found),
