@@ -8,8 +8,8 @@ use of_files::missing_ports;
 use of_paths_report::Destination;
 use of_replay::Ended;
 use of_require::{
-    Answer, Demand, Line, NoRequirement, Refusal, Verdict, answer_all, read_requirements,
-    requirements_as_json, requirements_as_junit, requirements_in_words, worst,
+    Answer, Demand, Line, NoRequirement, NoRequirements, Refusal, Verdict, answer_all,
+    read_requirements, requirements_as_json, requirements_as_junit, requirements_in_words, worst,
 };
 use of_switch::Switch;
 use std::alloc::{AllocError, Global};
@@ -36,15 +36,15 @@ fn say_refusal(rt: &HostRuntime, path: &str, line: usize, refusal: &Refusal) {
 /// The requirements of a file; if it has none, standard error says which line is at fault.
 pub fn read_required(rt: &HostRuntime, path: &str) -> Result<Vec<Line>, NoFile> {
     let bytes = bytes_of(rt, path)?;
-    let refused = match read_requirements(rt.alloc(), &bytes) {
+    let NoRequirements { line, why } = match read_requirements(rt.alloc(), &bytes) {
         Ok(lines) => return Ok(lines),
         Err(refused) => refused,
     };
-    match refused.why {
+    match why {
         NoRequirement::NoMemory => Err(NoFile::ended(rt.alloc(), Ended::NoMemory)),
         NoRequirement::Refused(refusal) => {
-            say_refusal(rt, path, refused.line, &refusal);
-            let fault = requirement_fault(rt.alloc(), refused.line, refusal);
+            say_refusal(rt, path, line, &refusal);
+            let fault = requirement_fault(rt.alloc(), line, refusal);
             Err(NoFile::Faults(fault.ok()))
         }
     }
