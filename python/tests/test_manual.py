@@ -51,7 +51,7 @@ def test_the_first(examples, run):
     result.assert_outcomes(passed=1, failed=1)
     # the failure as the manual shows it, except for lines that are cut there
     shown = MANUAL.read_text(encoding="utf-8").partition("/switch-1.events\n\n")[2].partition("```")[0].splitlines()
-    result.stdout.fnmatch_lines([line.replace("affffffff..", "a*") for line in shown], consecutive=True)
+    result.stdout.fnmatch_lines([re.sub(r"f+\.\.", "*", line) for line in shown], consecutive=True)
 
 
 def test_with_os_ken(examples, run):

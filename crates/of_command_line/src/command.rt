@@ -687,7 +687,7 @@ pub fn command<'a>(alloc: Global) -> Result<Command<'a>, AllocError> {
 fn subcommand_of<'a>(alloc: Global, row: &Subcommand) -> Result<Command<'a>, AllocError> {
     let mut command = Command::new(alloc, row.name)
         .about(row.about)
-        .after_long_help(row.text);
+        .after_help(row.text);
     let needed = !row.arguments.iter().any(|it| is_free(&it.kind));
     let mut alternatives = ArgGroup::new(alloc, ALTERNATIVES).required(needed);
     let mut some = false;
