@@ -2,7 +2,7 @@
 ghost use Rattle.std.specs.Prelude.{◌≡◌, ◌≢◌, ◌<◌, ◌≤◌, ◌+◌, ◌++◌, ◌∷◌, [], Some, None, true, IfOk, OnOk, OnErr, length, slice_get};
 ghost use Rattle.std.specs.Option.{option_copied, option_map};
 ghost use Rattle.of_headers.specs.FieldMap.{value};
-ghost use Rattle.of_table.specs.Entries.{entry_of, flows_of, place_of as place_of_number};
+ghost use Rattle.of_table.specs.Entries.{entry_of, flows_of};
 ghost use Rattle.of_table.specs.Tables.{table_at, tables_of};
 ghost use Rattle.of_table.specs.Sound.{AreRowsOf};
 ghost use Rattle.of_datapath.specs.Numbers.{Contents, contents_of, forwarding_of};
@@ -35,35 +35,6 @@ struct Looking<'a, L: Lookup> {
     datapath: &'a Datapath<L>,
 }
 
-// The place of the entry of that number, from 0; how many there are where none has it.
-fn place_of(entries: Entries<'_>, number: usize) -> usize
-    requires { length entries ≤ 4096 }
-    ensures { result ≡ place_of_number number entries.entry }
-{
-    let mut left = entries;
-    let mut place = 0;
-    while let Some(entry) = left.next() {
-        if entry.number == number {
-            return place;
-        }
-        place += 1;
-    }
-    place
-}
-
-// The entry at a place, from 0.
-fn entry_at<'a>(entries: Entries<'a>, place: usize) -> Option<&'a Entry>
-    ensures { option_copied result ≡ slice_get entries.entry place }
-{
-    let mut left = entries;
-    let mut ahead = place;
-    while ahead > 0 {
-        left.next()?;
-        ahead -= 1;
-    }
-    left.next()
-}
-
 impl<L: Lookup> World for Looking<'_, L> {
     ghost view = { λ w. world_of (forwarding_of w.datapath.now) };
 
@@ -75,7 +46,7 @@ impl<L: Lookup> World for Looking<'_, L> {
         self.datapath.tables.known();
         if table < TABLES {
             let number = self.datapath.tables.peek(table, key)?;
-            Some(place_of(self.datapath.tables.entries(table), number))
+            Some(self.datapath.tables.place(table, number))
         } else {
             None
         }
@@ -83,7 +54,7 @@ impl<L: Lookup> World for Looking<'_, L> {
 
     fn flow(&self, table: u8, place: usize) -> &Flow {
         self.datapath.tables.known();
-        match entry_at(self.datapath.tables.entries(table), place) {
+        match self.datapath.tables.entries(table).at(place) {
             Some(entry) => &entry.flow,
             None => unreachable!(),
         }
@@ -130,7 +101,7 @@ impl<L: Lookup> Datapath<L> {
         requires { table < 16 }
         ensures { option_map (λ e. entry_of e.now) result ≡ slice_get (table_at table (tables_of self.now.tables)).flows place }
     {
-        entry_at(self.tables.entries(table), place)
+        self.tables.entries(table).at(place)
     }
 
     /// The entries of a table, oldest first (OpenFlow 1.3.5, 5.2).

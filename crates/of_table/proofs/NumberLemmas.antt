@@ -46,6 +46,17 @@ number_some number es k h =
 pub number_none : (number : ℕ) (es : List Entry) → position (λ e. eqb e.number number) es ≡ None → is_entry_there number es ≡ false
 number_none number es h = any-map entry_number (λ n. eqb n number) es ∙ position_none (λ e. eqb e.number number) es h
 
+past_all : (number : ℕ) (es : List Entry) → is_entry_there number es ≡ false → place_of number es ≡ length es
+past_all number [] h = refl
+past_all number (e ∷ es) h = by_test (eqb e.number number) refl (past_all number es)
+  where
+    by_test : (b : Bool) → eqb e.number number ≡ b → (is_entry_there number es ≡ false → place_of number es ≡ length es) → place_of number (e ∷ es) ≡ length (e ∷ es)
+    by_test true same ih = let no : true ≡ false = rw same at h in absurd cc
+    by_test false differs ih = let there : is_entry_there number es ≡ false = rw differs at h in let others = ih there in rw differs (omega (arith, others))
+
+pub number_past : (number : ℕ) (es : List Entry) → position (λ e. eqb e.number number) es ≡ None → place_of number es ≡ length es
+number_past number es h = past_all number es (number_none number es h)
+
 -- ---- the place of the first entry that passes is that of its number
 
 found_there : (p : Entry → Bool) (es : List Entry) (e : Entry) → find p es ≡ Some e → is_used entry_number e.number es ≡ true

@@ -394,6 +394,16 @@ impl<L: Lookup> FlowTable<L> {
         }
     }
 
+    /// The place of the entry of that number, from 0; how many there are where none has it.
+    pub fn place_or_end(&self, number: usize) -> usize
+        ensures { result ≡ place_of number self.now.entries }
+    {
+        match self.place(number) {
+            Some(place) => place,
+            None => self.entries().len(),
+        }
+    }
+
     /// The entries, oldest first.
     pub fn entries(&self) -> &[Entry]
         ensures { result.now ≡ self.now.entries }

@@ -253,6 +253,14 @@ impl<L: Lookup> FlowTables<L> {
         self.tables[table as usize].entry(number)
     }
 
+    /// The place by age of the entry of that number of a table, from 0; how many there are where none has it.
+    pub fn place(&self, table: u8, number: usize) -> usize
+        requires { table < 16 }
+        ensures { result ≡ place_of number (numbered_at table self.now).entries }
+    {
+        self.tables[table as usize].place_or_end(number)
+    }
+
     /// The entries of a table, oldest first.
     pub fn entries(&self, table: u8) -> Entries<'_>
         requires { table < 16 }

@@ -1,5 +1,7 @@
 //! Walks over the entries of a table.
 
+ghost use Rattle.std.specs.Prelude.{◌≡◌, slice_get};
+ghost use Rattle.std.specs.Option.{option_copied};
 ghost use Rattle.std.specs.Iterator.{YieldsFirstRef, item_count};
 
 use crate::entry::Entry;
@@ -18,6 +20,15 @@ impl<'a> Model for Entries<'a> {
     ghost Value = { List AnEntry };
 
     ghost view = { λ walk. walk.left.now };
+}
+
+impl<'a> Entries<'a> {
+    /// The entry at a place, from 0.
+    pub fn at(&self, place: usize) -> Option<&'a Entry>
+        ensures { option_copied result ≡ slice_get self.now place }
+    {
+        self.left.get(place)
+    }
 }
 
 impl<'a> Iterator for Entries<'a> {
