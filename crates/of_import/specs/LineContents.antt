@@ -61,12 +61,12 @@ group_content s = if length s.faults == 0 then group_or_why (finished_group s) e
 abbrev pub parsed_group : List ℕ → LineContent
 parsed_group text = group_content (with_words with_group_word no_group (words_from 0 text))
 
--- a group, also behind a command: `group_id=..`, `add group_id=..`
+-- a group, also behind a command: `group_id=..`, `type=..`, `add group_id=..`
 abbrev pub is_command_name : List ℕ → Bool
 is_command_name word = bytes_eq word (codes "add") || is_other_command word
 
 abbrev pub names_group_id : List ℕ → Bool
-names_group_id text = bytes_eq (word_name text) (codes "group_id")
+names_group_id text = bytes_eq (word_name text) (codes "group_id") || bytes_eq (word_name text) (codes "type")
 
 abbrev pub begins_group : List ℕ → Bool
 begins_group text = names_group_id text || (is_command_name (word_in 0 text) && names_group_id (trimmed (after_word 0 text)))

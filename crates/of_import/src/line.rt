@@ -202,7 +202,7 @@ fn is_command(word: &[u8]) -> bool
 fn names_group(text: &[u8]) -> bool
     ensures { result ≡ names_group_so text.now }
 {
-    is(name_of(text), b"group_id")
+    is(name_of(text), b"group_id") || is(name_of(text), b"type")
 }
 
 // Whether it is a group, also behind a command.

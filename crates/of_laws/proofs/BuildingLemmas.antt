@@ -28,7 +28,7 @@ use Rattle.of_text.specs.Configs.{Configuration, tables_of_flows}
 use Rattle.of_laws.specs.declared.fault.ConfigFault.{ConfigFault}
 use Rattle.of_laws.specs.declared.fault.ConfigFault.TheVariants.{Refused}
 use Rattle.of_laws.specs.declared.building.Listed.{Listed as InMemory}
-use Rattle.of_laws.specs.Built.{IsGroup, Listed, config_listed, earlier, listed_by, with_fault, with_listed_group}
+use Rattle.of_laws.specs.Built.{Listed, config_listed, earlier, group_listed, with_fault, with_listed_group}
 use Rattle.of_laws.specs.BuiltViews.{IsSoundListed, joined_with_later, or_later}
 
 and_parts : (a b : Bool) → (a && b) ≡ true → (a ≡ true) × (b ≡ true)
@@ -164,7 +164,7 @@ noted l l' fault rest f p g x e =
     let r = rest l.least in
     rw (f, p, g, x, e) (ap (λ (o : Option ConfigFault). record { places = l.places.items ++ r.places; groups = view_groups l.groups.items ++ r.groups; flows = view_flows l.flows.items ++ r.flows; fault = o }) (first_stays l.fault fault r.fault))
 
-pub group_in : (place least : ℕ) (g : TextGroup) (rest : ℕ → Listed) → least ≤ g.head.id → listed_by place least (IsGroup g) rest ≡ with_listed_group place g (rest (g.head.id + 1))
+pub group_in : (place least : ℕ) (g : TextGroup) (rest : ℕ → Listed) → least ≤ g.head.id → group_listed place least g rest ≡ with_listed_group place g (rest (g.head.id + 1))
 group_in place least g rest le = rw (le-leb least g.head.id le) refl
 
 -- ---- it may stand in a flow text

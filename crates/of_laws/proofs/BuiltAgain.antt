@@ -49,7 +49,7 @@ group_says : (all : List Group) (g : TextGroup) → IsSentGroup all g → SaysGr
 group_says all g s xid =
     let outer = and_parts (are_fit (buckets_of g) && not (is_bad_watch g.head.kind (buckets_of g))) (not (is_not_one g.head.kind (buckets_of g))) s.fit in
     let inner = and_parts (are_fit (buckets_of g)) (not (is_bad_watch g.head.kind (buckets_of g))) outer.0 in
-    ap said_by (group_add_again xid (new_of g) s.number s.numbers inner.0) ∙ ap (λ (bs : List TextBucket). IsGroup (record { head = g.head; buckets = bs })) (buckets_same g.buckets)
+    ap (said_by (group_add_bytes xid (new_of g))) (group_add_again xid (new_of g) s.number s.numbers inner.0) ∙ ap (λ (bs : List TextBucket). IsGroup (record { head = g.head; buckets = bs })) (buckets_same g.buckets)
 
 groups_say : (all : List Group) (gs : List TextGroup) → AllByRecursion (IsSentGroup all) gs → AllByRecursion SaysGroup gs
 groups_say all [] h = tt
@@ -65,7 +65,7 @@ flow_says table f s flags xid small =
     let fit : are_for f.head.table f.instructions ≡ true = rw (s.own) s.entry.leads_on in
     let fits : FitsCells (flow_mod_cells (add_of f)) = (s.head.2, (omega arith, (omega (arith, low), (omega arith, (s.head.3, (s.head.4, (s.head.1, (omega arith, (omega arith, (omega arith, (omega (arith, few), tt))))))))))) in
     let encoded = flow_mod_encoded xid (add_of f) small fits (record { table = low; flags = omega (arith, few); fit = s.entry.checked }) s.entry.fields s.entry.kept fit (λ deleted. absurd cc) in
-    ap said_by (only xid (AFlowMod (add_of f)) (flow_mod_bytes xid (add_of f)) encoded)
+    ap (said_by (flow_mod_bytes xid (add_of f))) (only xid (AFlowMod (add_of f)) (flow_mod_bytes xid (add_of f)) encoded)
 
 table_says : (gs : List TextGroup) (table : ℕ) (before fs : List Flow) → AllByRecursion (IsSent table) fs → AllStandBehind gs before fs → AllByRecursion SaysFlow fs
 table_says gs table before [] h stand = tt

@@ -1,6 +1,6 @@
 -- THE CONFIGURATION THAT A LIST OF MESSAGES SAYS, beside each other: GROUP_MODs that add groups, in ascending order of number, and then FLOW_MODs that add flows (OpenFlow 1.3.5, 7.3.4.1 and 7.3.4.2); or the first of them that is at fault.
-use Rattle.std.specs.Prelude.{ℕ, ◌+◌, ◌==◌, ◌&&◌, nat_le, nat_lt, Bool, true, false, List, [], ◌∷◌, slice_index_or, Option, Some, None, Result, Ok, Err, if◌then◌else◌}
-use Rattle.of_wire.specs.declared.limits.TheConstants.{OFP_NO_BUFFER}
+use Rattle.std.specs.Prelude.{ℕ, ◌+◌, ◌==◌, ◌&&◌, nat_le, nat_lt, Bool, true, false, List, [], ◌∷◌, length, slice_index_or, Option, Some, None, Result, Ok, Err, if◌then◌else◌}
+use Rattle.of_wire.specs.declared.limits.TheConstants.{OFPG_MAX, OFP_NO_BUFFER}
 use Rattle.of_wire.specs.declared.code.Code.{Code}
 use Rattle.of_messages.specs.declared.message.Message.{Message}
 use Rattle.of_messages.specs.declared.message.Message.TheVariants.{FlowMod as AFlowMod, GroupMod as AGroupMod}
@@ -8,7 +8,11 @@ use Rattle.of_messages.specs.declared.message.FlowMod.{FlowMod}
 use Rattle.of_messages.specs.declared.message.FlowModCommand.{FlowModCommand}
 use Rattle.of_messages.specs.declared.message.FlowModCommand.TheVariants as command
 use Rattle.of_messages.specs.declared.group_mod.GroupMod.TheVariants.{Add}
-use Rattle.of_messages.specs.Messages.{message_of}
+use Rattle.of_messages.specs.Messages.{message_of, type_of}
+use Rattle.of_formats.specs.declared.messages.TheConstants.{GROUP_MOD}
+use Rattle.of_formats.specs.Structs.{numbers}
+use Rattle.of_formats.specs.Tables as tables
+use Rattle.of_groups.specs.declared.group.GroupKind.TheVariants.{All}
 use Rattle.of_text.specs.Groups.{TextGroup}
 use Rattle.of_text.specs.Flows.{Flow}
 use Rattle.of_text.specs.First.{first_refusal}
@@ -24,8 +28,8 @@ pub data Said : Type 0 where
   IsFlow : (flow : Flow) → Said
   -- neither
   Other : Said
-  -- it is refused by itself
-  Bad : (code : Code) → Said
+  -- it is refused by itself; the group that it would add counts as there
+  Bad : (code : Code) → (counted : Option TextGroup) → Said
 
 abbrev pub flow_said : FlowMod → Flow
 flow_said m = record {
@@ -44,13 +48,21 @@ added_by_message (AGroupMod (Add g)) = IsGroup (new_group_text g)
 added_by_message (AFlowMod m) = if is_add_command m.command && m.buffer == OFP_NO_BUFFER then IsFlow (flow_said m) else Other
 added_by_message other = Other
 
-abbrev pub said_by : Result Message Code → Said
-said_by (Ok message) = added_by_message message
-said_by (Err code) = Bad code
+-- of a GROUP_MOD that is refused, with OFPGC_ADD and a number that a group may have: the group without buckets, so it names no group
+abbrev pub bare_group : List ℕ → Option TextGroup
+bare_group (command ∷ type ∷ id ∷ []) = if command == 0 && nat_le id OFPG_MAX then Some (record { head = record { id = id; kind = All }; buckets = [] }) else None
+bare_group other = None
+
+abbrev pub counted_group : List ℕ → Option TextGroup
+counted_group m = if nat_le 16 (length m) && type_of m == GROUP_MOD then bare_group (numbers tables.group_mod 8 m) else None
+
+abbrev pub said_by : List ℕ → Result Message Code → Said
+said_by m (Ok message) = added_by_message message
+said_by m (Err code) = Bad code (counted_group m)
 
 -- as it is read by itself, from a controller whose role is equal
 abbrev pub message_said : List ℕ → Said
-message_said m = said_by (message_of m)
+message_said m = said_by m (message_of m)
 
 -- ---- WHAT THE MESSAGES ADD: groups and flows, with the places of their messages, and the first that is at fault by itself or where it stands
 
@@ -73,11 +85,15 @@ abbrev pub with_fault : ConfigFault → Listed → Listed
 with_fault fault l = record l { fault = Some fault }
 
 -- A group's number is this one at least, and the next group's is higher; after a flow comes none. `rest` is what follows.
+abbrev pub group_listed : (place least : ℕ) → TextGroup → (rest : ℕ → Listed) → Listed
+group_listed place least g rest = if nat_le least g.head.id then with_listed_group place g (rest (g.head.id + 1)) else with_fault (NotACommand place) (rest least)
+
 abbrev pub listed_by : (place least : ℕ) → Said → (rest : ℕ → Listed) → Listed
-listed_by place least (IsGroup g) rest = if nat_le least g.head.id then with_listed_group place g (rest (g.head.id + 1)) else with_fault (NotACommand place) (rest least)
+listed_by place least (IsGroup g) rest = group_listed place least g rest
 listed_by place least (IsFlow f) rest = with_listed_flow place f (rest 0x100000000)
 listed_by place least Other rest = with_fault (NotACommand place) (rest least)
-listed_by place least (Bad code) rest = with_fault (Refused place code) (rest least)
+listed_by place least (Bad code None) rest = with_fault (Refused place code) (rest least)
+listed_by place least (Bad code (Some g)) rest = with_fault (Refused place code) (group_listed place least g rest)
 
 abbrev pub listed_messages : (place least : ℕ) → List (List ℕ) → Listed
 listed_messages place least [] = nothing_listed

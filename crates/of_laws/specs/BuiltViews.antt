@@ -1,5 +1,6 @@
 -- What the code keeps of messages while a configuration is built. No public clause cites this module.
 use Rattle.std.specs.Prelude.{◌≡◌, ◌<◌, ◌++◌, true, Option, Some, None}
+use Rattle.std.specs.Option.{option_map}
 use Rattle.std.specs.List.{AllByRecursion}
 use Rattle.of_actions.specs.Rising.{is_ascending}
 use Rattle.of_text.specs.Groups.{group_rows}
@@ -16,13 +17,14 @@ abbrev pub view_said : Declared → Said
 view_said (variants.Group g) = IsGroup (view_group g)
 view_said (variants.Flow f) = IsFlow (view f)
 view_said variants.Other = Other
-view_said (variants.Bad code) = Bad code
+view_said (variants.Bad code counted) = Bad code (option_map view_group counted)
 
 abbrev pub IsSoundSaid : Declared → Type 0
 IsSoundSaid (variants.Group g) = AllByRecursion Fits (group_rows (view_group g))
 IsSoundSaid (variants.Flow f) = IsKeptFlow (view f)
 IsSoundSaid variants.Other = Unit {0}
-IsSoundSaid (variants.Bad code) = Unit {0}
+IsSoundSaid (variants.Bad code None) = Unit {0}
+IsSoundSaid (variants.Bad code (Some g)) = AllByRecursion Fits (group_rows (view_group g))
 
 -- the first, else the other
 abbrev pub or_later : Option ConfigFault → Option ConfigFault → Option ConfigFault

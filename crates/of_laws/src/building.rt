@@ -1,18 +1,22 @@
 //! The configuration that a list of messages says.
-ghost use Rattle.std.specs.Prelude.{◌≡◌, ◌⊎◌, ℕ, [], Ok, Err, Some, IfOk, IfErr, OnOk};
+ghost use Rattle.std.specs.Prelude.{◌≡◌, ◌⊎◌, ℕ, [], Ok, Err, Some, IfOk, IfSome, IfErr, OnOk};
 ghost use Rattle.std.specs.List.{AllByRecursion};
+ghost use Rattle.std.specs.Option.{option_map};
 ghost use Rattle.of_text.specs.Groups.{group_rows};
 ghost use Rattle.of_text.specs.Kept.{IsKeptFlow};
 ghost use Rattle.of_text.specs.Rows.{Fits};
 ghost use Rattle.of_text.specs.Views.{view, view_group};
-ghost use Rattle.of_laws.specs.Built.{IsFlow, IsGroup, Listed as AllListed, added_by_message, config_listed, config_said, earlier, flow_said, listed_messages, listed_by, nothing_listed, fault_place as place_is, message_said};
+ghost use Rattle.of_laws.specs.Built.{IsFlow, Listed as AllListed, added_by_message, config_listed, counted_group, group_listed, config_said, earlier, flow_said, listed_messages, listed_by, nothing_listed, fault_place as place_is, message_said};
 ghost use Rattle.of_laws.specs.BuiltViews.{IsSoundListed, IsSoundSaid, joined_with_later, or_later, view_said};
 
 use crate::fault::ConfigFault;
+use byteorder::{BigEndian, ByteOrder};
 use of_build::group_text;
+use of_formats::messages::GROUP_MOD;
+use of_groups::GroupKind;
 use of_messages::{FlowMod, FlowModCommand, GroupMod, Message, read_message};
-use of_text::{Config, FillError, FlowHead, FlowText, GroupText};
-use of_wire::limits::OFP_NO_BUFFER;
+use of_text::{Config, FillError, FlowHead, FlowText, GroupHead, GroupText};
+use of_wire::limits::{OFP_NO_BUFFER, OFPG_MAX};
 use of_wire::{Bytes, Code, ReadError, number_at};
 use std::alloc::{AllocError, Global};
 
@@ -25,8 +29,8 @@ enum Said {
     Group(GroupText),
     Flow(FlowText),
     Other,
-    // it is refused by itself
-    Bad(Code),
+    // it is refused by itself; the group that it would add counts as there
+    Bad(Code, Option<GroupText>),
 }
 
 fn flow_from(alloc: Global, flow_mod: &FlowMod) -> Result<FlowText, AllocError>
@@ -62,6 +66,25 @@ fn said_of(alloc: Global, message: Message) -> Result<Said, AllocError>
     }
 }
 
+// The group that a refused message would add: without buckets, so it names no group.
+fn counted_in(alloc: Global, message: &[u8]) -> Option<GroupText>
+    ensures counted { option_map view_group result ≡ counted_group message.now }
+    ensures sound { IfSome result (λ g. AllByRecursion Fits (group_rows (view_group g))) }
+{
+    if message.len() < 16 || message[1] != GROUP_MOD || BigEndian::read_u16(&message[8..]) != 0 {
+        return None;
+    }
+    let id = BigEndian::read_u32(&message[12..]);
+    if id > OFPG_MAX {
+        return None;
+    }
+    let kind = GroupKind::All;
+    Some(GroupText {
+        head: GroupHead { id, kind },
+        buckets: Vec::new(alloc),
+    })
+}
+
 // What the bytes of a message add.
 fn read(alloc: Global, message: &[u8]) -> Result<Said, AllocError>
     ensures says { IfOk result (λ s. view_said s ≡ message_said message.now) }
@@ -69,7 +92,7 @@ fn read(alloc: Global, message: &[u8]) -> Result<Said, AllocError>
 {
     match read_message(alloc, message) {
         Ok(message) => said_of(alloc, message),
-        Err(ReadError::Refused(code)) => Ok(Said::Bad(code)),
+        Err(ReadError::Refused(code)) => Ok(Said::Bad(code, counted_in(alloc, message))),
         Err(ReadError::Memory) => Err(AllocError),
     }
 }
@@ -117,7 +140,7 @@ impl Listed {
         requires fits { AllByRecursion Fits (group_rows (view_group group)) }
         requires sound { IsSoundListed self.old }
         ensures goes_on { OnOk result ((rest : ℕ → AllListed) →
-            joined_with_later self.old (listed_by place self.old.least (IsGroup (view_group group)) rest) ≡ joined_with_later self.new (rest self.new.least)) }
+            joined_with_later self.old (group_listed place self.old.least (view_group group) rest) ≡ joined_with_later self.new (rest self.new.least)) }
         ensures sound { OnOk result (IsSoundListed self.new) }
     {
         let id = u64::from(group.head.id);
@@ -161,9 +184,13 @@ impl Listed {
                 self.note(ConfigFault::NotACommand { place });
                 Ok(())
             }
-            Said::Bad(code) => {
+            Said::Bad(code, None) => {
                 self.note(ConfigFault::Refused { place, code });
                 Ok(())
+            }
+            Said::Bad(code, Some(group)) => {
+                self.note(ConfigFault::Refused { place, code });
+                self.push_group(place, group)
             }
         }
     }
@@ -232,7 +259,8 @@ fn configured(alloc: Global, all: Listed) -> Result<Config, ConfigFault>
 /// stands out of order or names a held packet (`NotACommand`); or that is refused, with the code of its first refusal: as it
 /// is read by itself, or else as a group or a flow of a flow text is, beside all groups of the list and the flows before it.
 /// So flags other than 1, 8 and 16 are OFPFMFC_BAD_FLAGS, a match and priority that the table has OFPFMFC_OVERLAP, and a
-/// group that the list does not have OFPBAC_BAD_OUT_GROUP. Transaction ids, out_port, out_group and masks are not looked at.
+/// group that the list does not have OFPBAC_BAD_OUT_GROUP. A group whose GROUP_MOD is refused by itself counts as there, so that
+/// groups and flows may name it. Transaction ids, out_port, out_group and masks are not looked at.
 pub fn build(alloc: Global, messages: &[Bytes]) -> Result<Config, ConfigFault>
     ensures given { IfOk result (λ config. config_said messages.now ≡ Ok config) }
     ensures failed { IfErr result (λ fault. (fault ≡ ConfigFault.NoMemory) ⊎ (config_said messages.now ≡ Err fault)) }

@@ -1,5 +1,5 @@
--- NUMBERS IN WORDS: decimal, or hexadecimal after 0x.
-use Rattle.std.specs.Prelude.{ℕ, ◌+◌, ◌-◌, ◌*◌, ◌==◌, ◌&&◌, Bool, not, nat_le, nat_lt, List, [], ◌∷◌, length, slice_index, codes, Option, Some, None, if◌then◌else◌}
+-- NUMBERS IN WORDS: decimal, or hexadecimal after 0x or 0X.
+use Rattle.std.specs.Prelude.{ℕ, ◌+◌, ◌-◌, ◌*◌, ◌==◌, ◌&&◌, Bool, nat_le, nat_lt, List, [], ◌∷◌, length, slice_index, codes, Option, Some, None, if◌then◌else◌}
 use Rattle.std.specs.Str.{bytes_eq}
 use Rattle.of_lines.specs.Lines.{before, behind}
 use Rattle.of_lines.specs.Reading.{below, ◌>>=◌}
@@ -36,8 +36,12 @@ is_octal word = slice_index word 0 == 48 && nat_lt 1 (length word)
 abbrev pub decimal_number : ℕ → List ℕ → Option ℕ
 decimal_number limit word = if is_octal word then None else some_digits 10 limit word
 
+-- what stands behind 0x or 0X
+abbrev pub hexadecimal_digits : List ℕ → List ℕ
+hexadecimal_digits word =
+    if bytes_eq (before 120 word) (codes "0") then behind 120 word
+    else if bytes_eq (before 88 word) (codes "0") then behind 88 word
+    else []
+
 abbrev pub number_in : ℕ → List ℕ → Option ℕ
-number_in limit word =
-    if bytes_eq (before 120 word) (codes "0") && not (length (behind 120 word) == 0)
-    then some_digits 16 limit (behind 120 word)
-    else decimal_number limit word
+number_in limit word = if length (hexadecimal_digits word) == 0 then decimal_number limit word else some_digits 16 limit (hexadecimal_digits word)

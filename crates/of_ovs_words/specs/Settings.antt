@@ -10,7 +10,7 @@ use Rattle.of_ovs_words.specs.declared.why.Why.TheVariants as whys
 use Rattle.of_ovs_words.specs.declared.field_word.Form.{Form}
 use Rattle.of_ovs_words.specs.declared.field_word.Form.TheVariants.{Number, Port, Mac, Ipv4, Ipv6, Tos, Vlan, Tci}
 use Rattle.of_ovs_words.specs.declared.field_word.Target.{Target}
-use Rattle.of_ovs_words.specs.declared.field_word.Target.TheVariants.{Exact, Protocol, NetworkSource, NetworkDestination, TransportSource, TransportDestination, IcmpType, IcmpCode}
+use Rattle.of_ovs_words.specs.declared.field_word.Target.TheVariants.{Exact, Protocol, NetworkSource, NetworkDestination, TransportSource, TransportDestination, SourceOrType, DestinationOrCode, IcmpType, IcmpCode}
 use Rattle.of_lines.specs.Lines.{before, behind}
 use Rattle.of_ovs_words.specs.Numbers.{number_in}
 use Rattle.of_ovs_words.specs.Outcomes.{◌>>=◌, value_or_why}
@@ -36,6 +36,9 @@ by_ethertype settings ethertype f other = Some (if says fields.EthType ethertype
 abbrev pub if_tcp_or_udp : List MatchField → Field → Field → Option Field
 if_tcp_or_udp settings f other = if says fields.IpProto 6 settings then Some f else if says fields.IpProto 17 settings then Some other else None
 
+abbrev pub if_icmp : List MatchField → Field → Field → Option Field → Option Field
+if_icmp settings f other rest = if says fields.IpProto 1 settings then Some f else if says fields.IpProto 58 settings then Some other else rest
+
 -- the field that a word is for, after these settings
 unfoldable pub field_for : Target → List MatchField → Option Field
 field_for (Exact f) settings = Some f
@@ -44,6 +47,8 @@ field_for NetworkSource settings = by_ethertype settings 0x0806 fields.ArpSpa fi
 field_for NetworkDestination settings = by_ethertype settings 0x0806 fields.ArpTpa fields.Ipv4Dst
 field_for TransportSource settings = if_tcp_or_udp settings fields.TcpSrc fields.UdpSrc
 field_for TransportDestination settings = if_tcp_or_udp settings fields.TcpDst fields.UdpDst
+field_for SourceOrType settings = if_icmp settings fields.Icmpv4Type fields.Icmpv6Type (if_tcp_or_udp settings fields.TcpSrc fields.UdpSrc)
+field_for DestinationOrCode settings = if_icmp settings fields.Icmpv4Code fields.Icmpv6Code (if_tcp_or_udp settings fields.TcpDst fields.UdpDst)
 field_for IcmpType settings = by_ethertype settings 0x86dd fields.Icmpv6Type fields.Icmpv4Type
 field_for IcmpCode settings = by_ethertype settings 0x86dd fields.Icmpv6Code fields.Icmpv4Code
 

@@ -44,7 +44,7 @@ pub enum Verb {
 /// A word for an action or an instruction: its text, which spaces fill up, and what it does.
 #[derive(Clone, Copy)]
 pub struct ActionWord {
-    pub text: [u8; 16],
+    pub text: [u8; 20],
     pub verb: Verb,
 }
 

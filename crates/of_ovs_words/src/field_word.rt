@@ -23,6 +23,10 @@ pub enum Target {
     TransportSource,
     /// TCP_DST of TCP, UDP_DST of UDP.
     TransportDestination,
+    /// The type of ICMP or ICMPv6, else as `TransportSource`.
+    SourceOrType,
+    /// The code of ICMP or ICMPv6, else as `TransportDestination`.
+    DestinationOrCode,
     /// ICMPV6_TYPE of IPv6, else ICMPV4_TYPE.
     IcmpType,
     /// ICMPV6_CODE of IPv6, else ICMPV4_CODE.
@@ -53,7 +57,7 @@ pub enum Form {
 /// A word for a match field: its text, which spaces fill up, which field it is for, and how its value is written.
 #[derive(Clone, Copy)]
 pub struct FieldWord {
-    pub text: [u8; 16],
+    pub text: [u8; 20],
     pub target: Target,
     pub form: Form,
 }
@@ -100,8 +104,8 @@ pub const FIELD_WORDS: [FieldWord; 41] = [
     field!(b"ip_src", NetworkSource, Ipv4),
     field!(b"nw_dst", NetworkDestination, Ipv4),
     field!(b"ip_dst", NetworkDestination, Ipv4),
-    field!(b"tp_src", TransportSource, Number),
-    field!(b"tp_dst", TransportDestination, Number),
+    field!(b"tp_src", SourceOrType, Number),
+    field!(b"tp_dst", DestinationOrCode, Number),
     field!(b"tcp_src", Exact(TcpSrc), Number),
     field!(b"tcp_dst", Exact(TcpDst), Number),
     field!(b"udp_src", Exact(UdpSrc), Number),

@@ -25,7 +25,7 @@ pub enum Part {
 /// A word for a flow beside its match and its actions: its text, which spaces fill up, and what it is of the flow.
 #[derive(Clone, Copy)]
 pub struct HeadWord {
-    pub text: [u8; 16],
+    pub text: [u8; 20],
     pub part: Part,
 }
 
@@ -39,7 +39,7 @@ macro_rules! head {
 }
 
 /// Each word once.
-pub const HEAD_WORDS: [HeadWord; 20] = [
+pub const HEAD_WORDS: [HeadWord; 22] = [
     head!(b"cookie", Part::Cookie),
     head!(b"table", Part::Table),
     head!(b"priority", Part::Priority),
@@ -50,6 +50,8 @@ pub const HEAD_WORDS: [HeadWord; 20] = [
     head!(b"no_byte_counts", Part::Flag(16)),
     head!(b"check_overlap", Part::Passed),
     head!(b"reset_counts", Part::Passed),
+    head!(b"importance", Part::Passed),
+    head!(b"allow_hidden_fields", Part::Passed),
     head!(b"duration", Part::Passed),
     head!(b"n_packets", Part::Passed),
     head!(b"n_bytes", Part::Passed),

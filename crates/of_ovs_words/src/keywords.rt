@@ -6,11 +6,11 @@ ghost use Rattle.of_wire.specs.Parts.{keyword};
 
 use of_wire::keyword;
 
-/// A word of 1 to 16 bytes as an array, which spaces fill up. The check refuses another one: it has no byte at that index.
+/// A word of 1 to 20 bytes as an array, which spaces fill up. The check refuses another one: it has no byte at that index.
 macro_rules! padded {
     ($word:expr) => {
         [
-            $word[if 16 < $word.len() { $word.len() } else { 0 }],
+            $word[if 20 < $word.len() { $word.len() } else { 0 }],
             if 1 < $word.len() { $word[1] } else { b' ' },
             if 2 < $word.len() { $word[2] } else { b' ' },
             if 3 < $word.len() { $word[3] } else { b' ' },
@@ -26,6 +26,10 @@ macro_rules! padded {
             if 13 < $word.len() { $word[13] } else { b' ' },
             if 14 < $word.len() { $word[14] } else { b' ' },
             if 15 < $word.len() { $word[15] } else { b' ' },
+            if 16 < $word.len() { $word[16] } else { b' ' },
+            if 17 < $word.len() { $word[17] } else { b' ' },
+            if 18 < $word.len() { $word[18] } else { b' ' },
+            if 19 < $word.len() { $word[19] } else { b' ' },
         ]
     };
 }

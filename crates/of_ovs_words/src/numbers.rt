@@ -1,7 +1,7 @@
 //! Numbers in words.
 ghost use Rattle.std.specs.Prelude.{◌≡◌, ◌≤◌, ◌<◌, ◌+◌, ◌*◌, ◌^◌, IfOk, IfSome, Some, None};
 ghost use Rattle.of_lines.specs.Reading.{below};
-ghost use Rattle.of_ovs_words.specs.Numbers.{decimal_number as decimal_of, digit as digit_of, digit_in as digit_below, digits_in as value_of_digits, is_octal as leads_with_zero, some_digits as value_of_some, number_in as number_of};
+ghost use Rattle.of_ovs_words.specs.Numbers.{decimal_number as decimal_of, digit as digit_of, digit_in as digit_below, digits_in as value_of_digits, hexadecimal_digits as digits_behind, is_octal as leads_with_zero, some_digits as value_of_some, number_in as number_of};
 ghost use Rattle.of_ovs_words.specs.Outcomes.{numbered as numbered_of};
 
 use crate::why::Why;
@@ -93,17 +93,29 @@ pub fn decimal_number(limit: u128, word: &[u8]) -> Option<u128>
     }
 }
 
-/// A number below the limit, decimal or hexadecimal after 0x.
+// What stands behind 0x or 0X.
+fn hexadecimal_digits(word: &[u8]) -> &[u8]
+    ensures { result.now ≡ digits_behind word.now }
+{
+    let (zero, digits) = cut(word, b'x');
+    if is(zero, b"0") {
+        return digits;
+    }
+    let (zero, digits) = cut(word, b'X');
+    if is(zero, b"0") { digits } else { &[] }
+}
+
+/// A number below the limit, decimal or hexadecimal after 0x or 0X.
 pub fn number_in(limit: u128, word: &[u8]) -> Option<u128>
     requires { limit ≤ 2 ^ 64 }
     ensures value { result ≡ number_of limit word.now }
     ensures small { IfSome result (λ n. n < limit) }
 {
-    let (zero, digits) = cut(word, b'x');
-    if is(zero, b"0") && !digits.is_empty() {
-        some_digits(16, limit, digits)
-    } else {
+    let digits = hexadecimal_digits(word);
+    if digits.is_empty() {
         decimal_number(limit, word)
+    } else {
+        some_digits(16, limit, digits)
     }
 }
 

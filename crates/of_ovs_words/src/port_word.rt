@@ -9,7 +9,7 @@ use of_wire::limits::{OFPP_ALL, OFPP_CONTROLLER, OFPP_FLOOD, OFPP_IN_PORT};
 /// name it.
 #[derive(Clone, Copy)]
 pub struct PortWord {
-    pub text: [u8; 16],
+    pub text: [u8; 20],
     pub number: Option<u32>,
 }
 

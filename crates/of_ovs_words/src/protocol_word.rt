@@ -7,7 +7,7 @@ use crate::keywords::{is_keyword, padded};
 /// A word for a protocol: its text, which spaces fill up, and the ETH_TYPE and the IP_PROTO that it stands for.
 #[derive(Clone, Copy)]
 pub struct ProtocolWord {
-    pub text: [u8; 16],
+    pub text: [u8; 20],
     pub ethertype: u16,
     pub protocol: Option<u8>,
 }

@@ -1,7 +1,7 @@
 //! The meaning of words for a match.
 ghost use Rattle.std.specs.Prelude.{◌≡◌, ◌≤◌, ◌<◌, ◌^◌, IfOk, IfSome, Some, None};
 ghost use Rattle.of_layers.specs.Fields.{ones_of};
-ghost use Rattle.of_ovs_words.specs.Settings.{by_ethertype as by_type, if_tcp_or_udp as tcp_or_udp, bits_in as bits_of, field_for as field_of, fitting_in as fitting_of, ipv4_mask_in as ipv4_mask_of, ipv6_mask_in as ipv6_mask_of, last_of, mask_by_form as mask_of, masked as masked_by, number_for as number_of, says as says_of, setting_in as setting_of, setting_under as under_bits, value_in as value_of, vlan_in as vlan_of};
+ghost use Rattle.of_ovs_words.specs.Settings.{by_ethertype as by_type, if_icmp as icmp, if_tcp_or_udp as tcp_or_udp, bits_in as bits_of, field_for as field_of, fitting_in as fitting_of, ipv4_mask_in as ipv4_mask_of, ipv6_mask_in as ipv6_mask_of, last_of, mask_by_form as mask_of, masked as masked_by, number_for as number_of, says as says_of, setting_in as setting_of, setting_under as under_bits, value_in as value_of, vlan_in as vlan_of};
 
 use crate::field_word::{Form, Target};
 use crate::ipv6::ipv6_in;
@@ -61,6 +61,23 @@ fn if_tcp_or_udp(settings: &[MatchField], field: Field, other: Field) -> Option<
     }
 }
 
+fn if_icmp(
+    settings: &[MatchField],
+    field: Field,
+    other: Field,
+    rest: Option<Field>,
+) -> Option<Field>
+    ensures { result ≡ icmp settings.now field other rest }
+{
+    if says(settings, Field::IpProto, 1) {
+        Some(field)
+    } else if says(settings, Field::IpProto, 58) {
+        Some(other)
+    } else {
+        rest
+    }
+}
+
 /// The field that a word is for, after these settings.
 #[tactic(auto, unfolding(crate::specs::Settings::field_for))]
 pub fn field_for(target: Target, settings: &[MatchField]) -> Option<Field>
@@ -78,6 +95,14 @@ pub fn field_for(target: Target, settings: &[MatchField]) -> Option<Field>
         )),
         Target::TransportSource => if_tcp_or_udp(settings, Field::TcpSrc, Field::UdpSrc),
         Target::TransportDestination => if_tcp_or_udp(settings, Field::TcpDst, Field::UdpDst),
+        Target::SourceOrType => {
+            let ports = if_tcp_or_udp(settings, Field::TcpSrc, Field::UdpSrc);
+            if_icmp(settings, Field::Icmpv4Type, Field::Icmpv6Type, ports)
+        }
+        Target::DestinationOrCode => {
+            let ports = if_tcp_or_udp(settings, Field::TcpDst, Field::UdpDst);
+            if_icmp(settings, Field::Icmpv4Code, Field::Icmpv6Code, ports)
+        }
         Target::IcmpType => Some(by_ethertype(
             settings,
             IPV6,

@@ -15,5 +15,5 @@ pub use laws::{
 };
 pub use of_datapath::{Effect, Effects};
 pub use port_change::PortChange;
-pub use switch::Switch;
+pub use switch::{Seed, Switch};
 pub use switch_error::SwitchError;

@@ -54,22 +54,26 @@ impl<L: Lookup> Model for Switch<L> {
     ghost view = { λ s. record { connection = s.session; core = s.core } };
 }
 
+/// The secret by which a switch hashes.
+#[derive(Clone, Copy)]
+pub struct Seed(pub u64);
+
 impl<L: Lookup> Switch<L> {
     /// A switch with that datapath_id (OpenFlow 1.3.5, 7.3.1), without a connection, flows, groups, ports and held frames.
     pub fn new(alloc: Global, dpid: u64) -> Result<Self, AllocError>
         ensures { IfOk result (λ s. s ≡ start dpid) }
     {
-        Switch::with_seed(alloc, dpid, 0)
+        Switch::with_seed(alloc, dpid, Seed(0))
     }
 
     /// The same. Nothing that it does depends on the seed, but who does not know it cannot pick flows and frames whose hashes are the
     /// same, which would make lookups late.
-    pub fn with_seed(alloc: Global, dpid: u64, seed: u64) -> Result<Self, AllocError>
+    pub fn with_seed(alloc: Global, dpid: u64, seed: Seed) -> Result<Self, AllocError>
         ensures { IfOk result (λ s. s ≡ start dpid) }
     {
         Ok(Switch {
             session: Session::new(alloc),
-            core: Core::new(alloc, dpid, seed)?,
+            core: Core::new(alloc, dpid, seed.0)?,
             alloc,
         })
     }

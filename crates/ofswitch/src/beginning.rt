@@ -6,7 +6,7 @@ use of_explain::push_message;
 use of_files::first_events;
 use of_replay::Ended;
 use of_sockets::Teller;
-use of_switch::{Effect, Event, Report, Switch};
+use of_switch::{Effect, Event, Report, Seed, Switch};
 use std::alloc::{AllocError, Global};
 
 /// The type of an ERROR (OpenFlow 1.3.5, 7.1).
@@ -59,7 +59,7 @@ fn say_errors(teller: &Teller<'_>, report: &Report) -> Result<(), AllocError> {
 pub fn begun_switch(
     teller: &Teller<'_>,
     dpid: u64,
-    seed: u64,
+    seed: Seed,
     first: &[Event],
 ) -> Result<Switch<Lookups>, AllocError> {
     let mut switch = Switch::<Lookups>::with_seed(teller.rt.alloc(), dpid, seed)?;

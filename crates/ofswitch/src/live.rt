@@ -9,7 +9,7 @@ use of_network::Peer;
 use of_replay::Ended;
 use of_sockets::Teller;
 use of_sockets::live::{PortRows, Sockets, endpoint_of, is_own};
-use of_switch::{Event, PortChange};
+use of_switch::{Event, PortChange, Seed};
 use std::alloc::AllocError;
 
 // The change that adds port N: its hardware address is 02, the low three bytes of the datapath_id and the number; pN, up.
@@ -104,7 +104,7 @@ fn begun(
     asked: &Asked,
     first: &[Event],
     rows: Vec<Event>,
-    seed: u64,
+    seed: Seed,
 ) -> Result<Live<Lookups>, AllocError> {
     let rt = teller.rt;
     let mut all = first_ports(rt, asked)?;
