@@ -6,5 +6,5 @@ use Rattle.of_datapath.proofs.datapath.Datapath.entry.Goals as goal
 
 pub returns : goal.returns
 returns g c =
-    entry_without c.args.self.now.tables c.args.table c.args.place c.entry_at.result
-    (c.entry_at.ensures ∙ ap (λ (xs : List Entry). slice_get xs c.args.place) c.entries.ensures)
+    entry_without c.args.self.now.tables c.args.table c.args.place c.at.result
+    (c.at.ensures ∙ ap (λ (xs : List Entry). slice_get xs c.args.place) c.entries.ensures)
