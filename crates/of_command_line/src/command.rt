@@ -588,14 +588,14 @@ const LIVE_ARGUMENTS: [Argument; 13] = [
 ];
 
 // A subcommand: its name, its help before and after the arguments, and its arguments.
-struct Subcommand {
-    name: &'static str,
-    about: &'static str,
+pub(crate) struct Subcommand {
+    pub(crate) name: &'static str,
+    pub(crate) about: &'static str,
     text: &'static str,
-    arguments: &'static [Argument],
+    pub(crate) arguments: &'static [Argument],
 }
 
-const SUBCOMMANDS: [Subcommand; 12] = [
+pub(crate) const SUBCOMMANDS: [Subcommand; 12] = [
     Subcommand {
         name: "replay",
         about: "Runs an event file on a new switch and prints the effects",

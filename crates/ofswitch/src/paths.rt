@@ -1,7 +1,8 @@
 //! Paths of the frames of a switch.
-use crate::files::{Described, NoFile, has_port, read_switch, say_missing};
+use crate::files::{NoFile, has_port, read_switch, say_missing};
 use crate::lookups::Lookups;
 use of_command_line::{Leading, PathsAsked};
+use of_files::Described;
 use of_frame_words::NoFrame;
 use of_paths::Merging;
 use of_paths_report::{Destination, PathsForm, PathsVerdict, asked_conditions, write_paths};
@@ -84,7 +85,7 @@ fn unfinished(rt: &HostRuntime, ended: Ended) -> NoPaths {
 fn paths_within(
     rt: &HostRuntime,
     asked: &PathsAsked,
-    described: &Described,
+    described: &Described<Lookups>,
 ) -> Result<PathsVerdict, NoPaths> {
     let within = match asked_conditions(rt.alloc(), asked.port, asked.within.as_bytes()) {
         Ok(within) => within,
