@@ -91,7 +91,7 @@ class Crates:
         return self.sums[name]
 
     def made(self, name):
-        """Where a library is built; a static library is a file for other programs to link, in which no crate is found."""
+        """The folder of a built library, or the file of a static library, which other programs link."""
         return f"{self.folder(name)}/out/built/lib{name}.a" if name in self.static else f"{self.folder(name)}/out/built/{name}.rlib"
 
     def is_built(self, name):

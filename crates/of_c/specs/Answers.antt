@@ -13,7 +13,7 @@ use Rattle.of_files.specs.declared.tables.FileTables.{FileTables}
 use Rattle.of_files.specs.declared.switches.NoContents.{NoContents}
 use Rattle.of_files.specs.declared.switches.NoContents.TheVariants as no
 use Rattle.of_files.specs.Contents.{content_of}
-use Rattle.of_files.specs.Switches.{AreContents, AreFlowsOf, FileContents, HasNoContents, IsDescribed}
+use Rattle.of_files.specs.Switches.{AreContents, AreFlowsOf, FileContents, HasNoContents, DescribesSwitch}
 use Rattle.of_c.specs.declared.answer.Answer.{Answer}
 
 -- as much of a text as there is room for goes to the front of a buffer
@@ -29,11 +29,11 @@ pub record Gives (Is : ℕ → ℕ → List ℕ → Type 0) (a : Answer) (old ne
 
 -- ---- lines at fault; 0: none
 
-abbrev pub line_of : Ended → ℕ
-line_of (BadRow n) = n
-line_of (Text (Syntax n)) = n
-line_of (Text (Refused n code)) = n
-line_of other = 0
+abbrev pub line_at_fault : Ended → ℕ
+line_at_fault (BadRow n) = n
+line_at_fault (Text (Syntax n)) = n
+line_at_fault (Text (Refused n code)) = n
+line_at_fault other = 0
 
 abbrev pub first_line : List LineFaults → List LineRefusal → ℕ
 first_line (f ∷ faults) refused = f.line
@@ -50,7 +50,7 @@ status_of_import import.NoMemory = 3
 status_of_import other = 2
 
 abbrev pub line_of_none : NoContents → ℕ
-line_of_none (no.Ended ended) = line_of ended
+line_of_none (no.Ended ended) = line_at_fault ended
 line_of_none (no.NotImported error) = line_of_import error
 
 abbrev pub status_of_none : NoContents → ℕ
@@ -62,7 +62,7 @@ status_of_none (no.NotImported error) = status_of_import error
 pub record IsSwitchOf (file : List ℕ) (s : State) (missing : List ℕ) : Type 0 where
   pub contents : FileContents
   pub read : AreContents None (content_of file) file contents
-  pub described : IsDescribed None contents s missing
+  pub described : DescribesSwitch None contents s missing
 
 -- a file that describes none gives no text
 pub record IsUnread (file : List ℕ) (status line : ℕ) (text : List ℕ) : Type 0 where
@@ -82,5 +82,5 @@ pub record IsOutOfMemory (status line : ℕ) (text : List ℕ) : Type 0 where
 pub record AreTablesOf (file : List ℕ) (s : State) (missing : List ℕ) (tables : FileTables) : Type 0 where
   pub contents : FileContents
   pub read : AreContents None (content_of file) file contents
-  pub described : IsDescribed None contents s missing
+  pub described : DescribesSwitch None contents s missing
   pub flows : AreFlowsOf contents tables

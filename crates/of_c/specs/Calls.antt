@@ -18,7 +18,7 @@ use Rattle.of_replay.specs.Play.{PrintsLines}
 use Rattle.of_replay.specs.Rows.{rows_of_lines}
 use Rattle.of_replay.specs.RowTexts.{printed_from}
 use Rattle.of_replay.specs.Told.{Known, Left}
-use Rattle.of_c.specs.Answers.{line_of, AreTablesOf, IsOutOfMemory, IsSwitchOf, IsUnread}
+use Rattle.of_c.specs.Answers.{line_at_fault, AreTablesOf, IsOutOfMemory, IsSwitchOf, IsUnread}
 
 -- 5 where all is well, but ports are named that the switch does not have
 abbrev pub status_with : List ℕ → ℕ → ℕ
@@ -73,8 +73,8 @@ pub record IsReportOf (file : List ℕ) (steps status line : ℕ) (text : List �
   pub status_is : status ≡ status_with missing (status_of_found result)
   pub line_is : line ≡ 0
 
-abbrev pub IsReported : List ℕ → ℕ → ℕ → ℕ → List ℕ → Type 0
-IsReported file steps status line text = IsReportOf file steps status line text ⊎ IsUnread file status line text
+abbrev pub IsChecked : List ℕ → ℕ → ℕ → ℕ → List ℕ → Type 0
+IsChecked file steps status line text = IsReportOf file steps status line text ⊎ IsUnread file status line text
 
 -- ---- replay and explain
 
@@ -85,7 +85,7 @@ pub record IsPrinted (text_of : List (List ℕ) → List ℕ) (events : List ℕ
   pub ends : ℕ
   pub prints : PrintsLines text_of ended (Left (Some events)) left 0 ends (Some []) (Some text)
   pub status_is : status ≡ status_of ended
-  pub line_is : line ≡ line_of ended
+  pub line_is : line ≡ line_at_fault ended
 
 -- what `replay` prints
 abbrev pub replayed_lines : ℕ → List (List ℕ) → List ℕ

@@ -1,9 +1,9 @@
 //! Reports on flow tables.
 ghost use Rattle.std.specs.Prelude.{◌≡◌, [], None, IfErr, IfOk};
 ghost use Rattle.of_files.specs.Contents.{content_of};
-ghost use Rattle.of_files.specs.Switches.{AreFlowsOf, HasNoContents, IsDescribed, view_contents};
+ghost use Rattle.of_files.specs.Switches.{AreFlowsOf, HasNoContents, DescribesSwitch, view_contents};
 ghost use Rattle.of_c.specs.Answers.{AreTablesOf, Gives};
-ghost use Rattle.of_c.specs.Calls.{IsReported, status_of_found as status_for};
+ghost use Rattle.of_c.specs.Calls.{IsChecked, status_of_found as status_for};
 
 use crate::answer::{Answer, Outcome, give, sink, unread};
 use crate::switch::Lookups;
@@ -24,7 +24,7 @@ struct Tables {
 }
 
 fn tables_of(alloc: Global, contents: Contents<Lookups>) -> Result<Tables, AllocError>
-    ensures described { IfOk result (λ t. IsDescribed None (view_contents contents) t.of.switch t.missing.items) }
+    ensures described { IfOk result (λ t. DescribesSwitch None (view_contents contents) t.of.switch t.missing.items) }
     ensures flows { IfOk result (λ t. AreFlowsOf (view_contents contents) t.of.tables) }
 {
     let PortList { ports, missing } = file_ports(alloc, &None, &contents)?;
@@ -56,7 +56,7 @@ fn status_of_found(found: &Result<bool, Ended>) -> u8
 fn reported(alloc: Global, file: &[u8], steps: usize, out: &mut MemorySink) -> Outcome
     requires fresh { out.old.bytes.items ≡ [] }
     requires well { out.old.failures ≡ 0 }
-    ensures { IsReported file.now steps result.status result.line out.new.bytes.items }
+    ensures { IsChecked file.now steps result.status result.line out.new.bytes.items }
 {
     match read_tables(alloc, file) {
         Ok(Tables { of, missing }) => {
@@ -92,7 +92,7 @@ pub extern "C" fn ofswitch_check(
     text: &mut [u8],
     answer: &mut Answer,
 )
-    ensures { Gives (IsReported file.now steps) answer.new text.old text.new }
+    ensures { Gives (IsChecked file.now steps) answer.new text.old text.new }
 {
     let mut out = sink(alloc);
     let outcome = reported(alloc, file, steps, &mut out);

@@ -1,6 +1,6 @@
 //! What `-h` prints: the usage, and the commands or the options by their names, in few lines.
 
-use crate::command::{Argument, Kind, SUBCOMMANDS, Subcommand};
+use crate::command::{ABOUT, Argument, Kind, SUBCOMMANDS, Subcommand};
 use std::alloc::{AllocError, Global};
 
 /// How long a line of options is at most.
@@ -67,13 +67,6 @@ fn push_commands(alloc: Global, text: &mut String) -> Result<(), AllocError> {
     Ok(())
 }
 
-// The subcommand that is named.
-fn named(words: &[String]) -> Option<&'static Subcommand> {
-    SUBCOMMANDS
-        .iter()
-        .find(|it| words.iter().any(|word| word.as_str() == it.name))
-}
-
 // The line of the usage in the whole help.
 fn usage_in(help: &str) -> &str {
     help.lines()
@@ -81,30 +74,31 @@ fn usage_in(help: &str) -> &str {
         .unwrap_or("")
 }
 
-/// The short form of a help text, for these words of the command line.
-pub fn brief_help(alloc: Global, words: &[String], help: &str) -> Result<String, AllocError> {
+fn about_subcommand(alloc: Global, row: &Subcommand, usage: &str) -> Result<String, AllocError> {
     let mut lines = Lines {
-        text: String::new(alloc),
-        column: 0,
+        text: format!(in alloc; "{}\n{usage}", row.about)?,
+        column: COLUMNS,
     };
-    let (about, name) = match named(words) {
-        Some(row) => (row.about, row.name),
-        None => (
-            "An OpenFlow 1.3.5 switch whose behaviour is proved",
-            "COMMAND",
-        ),
-    };
-    lines.text.push_str(about)?;
-    lines.text.push_str("\n")?;
-    lines.text.push_str(usage_in(help))?;
-    match named(words) {
-        Some(row) => {
-            lines.column = COLUMNS;
-            push_options(alloc, &mut lines, row.arguments)?;
-        }
-        None => push_commands(alloc, &mut lines.text)?,
-    }
-    let last = format!(in alloc; "\n`ofswitch {name} --help` says more.\n")?;
+    push_options(alloc, &mut lines, row.arguments)?;
+    let last = format!(in alloc; "\n`ofswitch {} --help` says more.\n", row.name)?;
     lines.text.push_str(last.as_str())?;
     Ok(lines.text)
+}
+
+fn about_all(alloc: Global, usage: &str) -> Result<String, AllocError> {
+    let mut text = format!(in alloc; "{ABOUT}\n{usage}")?;
+    push_commands(alloc, &mut text)?;
+    text.push_str("\n`ofswitch --help` and `ofswitch COMMAND --help` say more.\n")?;
+    Ok(text)
+}
+
+/// The short form of a help text, for these words of the command line.
+pub fn brief_help(alloc: Global, words: &[String], help: &str) -> Result<String, AllocError> {
+    let usage = usage_in(help);
+    for row in &SUBCOMMANDS {
+        if words.iter().any(|word| word.as_str() == row.name) {
+            return about_subcommand(alloc, row, usage);
+        }
+    }
+    about_all(alloc, usage)
 }

@@ -238,6 +238,8 @@ A turn is one thing that comes: the time, a datagram, a row, or bytes of the con
 
 const VERSION: &str = "0.1.0";
 
+pub(crate) const ABOUT: &str = "An OpenFlow 1.3.5 switch whose behaviour is proved";
+
 // The group of the arguments of which there has to be exactly one.
 const ALTERNATIVES: &str = "alternatives";
 
@@ -674,7 +676,7 @@ pub(crate) const SUBCOMMANDS: [Subcommand; 12] = [
 pub fn command<'a>(alloc: Global) -> Result<Command<'a>, AllocError> {
     let mut command = Command::new(alloc, "ofswitch")
         .version(VERSION)
-        .about("An OpenFlow 1.3.5 switch whose behaviour is proved")
+        .about(ABOUT)
         .after_help(STATUSES)
         .subcommand_required(true)
         .arg_required_else_help(true);

@@ -41,13 +41,13 @@ view_contents (declared.Tables tables) = Tables tables
 view_contents (declared.Events switch) = Run switch
 
 -- nothing is left out of what ovs-ofctl prints, and tables have its numbers
-abbrev pub whole : Mode
-whole = record { skip = false; renumber = false }
+abbrev pub whole_mode : Mode
+whole_mode = record { skip = false; renumber = false }
 
 -- of an event file, all its lines or so many first ones
 abbrev pub AreContents : Option ℕ → Content → List ℕ → FileContents → Type 0
 AreContents lines FlowText file (Tables tables) = tables_of_text true file (IsValue tables)
-AreContents lines OvsTable file (Tables tables) = IsTableRead whole file tables
+AreContents lines OvsTable file (Tables tables) = IsTableRead whole_mode file tables
 AreContents lines EventFile file (Run switch) = played_file lines true file (IsValue switch)
 AreContents lines other file contents = ⊥
 
@@ -55,7 +55,7 @@ AreContents lines other file contents = ⊥
 abbrev pub HasNoContents : Option ℕ → Content → List ℕ → NoContents → Type 0
 HasNoContents lines FlowText file (Ended ended) = IsRead tables_of_text (Err ended) true file
 HasNoContents lines EventFile file (Ended ended) = IsRead (played_file lines) (Err ended) true file
-HasNoContents lines OvsTable file (NotImported error) = NoImport (lines_of file) whole error
+HasNoContents lines OvsTable file (NotImported error) = NoImport (lines_of file) whole_mode error
 HasNoContents lines OvsTable file (Ended NoMemory) = Unit {0}
 HasNoContents lines other file why = ⊥
 
@@ -92,8 +92,8 @@ abbrev pub missing_said : Option (List ℕ) → FileContents → List ℕ
 missing_said given (Tables tables) = missing_ports (named_ports tables.config) (chosen_ports given (named_ports tables.config))
 missing_said given (Run switch) = []
 
-abbrev pub IsDescribed : Option (List ℕ) → FileContents → State → List ℕ → Type 0
-IsDescribed given contents s missing = (s ≡ switch_said (chosen_ports given (ports_named contents)) contents) × (missing ≡ missing_said given contents)
+abbrev pub DescribesSwitch : Option (List ℕ) → FileContents → State → List ℕ → Type 0
+DescribesSwitch given contents s missing = (s ≡ switch_said (chosen_ports given (ports_named contents)) contents) × (missing ≡ missing_said given contents)
 
 -- its flow entries: those of the file with their lines, or those of the switch without lines
 abbrev pub AreFlowsOf : FileContents → FileTables → Type 0

@@ -1,6 +1,6 @@
 //! The switch that a file describes, and its ports.
 ghost use Rattle.std.specs.Prelude.{◌≡◌, ◌++◌, IfErr, IfOk, OnOk, is_some};
-ghost use Rattle.of_files.specs.Switches.{AreContents, AreFlowsOf, ArePorts, ArePortsOfBoth, HasNoContents, IsDescribed, chosen_ports, content_said, missing_said, own_ports as ports_of_run, ports_given, ports_named, switch_said, view_contents};
+ghost use Rattle.of_files.specs.Switches.{AreContents, AreFlowsOf, ArePorts, ArePortsOfBoth, HasNoContents, DescribesSwitch, chosen_ports, content_said, missing_said, own_ports as ports_of_run, ports_given, ports_named, switch_said, view_contents};
 
 use crate::contents::{Content, content_of};
 use crate::playing::play_file;
@@ -152,7 +152,7 @@ pub fn describe<L: Lookup>(
     contents: Contents<L>,
     given: &Option<Vec<u32>>,
 ) -> Result<Described<L>, AllocError>
-    ensures { IfOk result (λ d. IsDescribed (ports_given given.now) (view_contents contents) d.switch d.missing.items) }
+    ensures { IfOk result (λ d. DescribesSwitch (ports_given given.now) (view_contents contents) d.switch d.missing.items) }
 {
     let PortList { ports, missing } = file_ports(alloc, given, &contents)?;
     let switch = switch_of(alloc, contents, &ports)?;

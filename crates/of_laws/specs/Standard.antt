@@ -27,8 +27,8 @@ abbrev pub commands : List FlowModCommand
 commands = Add ∷ Modify false ∷ Modify true ∷ Delete false ∷ Delete true ∷ []
 
 -- 7.2.1, ofp_port_no: MAX, IN_PORT, TABLE, NORMAL, FLOOD, ALL, CONTROLLER, LOCAL, ANY
-abbrev pub port_numbers : List ℕ
-port_numbers = 0xffffff00 ∷ 0xfffffff8 ∷ 0xfffffff9 ∷ 0xfffffffa ∷ 0xfffffffb ∷ 0xfffffffc ∷ 0xfffffffd ∷ 0xfffffffe ∷ 0xffffffff ∷ []
+abbrev pub reserved_ports : List ℕ
+reserved_ports = 0xffffff00 ∷ 0xfffffff8 ∷ 0xfffffff9 ∷ 0xfffffffa ∷ 0xfffffffb ∷ 0xfffffffc ∷ 0xfffffffd ∷ 0xfffffffe ∷ 0xffffffff ∷ []
 
 -- 7.3.4.2, ofp_group: MAX, ALL, ANY
 abbrev pub group_numbers : List ℕ
