@@ -1,5 +1,5 @@
 //! The switch that a file describes, and its ports.
-ghost use Rattle.std.specs.Prelude.{◌≡◌, ◌++◌, IfErr, IfOk, OnOk, is_some};
+ghost use Rattle.std.specs.Prelude.{◌≡◌, ◌++◌, IfErr, IfOk, OnOk, is_some, map};
 ghost use Rattle.of_files.specs.Switches.{AreContents, AreFlowsOf, ArePorts, ArePortsOfBoth, HasNoContents, DescribesSwitch, chosen_ports, content_said, missing_said, own_ports as ports_of_run, ports_given, ports_named, switch_said, view_contents};
 
 use crate::contents::{Content, content_of};
@@ -8,6 +8,7 @@ use crate::ports::{missing_ports, named_ports, ports_for};
 use crate::tables::{FileTables, read_table, read_text};
 use of_classifier::Lookup;
 use of_import::{ImportError, Mode};
+use of_ports::Port;
 use of_replay::{Ended, switch_of_config};
 use of_switch::Switch;
 use std::alloc::{AllocError, Global};
@@ -62,6 +63,15 @@ pub fn read_contents<L: Lookup>(
     }
 }
 
+fn push_ports(ports: &mut Vec<u32>, all: &[Port]) -> Result<(), AllocError>
+    ensures { OnOk result (ports.new.items ≡ ports.old.items ++ map (λ p. p.number) all.now) }
+{
+    for port in all {
+        ports.push(port.number)?;
+    }
+    Ok(())
+}
+
 /// Appends the ports that a file names: those of its groups and flows, or those that the switch of an event file has.
 pub fn push_named<L: Lookup>(
     alloc: Global,
@@ -75,12 +85,7 @@ pub fn push_named<L: Lookup>(
             let named = named_ports(alloc, &tables.config)?;
             ports.extend_from_slice(&named)
         }
-        Contents::Events(switch) => {
-            for port in switch.datapath().ports.as_slice() {
-                ports.push(port.number)?;
-            }
-            Ok(())
-        }
+        Contents::Events(switch) => push_ports(ports, switch.datapath().ports.as_slice()),
     }
 }
 
