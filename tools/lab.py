@@ -1,10 +1,11 @@
-"""The namespaces, hosts and controllers of tools/try-live, tools/try-mininet and bench/live.py.
+"""The namespaces, hosts and controllers of tools/try-live, tools/try-endurance, tools/try-mininet and bench/live.py.
 
 All is in network namespaces without a name, which end with this process, so the network of the machine is not touched.
 """
 import contextlib
 import ctypes
 import fcntl
+import hashlib
 import os
 import pathlib
 import random
@@ -165,6 +166,19 @@ class Lab:
         host.ip("address", "add", f"10.1.0.{number}/24", "dev", name)
         host.ip("address", "add", f"fd00::{number}/64", "dev", name, "nodad")
         host.ip("link", "set", name, "mtu", "1500", "up")
+
+
+def missing():
+    """What is missing here, if something is."""
+    if os.geteuid() != 0:
+        return "it needs root"
+    if not shutil.which("ip"):
+        return "it needs ip (iproute2)"
+    try:
+        Lab()
+    except (OSError, AttributeError) as fault:
+        return f"no namespaces with VXLAN interfaces: {fault}"
+    return None
 
 
 # ---- OpenFlow
@@ -570,3 +584,51 @@ def announce(lab, controller):
         if time.monotonic() > end:
             raise TimeoutError("frames of the hosts do not reach the switch")
         time.sleep(0.01)
+
+
+def transferred(lab, size):
+    """Random bytes over TCP, from host 1 to host 2: whether they arrive whole, how many, and the seconds."""
+    data = random.Random(2).randbytes(size)
+    with lab.hosts[1].socket() as door, lab.hosts[0].socket() as client:
+        door.setsockopt(socket.SOL_SOCKET, socket.SO_REUSEADDR, 1)
+        door.bind(("10.1.0.2", 8000))
+        door.listen()
+        door.settimeout(PATIENCE)
+        client.settimeout(PATIENCE)
+        client.connect(("10.1.0.2", 8000))
+        server = door.accept()[0]
+        server.settimeout(PATIENCE)
+
+        def write():
+            with contextlib.suppress(OSError):
+                client.sendall(data)
+                client.shutdown(socket.SHUT_WR)
+
+        writer = threading.Thread(target=write, daemon=True)
+        begun = time.monotonic()
+        writer.start()
+        total, hashed = 0, hashlib.sha256()
+        with server, contextlib.suppress(TimeoutError):
+            while part := server.recv(1 << 20):
+                total += len(part)
+                hashed.update(part)
+        passed = time.monotonic() - begun
+        writer.join()
+    return hashed.digest() == hashlib.sha256(data).digest(), total, passed
+
+
+def noise(rng, count):
+    """Datagrams that carry no frame of a port."""
+    for _ in range(count):
+        kind = rng.randrange(5)
+        if kind == 0:
+            yield rng.randbytes(rng.randrange(8))
+        elif kind == 1:
+            # without the flag I
+            yield bytes([rng.randrange(256) & 0xF7]) + rng.randbytes(rng.randrange(1500))
+        elif kind == 2:
+            yield bytes([8, 0, 0, 0]) + rng.randrange(4, 1 << 24).to_bytes(3, "big") + rng.randbytes(rng.randrange(1500))
+        elif kind == 3:
+            yield bytes([0xFF]) + rng.randbytes(3) + b"\xff" + rng.randbytes(60)
+        else:
+            yield bytes([8, 0, 0, 0, 0xFF]) + rng.randbytes(65507 - 5)

@@ -112,6 +112,14 @@ def test_interfaces_are_left_as_they_were(system):
     assert not any("veth2 promisc" in it for it in system)
 
 
+def test_frames_go_both_ways(system):
+    """What an interface receives is sent by the other one (tc-mirred(8): egress), and the other way round."""
+    with contextlib.closing(interfaces.Joined({1: Taken("veth1"), 2: Made("h2-eth0")}, Here())):
+        lines = [it for it in system if "filter add" in it and "veth1" in it]
+    every = "ingress protocol all matchall action mirred egress redirect dev"
+    assert lines == [f"tc filter add dev veth1 {every} v4789-1", f"tc filter add dev v4789-1 {every} veth1"]
+
+
 def test_a_link_that_comes_up_again(monkeypatch):
     """Each change of an interface is one of its port, and what is as before is none."""
     monkeypatch.setattr(interfaces, "link_states", lambda names, stopped: iter([(1, True), (1, False), (1, False), (1, True), (1, False)]))

@@ -268,6 +268,25 @@ def test_settle_carries_what_came_meanwhile(network, monkeypatch):
     assert network.settle() == [Arrived("s2", 1, PING)]
 
 
+def test_hops_are_counted_until_it_is_quiet(network, monkeypatch):
+    """Each time that `settle` looks, another frame is on its way, as in a loop of which a controller is a part."""
+    line(network, "s1", "s2")
+    with_flows(network, messages.flow(messages.output(3), in_port=1))
+    network.hops = 5
+    carry, frames = network._carry, [PING] * 20
+
+    def carry_and_then(hops):
+        left = carry(hops)
+        if frames:
+            network["s1"].frame(1, frames.pop())
+        return left
+
+    monkeypatch.setattr(network, "_carry", carry_and_then)
+    with pytest.raises(Looped):
+        network.settle()
+    assert len(frames) > 10
+
+
 def test_a_ring_that_changes_frames_is_named(network):
     """Each switch adds a tag, so the same bytes never come twice: the frame that is carried has the way."""
     line(network, "s1", "s2", "s3")
