@@ -3,7 +3,7 @@ use Rattle.std.specs.Prelude.{◌≡◌, ◌++◌, ℕ, List, [], ◌∷◌, Non
 use Rattle.of_text.specs.declared.assembling.TextFault.TheVariants.{Syntax, Refused}
 use Rattle.of_import.specs.declared.import.ImportError.{ImportError}
 use Rattle.of_import.specs.declared.import.ImportError.TheVariants as import
-use Rattle.of_import.specs.declared.import.LineRefusal.{LineRefusal}
+use Rattle.of_import.specs.declared.kept.LineRefusal.{LineRefusal}
 use Rattle.of_import.specs.declared.parsed_lines.LineFaults.{LineFaults}
 use Rattle.of_switch.specs.State.{State}
 use Rattle.of_replay.specs.declared.event_file.Ended.{Ended}

@@ -1,5 +1,5 @@
 -- WHAT EACH CALL GIVES: what the command of its name prints, as JSON where the command has that form.
-use Rattle.std.specs.Prelude.{◌≡◌, ◌⊎◌, ℕ, Bool, true, false, List, [], ◌∷◌, Option, Some, None, Result, Ok, Err}
+use Rattle.std.specs.Prelude.{◌≡◌, ◌⊎◌, ℕ, ◌==◌, ◌&&◌, not, Bool, true, false, List, [], length, Option, Some, None, Result, Ok, Err, if◌then◌else◌}
 use Rattle.of_text.specs.Lines.{lines_of}
 use Rattle.of_values.specs.Origins.{view_origins}
 use Rattle.of_import.specs.declared.mode.Mode.{Mode}
@@ -9,22 +9,17 @@ use Rattle.of_replay.specs.declared.event_file.Ended.{Ended}
 use Rattle.of_replay.specs.Ended.{status_of}
 use Rattle.of_replay.specs.FileRuns.{Writes, ended_as, is_text}
 use Rattle.of_files.specs.declared.tables.FileTables.{FileTables}
-use Rattle.of_trace.specs.declared.writing.Output.TheVariants as output
+use Rattle.of_trace.specs.declared.form.Output.TheVariants as output
 use Rattle.of_trace.specs.Files.{trace_on}
 use Rattle.of_report.specs.declared.reporting.Form.TheVariants as form
 use Rattle.of_report.specs.Files.{IsCheckReport}
-use Rattle.of_switch.specs.State.{start}
 use Rattle.of_replay.specs.Play.{PrintsLines}
-use Rattle.of_replay.specs.Rows.{rows_of_lines}
-use Rattle.of_replay.specs.RowTexts.{printed_from}
 use Rattle.of_replay.specs.Told.{Known, Left}
 use Rattle.of_c.specs.Answers.{line_at_fault, AreTablesOf, IsOutOfMemory, IsSwitchOf, IsUnread}
 
 -- 5 where all is well, but ports are named that the switch does not have
 abbrev pub status_with : List ℕ → ℕ → ℕ
-status_with [] status = status
-status_with (port ∷ missing) 0 = 5
-status_with missing status = status
+status_with missing status = if status == 0 && not (length missing == 0) then 5 else status
 
 -- ---- trace
 
@@ -44,8 +39,7 @@ IsTraced file port frame status line text = IsTraceOf file port frame status lin
 
 abbrev pub status_of_left_out : Option ℕ → ℕ
 status_of_left_out None = 2
-status_of_left_out (Some 0) = 0
-status_of_left_out (Some n) = 4
+status_of_left_out (Some n) = if n == 0 then 0 else 4
 
 pub record IsImportOf (table : List ℕ) (mode : Mode) (status line : ℕ) (text : List ℕ) : Type 0 where
   pub left_out : Option ℕ
@@ -86,7 +80,3 @@ pub record IsPrinted (text_of : List (List ℕ) → List ℕ) (events : List ℕ
   pub prints : PrintsLines text_of ended (Left (Some events)) left 0 ends (Some []) (Some text)
   pub status_is : status ≡ status_of ended
   pub line_is : line ≡ line_at_fault ended
-
--- what `replay` prints
-abbrev pub replayed_lines : ℕ → List (List ℕ) → List ℕ
-replayed_lines dpid lines = printed_from (start dpid) (rows_of_lines lines).events

@@ -59,11 +59,11 @@ fn reported(alloc: Global, file: &[u8], steps: usize, out: &mut MemorySink) -> O
     ensures { IsChecked file.now steps result.status result.line out.new.bytes.items }
 {
     match read_tables(alloc, file) {
-        Ok(Tables { of, missing }) => {
-            let FileSwitch { switch, tables } = of;
-            let found = write_report(
+        Ok(found) => {
+            let FileSwitch { switch, tables } = &found.of;
+            let result = write_report(
                 alloc,
-                &switch,
+                switch,
                 &tables.config,
                 &tables.origins,
                 steps,
@@ -72,7 +72,7 @@ fn reported(alloc: Global, file: &[u8], steps: usize, out: &mut MemorySink) -> O
                 out,
             );
             Outcome {
-                status: status_with(&missing, status_of_found(&found)),
+                status: status_with(&found.missing, status_of_found(&result)),
                 line: 0,
             }
         }

@@ -13,8 +13,7 @@ fn status_of_left_out(left_out: Option<u128>) -> u8
 {
     match left_out {
         None => 2,
-        Some(0) => 0,
-        Some(_) => 4,
+        Some(count) => { if count == 0 { 0 } else { 4 } }
     }
 }
 

@@ -1,10 +1,12 @@
 //! Runs of event files.
 ghost use Rattle.std.specs.Prelude.{◌≡◌, []};
 ghost use Rattle.of_switch.specs.State.{start};
+ghost use Rattle.of_replay.specs.Output.{printed_from};
+ghost use Rattle.of_replay.specs.Rows.{rows_of_lines};
 ghost use Rattle.of_replay.specs.RowTexts.{told};
 ghost use Rattle.of_explain.specs.RowObjects.{explained_json};
 ghost use Rattle.of_c.specs.Answers.{Gives};
-ghost use Rattle.of_c.specs.Calls.{IsPrinted, replayed_lines};
+ghost use Rattle.of_c.specs.Calls.{IsPrinted};
 
 use crate::answer::{Answer, give, outcome_of, sink};
 use crate::switch::Lookups;
@@ -24,7 +26,7 @@ pub extern "C" fn ofswitch_replay(
     text: &mut [u8],
     answer: &mut Answer,
 )
-    ensures { Gives (IsPrinted (replayed_lines dpid) events.now) answer.new text.old text.new }
+    ensures { Gives (IsPrinted (λ lines. printed_from (start dpid) (rows_of_lines lines).events) events.now) answer.new text.old text.new }
 {
     let mut out = sink(alloc);
     let mut source = ReaderSource::new(events);
