@@ -2,3 +2,4 @@ mod WayLemmas
 pub mod TakenLemmas
 pub mod FoundLemmas
 pub mod SoFarLemmas
+pub mod ReachedLemmas
