@@ -4,3 +4,4 @@ pub mod FoundLemmas
 pub mod SoFarLemmas
 pub mod PlaceLemmas
 pub mod PortLemmas
+pub mod ReachedLemmas
