@@ -32,9 +32,8 @@ returns-then-not-is_empty g c =
 pub returns-then-none_matches : goal.returns-then-none_matches
 returns-then-none_matches g c =
     let w = world_of (forwarding_of c.args.datapath.now) in
-    let within = c.deref.ensures.value ∙ c.in_ok-within.ensures.is in
     let found = c.in_ok-classes.field-0 in
-    let are = rw within at c.in_ok-classes.ensures in
+    let are = rw c.deref.ensures.value at c.in_ok-classes.ensures in
     none_matched w c.args.requirement.now c.args.steps c.args.port found c.ranges.port.fits are
     (ap (none_leaves c.args.requirement.now) (sym c.deref-2.ensures.value) ∙ (sym c.none_leaves-none_matches.ensures ∙ c.if-none_matches.true))
     (no_items found.undecided.items c.is_empty.result (c.is_empty.ensures ∙ ap (λ (n : ℕ). eqb n 0) found.undecided.ok.0) c.if-not-is_empty.false)
@@ -42,9 +41,8 @@ returns-then-none_matches g c =
 pub returns : goal.returns
 returns g c =
     let w = world_of (forwarding_of c.args.datapath.now) in
-    let within = c.deref.ensures.value ∙ c.in_ok-within.ensures.is in
     let found = c.in_ok-classes.field-0 in
-    let are = rw within at c.in_ok-classes.ensures in
+    let are = rw c.deref.ensures.value at c.in_ok-classes.ensures in
     let receives = rw c.port_list.ensures at (c.receiving_port.ensures.0 c.if-not-receiving_port.false) in
     none_shows w c.args.requirement.now c.args.steps c.args.port found c.ranges.port.fits are
     (sought_none w c.args.requirement.now c.args.steps c.args.port found c.ranges.port.fits are receives c.in_ok-sought.sought c.in-NoFrame.is c.in_ok-sought.ensures)
