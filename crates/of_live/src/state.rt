@@ -14,7 +14,7 @@ ghost use Rattle.of_network.specs.Acts.{Records, Writes};
 ghost use Rattle.of_live.specs.Turns.{closes as closing_acts, dropped_in, dropped_of, drops, is_flooded as flooded, is_stuck as stuck, may_write as may_write_after};
 ghost use Rattle.of_live.specs.Working.{Does, Goes, HandlesMessages, Hears, Passes, Settles, asks_by, is_closing, offered_acts, offered_to, offers, logged_text};
 
-use crate::work::{Work, happen, happen_bytes, happen_due, happen_frame};
+use crate::work::{Work, happen, happen_due, happen_frame};
 use of_classifier::Lookup;
 use of_network::{
     Dropped, Endpoint, Input, Network, Peer, Wanted, Written, learn, may_send, peer_of,
@@ -23,8 +23,8 @@ use of_network::{
 use of_replay::Halt;
 use of_serve::Rows;
 use of_session::{Beginning, Stream};
-use of_switch::{Event, Switch, SwitchError};
-use of_wire::front_of;
+use of_switch::{Event, Switch};
+use of_wire::{Bytes, front_of};
 use std::alloc::{AllocError, Global};
 use std::marker::Model;
 
@@ -281,7 +281,7 @@ impl<L: Lookup> Live<L> {
     // How many bytes of the controller are handled next, if some may be.
     fn next_size(&self) -> Option<usize>
         ensures message { next_message self.now ≡ option_map (λ n. take n self.now.unheard) result }
-        ensures fits { IfSome result (λ n. (n ≤ length self.now.unheard) × (connected self.now ≡ true)) }
+        ensures fits { IfSome result (λ n. n ≤ length self.now.unheard) }
     {
         if !self.switch.is_connected() || !self.has_room() {
             return None;
@@ -290,31 +290,21 @@ impl<L: Lookup> Live<L> {
     }
 
     // A message is handled, and what it gives for the controller waits.
-    fn handle(&mut self, size: usize, keeps: bool, work: &mut Work) -> Result<(), SwitchError>
+    fn handle(&mut self, size: usize, keeps: bool, work: &mut Work) -> Result<(), AllocError>
         requires fits { size ≤ length self.old.unheard }
-        requires connected { connected self.old ≡ true }
         ensures live { OnOk result (self.new ≡ after_message (take size self.old.unheard) self.old) }
         ensures does { OnOk result (Does keeps (Chunk (take size self.old.unheard) ∷ []) self.old.state self.new.state work.old work.new) }
     {
-        happen_bytes(
-            self.alloc,
-            &mut self.switch,
-            self.unheard.first(size),
-            &mut self.waiting,
-            keeps,
-            work,
-        )?;
+        let message = Bytes::from_slice(self.alloc, self.unheard.first(size))?;
         self.unheard.take(size);
-        Ok(())
+        let mut given = Work::new(self.alloc);
+        happen(&mut self.switch, &Event::Chunk(message), keeps, &mut given)?;
+        given.answers(&mut self.waiting)?;
+        work.append(given)
     }
 
     // Messages are handled, one after the other, until there is no next one, at most so many.
-    fn handle_messages(
-        &mut self,
-        most: u32,
-        keeps: bool,
-        work: &mut Work,
-    ) -> Result<(), SwitchError>
+    fn handle_messages(&mut self, most: u32, keeps: bool, work: &mut Work) -> Result<(), AllocError>
         ensures { OnOk result (HandlesMessages most keeps self.old self.new work.old work.new) }
     {
         for _ in 0..most {
@@ -334,7 +324,7 @@ impl<L: Lookup> Live<L> {
         network: &mut N,
         keeps: bool,
         work: &mut Work,
-    ) -> Result<Asks, SwitchError>
+    ) -> Result<Asks, AllocError>
         requires fits { IsInput input.now }
         requires room { length buffer.now ≡ 65536 }
         requires empty { work.old ≡ record { reports = []; text = [] } }

@@ -1,10 +1,8 @@
 //! Events, what they give, and their rows.
-ghost use Rattle.std.specs.Prelude.{◌≡◌, ◌∷◌, ◌++◌, [], true, false, length, IfOk, OnOk};
+ghost use Rattle.std.specs.Prelude.{◌≡◌, ◌∷◌, ◌++◌, [], true, length, OnOk};
 ghost use Rattle.std.specs.List.{flat_map};
-ghost use Rattle.of_session.specs.Session.{is_disconnected};
-ghost use Rattle.of_switch.specs.declared.event.Event.TheVariants.{Chunk, Frame, Lost};
-ghost use Rattle.of_switch.specs.Steps.{gives};
-ghost use Rattle.of_switch.specs.Runs.{Gives as Given, chunk_in, effects_in, happened, report_of, reports_of};
+ghost use Rattle.of_switch.specs.declared.event.Event.TheVariants.{Frame, Lost};
+ghost use Rattle.of_switch.specs.Runs.{Gives as Given, effects_in, report_of, reports_of};
 ghost use Rattle.of_serve.specs.Turns.{events_of_row, answer_in, due, report_effects as effects_given, left, waits as has_to_wait};
 ghost use Rattle.of_network.specs.Peers.{peer_of as peer_of_port};
 ghost use Rattle.of_network.specs.Acts.{Records};
@@ -12,9 +10,7 @@ ghost use Rattle.of_live.specs.Turns.{sent_in, sent_to};
 ghost use Rattle.of_live.specs.Working.{Does, logged, logged_text};
 
 use of_classifier::Lookup;
-use of_network::{
-    Dropped, Network, Peer, peer_of, push_chunk_row, push_frame_row, push_row, write_header,
-};
+use of_network::{Dropped, Network, Peer, peer_of, push_frame_row, push_row, write_header};
 use of_serve::{Rows, waits};
 use of_session::Stream;
 use of_switch::{Effect, Effects, Event, Report, Switch, SwitchError};
@@ -76,6 +72,15 @@ impl Work {
         ensures text { self.new.text ≡ self.old.text }
     {
         Ok(self.reports.push(Report::Gives(effects))?)
+    }
+
+    /// More events happened.
+    pub fn append(&mut self, more: Work) -> Result<(), AllocError>
+        ensures { OnOk result (self.new ≡ record { reports = self.old.reports ++ more.reports; text = self.old.text ++ more.text }) }
+    {
+        let Work { mut reports, text } = more;
+        self.reports.append(&mut reports)?;
+        self.text.extend_from_slice(&text)
     }
 
     /// Appends the messages to the controller.
@@ -200,46 +205,6 @@ pub fn happen_frame<L: Lookup>(
         Err(SwitchError::NoMemory) => Err(AllocError),
         Err(refusal) => Ok(work.reports.push(Report::Refused(refusal))?),
     }
-}
-
-// Bytes of the controller are received, and their messages are handled.
-fn hear<L: Lookup>(
-    alloc: Global,
-    switch: &mut Switch<L>,
-    bytes: &[u8],
-) -> Result<Effects, SwitchError>
-    requires { is_disconnected switch.old.connection.phase ≡ false }
-    ensures { IfOk result (λ effects. chunk_in bytes.now switch.old ≡ gives effects.items switch.new) }
-{
-    switch.feed(bytes)?;
-    let mut all = Effects::new(alloc);
-    while let Some(effects) = switch.next()? {
-        let mut more = effects;
-        all.append(&mut more)?;
-    }
-    Ok(all)
-}
-
-/// Bytes of the controller are received, and their row is kept if there is a log. What they give for the controller waits for the
-/// connection.
-pub fn happen_bytes<L: Lookup>(
-    alloc: Global,
-    switch: &mut Switch<L>,
-    bytes: &[u8],
-    waiting: &mut Stream,
-    keeps: bool,
-    work: &mut Work,
-) -> Result<(), SwitchError>
-    requires { is_disconnected switch.old.connection.phase ≡ false }
-    ensures does { OnOk result (Does keeps (Chunk bytes.now ∷ []) switch.old switch.new work.old work.new) }
-    ensures waiting { OnOk result (waiting.new ≡ waiting.old ++ flat_map answer_in (effects_given (happened (Chunk bytes.now) switch.old).report)) }
-{
-    if keeps {
-        push_chunk_row(&mut work.text, bytes)?;
-    }
-    let effects = hear(alloc, switch, bytes)?;
-    push_answers(waiting, &effects)?;
-    Ok(work.give(effects)?)
 }
 
 // A row of the file that is due happens.

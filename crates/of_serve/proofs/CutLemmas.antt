@@ -6,19 +6,18 @@ use Rattle.std.specs.declared.alloc.AllocError.{AllocError}
 use Rattle.std.proofs.lemmas.List.{append-nil}
 use Rattle.std.proofs.lemmas.Grind.{flat_map-append}
 use Rattle.of_session.specs.Session.{is_disconnected}
-use Rattle.smallvec.specs.SmallVec.{SmallVec}
 use Rattle.of_datapath.specs.declared.effect.Effect.{Effect}
 use Rattle.of_switch.specs.declared.event.Event.{Event}
-use Rattle.of_switch.specs.declared.event.Event.TheVariants.{Chunk}
+use Rattle.of_switch.specs.declared.event.Event.TheVariants.{Connect, Lost, Chunk, Frame, Moment, Ports}
 use Rattle.of_switch.specs.declared.switch_error.SwitchError.{SwitchError}
 use Rattle.of_switch.specs.declared.switch_error.SwitchError.TheVariants.{NoMemory, NotConnected}
 use Rattle.of_switch.specs.State.{State}
 use Rattle.of_switch.specs.Steps.{Outcome, gives, fed, next_of}
 use Rattle.of_switch.specs.Calls.{Call, first_error}
-use Rattle.of_switch.specs.Runs.{behind_effects, then_more, drain, drained, come, unless_refusal}
+use Rattle.of_switch.specs.Runs.{Report, IsInterrupted, StopsWithin, behind_effects, then_more, drain, drained, come, happened, run, unless_refusal}
 use Rattle.of_switch.proofs.Draining.{Left, left_none, left_more, left_all}
 use Rattle.of_serve.specs.Turns.{Gathered, gather, gathered, answer_in, line_in, partly, events_of_row, due, waits}
-use Rattle.of_serve.specs.Gathering.{CutIn, HandlesNext, HandlesAll, HandlesSome, Keeps, LosesNext}
+use Rattle.of_serve.specs.Gathering.{CutIn, HandlesNext, HandlesAll, HandlesSome, LosesNext, is_one_step}
 use Rattle.of_serve.proofs.TurnLemmas.{gathered_more, due_acts}
 
 -- MESSAGES
@@ -253,38 +252,32 @@ pub on_err : {A E : Type 0} (r : Result A E) (P : Type 0) → P → OnErr r P
 on_err (Ok u) P p = tt
 on_err (Err e) P p = p
 
--- A CALL OF THE SWITCH for an event of one step
+-- AN EVENT OF ONE STEP
 
-abbrev Calls : Option SwitchError → Outcome → Result (SmallVec Effect) SwitchError → State → State → Type 0
-Calls refusal o given s t = Call refusal (λ (effects : SmallVec Effect) (new : State). o ≡ gives effects.items new) s given t
+whole_step : (e : Event) (s : State) → is_one_step e ≡ true → (partly 1 e s).state ≡ (happened e s).state
+whole_step Connect s is = refl
+whole_step Lost s is = refl
+whole_step (Chunk bytes) s is = absurd cc
+whole_step (Frame port bytes) s is = refl
+whole_step (Moment nanos) s is = refl
+whole_step (Ports change) s is = refl
 
-kept_same : (given : Result (SmallVec Effect) SwitchError) (x : AllocError) (g1 g2 : Gathered) → Keeps given (Err x) g1 g2 → (g2.answers ≡ g1.answers) × (g2.lines ≡ g1.lines) × (g2.state ≡ g1.state)
-kept_same (Ok effects) x g1 g2 k = k
-kept_same (Err y) x g1 g2 k = k
+stopped_in : (first : List Event) (e event : Event) (others : List Event) (s t : State) (more : List Report) → e ∷ [] ≡ first ++ event ∷ others → IsInterrupted event (run first s).state t more
+    → is_one_step e ≡ true → t ≡ s
+stopped_in [] e event others s t more is (inl same) one = same.0
+stopped_in [] e event others s t more is (inr broken) one = absurd (cc broken.chunk)
+stopped_in (x ∷ []) e event others s t more is h one = absurd cc
+stopped_in (x ∷ (y ∷ xs)) e event others s t more is h one = absurd cc
 
-played_state : (refusal : Option SwitchError) (o : Outcome) (given : Result (SmallVec Effect) SwitchError) (s t : State)
-    → Calls refusal o given s t → (t ≡ s) ⊎ (t ≡ (unless_refusal refusal s o).state)
-played_state (Some x) o given s t call = inl call.1
-played_state None o (Ok effects) s t call = inr (ap (λ (x : Outcome). x.state) (sym call))
-played_state None o (Err y) s t call = inl call.1
+pub stopped : (e : Event) (s t : State) (old reports : List Report) → StopsWithin (e ∷ []) s t old reports → is_one_step e ≡ true → t ≡ s
+stopped e s t old reports h one = stopped_in h.first e h.event h.others s t h.more h.events_are h.interrupted one
 
-or_whole : (t s u v : State) → u ≡ v → (t ≡ s) ⊎ (t ≡ u) → (t ≡ s) ⊎ (t ≡ v)
-or_whole t s u v e (inl h) = inl h
-or_whole t s u v e (inr h) = inr (h ∙ e)
-
-cut_by : (e : Event) (g g1 g2 : Gathered) → g1 ≡ holding g1.state g.answers g.lines → (g2.answers ≡ g1.answers) × (g2.lines ≡ g1.lines) × (g2.state ≡ g1.state)
-    → (g1.state ≡ g.state) ⊎ (g1.state ≡ (partly 1 e g.state).state) → CutIn (e ∷ []) g g2
-cut_by e g g1 g2 is k (inl s) = cut_now e [] g g2 false (k.0 ∙ ap (λ (x : Gathered). x.answers) is) (k.1 ∙ ap (λ (x : Gathered). x.lines) is) (k.2 ∙ s)
-cut_by e g g1 g2 is k (inr s) = cut_now e [] g g2 true (k.0 ∙ ap (λ (x : Gathered). x.answers) is) (k.1 ∙ ap (λ (x : Gathered). x.lines) is) (k.2 ∙ s)
-
-pub played_cut : (refusal : Option SwitchError) (o : Outcome) (row e : Event) (given : Result (SmallVec Effect) SwitchError) (r : Result (Unit {0}) AllocError) (g0 g g1 g2 : Gathered)
-    → row ≡ e → g ≡ g0 → (partly 1 e g.state).state ≡ (unless_refusal refusal g.state o).state
-    → Calls refusal o given g.state g1.state → g1 ≡ holding g1.state g.answers g.lines → Keeps given r g1 g2 → OnErr r (CutIn (row ∷ []) g0 g2)
-played_cut refusal o row e given (Ok u) g0 g g1 g2 is view whole call same k = tt
-played_cut refusal o row e given (Err x) g0 g g1 g2 is view whole call same k =
-    subst (λ (y : Gathered). CutIn (row ∷ []) y g2) view
-    (subst (λ (z : Event). CutIn (z ∷ []) g g2) (sym is)
-    (cut_by e g g1 g2 same (kept_same given x g1 g2 k) (or_whole g1.state g.state _ _ (sym whole) (played_state refusal o given g.state g1.state call))))
+-- it happened, and there was no memory for what it gave
+pub lost_behind : (e : Event) (r : Result (Unit {0}) AllocError) (g0 g g' : Gathered) (t : State) → g ≡ g0 → is_one_step e ≡ true → t ≡ (happened e g.state).state
+    → g'.state ≡ t → OnErr r ((g'.answers ≡ g.answers) × (g'.lines ≡ g.lines)) → OnErr r (CutIn (e ∷ []) g0 g')
+lost_behind e (Ok u) g0 g g' t view one ran state same = tt
+lost_behind e (Err x) g0 g g' t view one ran state same =
+    subst (λ (y : Gathered). CutIn (e ∷ []) y g') view (cut_now e [] g g' true same.0 same.1 (state ∙ (ran ∙ sym (whole_step e g.state one))))
 
 -- the next message was handled, and there was no memory for what it gave
 pub lost_next : (g g' : Gathered) (s : State) (effects : List Effect) → next_of g.state ≡ Some (gives effects s) → g'.state ≡ s → (g'.answers ≡ g.answers) × (g'.lines ≡ g.lines) → LosesNext g g'

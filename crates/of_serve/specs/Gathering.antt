@@ -1,16 +1,12 @@
 -- Parts of a turn, for contracts inside this crate.
-use Rattle.std.specs.Prelude.{◌≡◌, ◌≢◌, ◌⊎◌, ◌≤◌, ◌<◌, ◌+◌, ℕ, suc, Bool, true, false, List, [], ◌∷◌, ◌++◌, length, Option, Some, None as Never, Result, Ok, Err, OnOk, OnErr, if◌then◌else◌}
+use Rattle.std.specs.Prelude.{◌≡◌, ◌⊎◌, ◌≤◌, ◌<◌, ◌+◌, ℕ, suc, Bool, true, false, List, [], ◌∷◌, ◌++◌, length, Option, Some, None as Never, Result, Ok, Err, OnOk, OnErr, if◌then◌else◌}
 use Rattle.std.specs.List.{flat_map}
 use Rattle.std.specs.declared.alloc.AllocError.{AllocError}
-use Rattle.smallvec.specs.SmallVec.{SmallVec}
-use Rattle.of_datapath.specs.declared.effect.Effect.{Effect}
-use Rattle.of_switch.specs.declared.switch_error.SwitchError.{SwitchError}
-use Rattle.of_switch.specs.declared.switch_error.SwitchError.TheVariants.{NoMemory}
 use Rattle.of_switch.specs.declared.event.Event.{Event}
-use Rattle.of_switch.specs.declared.event.Event.TheVariants.{Moment}
+use Rattle.of_switch.specs.declared.event.Event.TheVariants.{Chunk, Moment}
 use Rattle.of_switch.specs.State.{State}
 use Rattle.of_switch.specs.Steps.{Outcome, next_of}
-use Rattle.of_switch.specs.Runs.{Gives, unless_refusal, drain, drained}
+use Rattle.of_switch.specs.Runs.{unless_refusal, drain, drained}
 use Rattle.of_replay.specs.declared.halt.Halt.{Halt}
 use Rattle.of_replay.specs.declared.halt.Halt.TheVariants.{Bad, Memory, Read as ReadHalt, Write}
 use Rattle.std.specs.Io.KnownBytes.{Appends}
@@ -39,11 +35,10 @@ HandlesNext false g g' = (next_of g.state ≡ Never) × (g' ≡ g)
 abbrev pub HandlesAll : Gathered → Gathered → Type 0
 HandlesAll g g' = g' ≡ gather (unless_refusal Never g.state (drained g.state)) g
 
--- what a call of the switch gave is to be written, and of a refused one nothing; or there was no memory for that
-abbrev pub Keeps : Result (SmallVec Effect) SwitchError → Result (Unit {0}) AllocError → Gathered → Gathered → Type 0
-Keeps (Ok effects) (Ok u) g g' = g' ≡ gather (record { report = Gives effects.items; state = g.state }) g
-Keeps (Err e) (Ok u) g g' = (e ≢ NoMemory) × (g' ≡ g)
-Keeps given (Err e) g g' = (g'.answers ≡ g.answers) × (g'.lines ≡ g.lines) × (g'.state ≡ g.state)
+-- an event that is no chunk is done at once
+abbrev pub is_one_step : Event → Bool
+is_one_step (Chunk bytes) = false
+is_one_step other = true
 
 -- memory ran out in the next message: it was not handled, or it was, and nothing of it is told
 abbrev pub LosesNext : Gathered → Gathered → Type 0

@@ -1,16 +1,16 @@
 //! A switch, and what it gives until that is written.
-ghost use Rattle.std.specs.Prelude.{◌≡◌, ◌⊎◌, ◌≤◌, ◌++◌, ◌∷◌, [], Err as Failed, length, take, drop, OnOk, OnErr, IfOk, IfErr, not};
+ghost use Rattle.std.specs.Prelude.{◌≡◌, ◌⊎◌, ◌≤◌, ◌++◌, ◌∷◌, [], Err as Failed, length, take, drop, OnOk, OnErr, IfOk, IfErr, true, not};
 ghost use Rattle.std.specs.List.{flat_map};
 ghost use Rattle.of_session.specs.Session.{is_disconnected};
 ghost use Rattle.of_switch.specs.declared.event.Event.TheVariants.{Lost as Loss, Chunk as Received};
 ghost use Rattle.of_switch.specs.declared.switch_error.SwitchError.TheVariants.{NoMemory};
 ghost use Rattle.of_serve.specs.Turns.{events_of_row, answer_in, due as rows_due, nothing_pending, gathered, left, line_in, waits as has_to_wait};
-ghost use Rattle.of_serve.specs.Gathering.{CutIn, HandlesAll, HandlesNext, HandlesSome, Keeps, LosesNext};
+ghost use Rattle.of_serve.specs.Gathering.{CutIn, HandlesAll, HandlesNext, HandlesSome, LosesNext, is_one_step};
 
 use crate::rows::Rows;
 use of_classifier::Lookup;
 use of_replay::push_effects;
-use of_switch::{Effect, Effects, Event, Switch, SwitchError};
+use of_switch::{Effect, Event, Report, Switch, SwitchError};
 use std::alloc::{AllocError, Global};
 use std::marker::Model;
 
@@ -152,14 +152,17 @@ impl<L: Lookup> Gathering<L> {
         self.lines.extend_from_slice(&self.text)
     }
 
-    // What a call of the switch gave; a refused one gave nothing.
-    fn keep(&mut self, given: Result<Effects, SwitchError>) -> Result<(), AllocError>
-        ensures { Keeps given result self.old self.new }
+    // An event that is no chunk happens; a refused one gives nothing.
+    fn happen(&mut self, event: &Event) -> Result<(), AllocError>
+        requires one_step { is_one_step event.now ≡ true }
+        ensures ok { OnOk result (self.new ≡ gathered (event.now ∷ []) self.old) }
+        ensures err { OnErr result (CutIn (event.now ∷ []) self.old self.new) }
     {
-        match given {
-            Ok(effects) => self.push(&effects),
-            Err(SwitchError::NoMemory) => Err(AllocError),
-            Err(_) => Ok(()),
+        let mut reports = Vec::new(self.alloc);
+        self.switch.run(std::slice::from_ref(event), &mut reports)?;
+        match reports.pop() {
+            Some(Report::Gives(effects)) => self.push(&effects),
+            _ => Ok(()),
         }
     }
 
@@ -169,27 +172,8 @@ impl<L: Lookup> Gathering<L> {
         ensures err { OnErr result (CutIn (event.now ∷ []) self.old self.new) }
     {
         match event {
-            Event::Connect => {
-                let given = self.switch.connected();
-                self.keep(given)
-            }
-            Event::Lost => {
-                self.lose();
-                Ok(())
-            }
             Event::Chunk(bytes) => self.hear(bytes.as_slice()),
-            Event::Frame { port, frame } => {
-                let given = self.switch.frame(*port, frame.as_slice());
-                self.keep(given)
-            }
-            Event::Moment(nanos) => {
-                let given = self.switch.moment(*nanos);
-                self.keep(given)
-            }
-            Event::Ports(change) => {
-                let given = self.switch.port_change(*change);
-                self.keep(given)
-            }
+            _ => self.happen(event),
         }
     }
 

@@ -2,10 +2,9 @@
 
 use crate::event_log::EventLog;
 use crate::teller::Teller;
-use of_network::push_row;
+use of_network::{push_chunk_row, push_row};
 use of_serve::{Rows, waits};
 use of_switch::Event;
-use of_wire::Bytes;
 use std::alloc::AllocError;
 use std::cell::Cell;
 use std::io::{self, ErrorKind, Stdout, Write};
@@ -52,12 +51,9 @@ impl<'r> Journal<'r> {
 
     /// Bytes of the controller come.
     pub fn push_chunk(&mut self, bytes: &[u8]) {
-        if self.log.is_none() {
-            return;
-        }
-        match Bytes::from_slice(self.teller.rt.alloc(), bytes) {
-            Ok(bytes) => self.push(&Event::Chunk(bytes)),
-            Err(error) => self.settle(Err(error)),
+        if self.log.is_some() {
+            let pushed = push_chunk_row(&mut self.text, bytes);
+            self.settle(pushed);
         }
     }
 
