@@ -35,13 +35,13 @@ line_at_fault (Text (Syntax n)) = n
 line_at_fault (Text (Refused n code)) = n
 line_at_fault other = 0
 
-abbrev pub first_line : List LineFaults → List LineRefusal → ℕ
-first_line (f ∷ faults) refused = f.line
-first_line [] (r ∷ refused) = r.line
-first_line [] [] = 0
+abbrev pub first_bad_line : List LineFaults → List LineRefusal → ℕ
+first_bad_line (f ∷ faults) refused = f.line
+first_bad_line [] (r ∷ refused) = r.line
+first_bad_line [] [] = 0
 
 abbrev pub line_of_import : ImportError → ℕ
-line_of_import (import.Faults faults refused) = first_line faults.items refused.items
+line_of_import (import.Faults faults refused) = first_bad_line faults.items refused.items
 line_of_import (import.Refused line code) = line
 line_of_import other = 0
 

@@ -1,7 +1,7 @@
 //! What a call gives.
 ghost use Rattle.std.specs.Prelude.{◌≡◌, [], Some, length};
 ghost use Rattle.of_replay.specs.Ended.{status_of};
-ghost use Rattle.of_c.specs.Answers.{first_line as first_line_of, line_at_fault as line_in, line_of_import as import_line, line_of_none, status_of_import as import_status, status_of_none, with_front};
+ghost use Rattle.of_c.specs.Answers.{first_bad_line as first_line_of, line_at_fault as line_in, line_of_import as import_line, line_of_none, status_of_import as import_status, status_of_none, with_front};
 
 use of_files::NoContents;
 use of_import::{ImportError, LineFaults, LineRefusal};
