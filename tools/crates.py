@@ -35,9 +35,11 @@ class Crates:
 
     def __init__(self, kit, top=TOP):
         self.kit, self.top, self.uses, self.sums, self.running = kit, top, {}, {}, set()
+        self.static = set()
         with open(f"{top}/crates.txt", encoding="utf-8") as lines:
             named = [it.split("#")[0].split(":") for it in lines if ":" in it.split("#")[0]]
         listed = {name.split()[0]: libraries.split() for name, libraries in named}
+        self.static.update(name.split()[0] for name, _ in named if name.split()[1:] == ["staticlib"])
 
         def visit(name):
             for library in listed[name]:
@@ -89,12 +91,13 @@ class Crates:
         return self.sums[name]
 
     def made(self, name):
-        return f"{self.folder(name)}/out/built/{name}.rlib"
+        """The folder of a built library, or the file of a static library, which other programs link."""
+        return f"{self.folder(name)}/out/built/lib{name}.a" if name in self.static else f"{self.folder(name)}/out/built/{name}.rlib"
 
     def is_built(self, name):
         try:
             with open(f"{os.path.dirname(self.made(name))}/stamp", encoding="utf-8") as stamp:
-                return os.path.isdir(self.made(name)) and stamp.read() == self.stamp(name)
+                return os.path.exists(self.made(name)) and stamp.read() == self.stamp(name)
         except OSError:
             return False
 
@@ -106,7 +109,8 @@ class Crates:
         for folder in [f"{self.kit}/rlibs", *(os.path.dirname(self.made(it)) for it in self.below(name))]:
             words += ["-L", f"dependency={folder}"]
         words += ["--antt-project", f"{self.kit}/rattle/logic/antt-project.json", "--logic-built", f"{self.kit}/logic_built"]
-        return [*words, "--links", f"{name}="]
+        static = ["--crate-type", "staticlib"] if name in self.static else []
+        return [*words, "--links", f"{name}=", *static]
 
     def call(self, name, words, log, nice=0):
         """Calls a tool in the crate's folder, which gives way to others by how nice it is, and returns its status."""
@@ -134,7 +138,8 @@ class Crates:
         made, stamp = self.made(name), self.stamp(name)
         shutil.rmtree(os.path.dirname(made), ignore_errors=True)
         os.makedirs(os.path.dirname(made))
-        status = self.call(name, [*self.words("build", name), "--jobs", str(jobs), "--statements", "-o", made], log, nice)
+        kind = ["--toolchain", f"{self.kit}/toolchain"] if name in self.static else ["--statements"]
+        status = self.call(name, [*self.words("build", name), "--jobs", str(jobs), *kind, "-o", made], log, nice)
         if not status:
             with open(f"{os.path.dirname(made)}/stamp", "w", encoding="utf-8") as kept:
                 kept.write(stamp)

@@ -238,6 +238,8 @@ A turn is one thing that comes: the time, a datagram, a row, or bytes of the con
 
 const VERSION: &str = "0.1.0";
 
+pub(crate) const ABOUT: &str = "An OpenFlow 1.3.5 switch whose behaviour is proved";
+
 // The group of the arguments of which there has to be exactly one.
 const ALTERNATIVES: &str = "alternatives";
 
@@ -588,14 +590,14 @@ const LIVE_ARGUMENTS: [Argument; 13] = [
 ];
 
 // A subcommand: its name, its help before and after the arguments, and its arguments.
-struct Subcommand {
-    name: &'static str,
-    about: &'static str,
+pub(crate) struct Subcommand {
+    pub(crate) name: &'static str,
+    pub(crate) about: &'static str,
     text: &'static str,
-    arguments: &'static [Argument],
+    pub(crate) arguments: &'static [Argument],
 }
 
-const SUBCOMMANDS: [Subcommand; 12] = [
+pub(crate) const SUBCOMMANDS: [Subcommand; 12] = [
     Subcommand {
         name: "replay",
         about: "Runs an event file on a new switch and prints the effects",
@@ -674,7 +676,7 @@ const SUBCOMMANDS: [Subcommand; 12] = [
 pub fn command<'a>(alloc: Global) -> Result<Command<'a>, AllocError> {
     let mut command = Command::new(alloc, "ofswitch")
         .version(VERSION)
-        .about("An OpenFlow 1.3.5 switch whose behaviour is proved")
+        .about(ABOUT)
         .after_help(STATUSES)
         .subcommand_required(true)
         .arg_required_else_help(true);

@@ -1,6 +1,7 @@
 //! The command line of `ofswitch`: the words that a user types, read as a request.
 #![tactic(auto)]
 
+mod brief;
 mod checking;
 mod command;
 mod history;
@@ -13,6 +14,7 @@ ghost use Rattle.std.specs.Prelude.{◌≡◌};
 ghost use Rattle.std.specs.Iterator.{IsFinite};
 ghost use Rattle.of_command_line.specs.declared.NoRequest.TheVariants.{NoMemory};
 
+use brief::brief_help;
 use checking::check_of;
 use clap::ArgMatches;
 use clap::error::{Error, ErrorKind};
@@ -301,7 +303,7 @@ pub fn read_request<N: Net>(
 ) -> Result<Request, NoRequest> {
     match command(alloc)?.try_get_matches_from(words) {
         Ok(matches) => request_of(alloc, net, &matches),
-        Err(error) => Err(refusal_of(alloc, &error)?),
+        Err(error) => Err(refusal_of(alloc, words, &error)?),
     }
 }
 
@@ -761,12 +763,14 @@ fn refused(alloc: Global, why: &str) -> Result<NoRequest, AllocError> {
     Ok(NoRequest::Refused(why.to_string(alloc)?))
 }
 
-fn refusal_of(alloc: Global, error: &Error) -> Result<NoRequest, AllocError> {
+fn refusal_of(alloc: Global, words: &[String], error: &Error) -> Result<NoRequest, AllocError> {
     if error.kind() == ErrorKind::OutOfMemory {
         return Ok(NoRequest::NoMemory);
     }
     let text = format!(in alloc; "{error}")?;
-    if error.exit_code() == 0 {
+    if error.kind() == ErrorKind::DisplayHelp && words.iter().any(|word| word.as_str() == "-h") {
+        Ok(NoRequest::Asked(brief_help(alloc, words, text.as_str())?))
+    } else if error.exit_code() == 0 {
         Ok(NoRequest::Asked(text))
     } else {
         Ok(NoRequest::Refused(text))

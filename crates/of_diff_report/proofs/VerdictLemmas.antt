@@ -10,8 +10,10 @@ use Rattle.of_alike.specs.declared.alike.Compared.{Compared}
 use Rattle.of_diff.specs.declared.difference.Difference.{Difference}
 use Rattle.of_diff.specs.declared.difference.Differences.{Differences}
 use Rattle.of_diff.specs.declared.difference.Undecided.{Undecided}
+use Rattle.of_diff_report.specs.declared.reserved.Limits.{Limits}
 use Rattle.of_diff_report.specs.declared.writing.DiffVerdict.TheVariants.{Differs, Same, Undecided as Open}
 use Rattle.of_diff_report.specs.DiffFiles.{AreFoundBetween, IsVerdict, diff_verdict, verdict_on}
+use Rattle.of_diff_report.specs.DiffWords.{is_reserved}
 
 nothing_in : {A : Type 0} (x : A) → Contains [] x → ⊥
 nothing_in x at = omega (arith, at.1)
@@ -26,24 +28,31 @@ alike found undecided frame port f u (inl h) = absurd (nothing_in h.0 (subst (λ
 alike found undecided frame port f u (inr (inl h)) = absurd (nothing_in h.0 (subst (λ (l : List Undecided). Contains l h.0) u h.1))
 alike found undecided frame port f u (inr (inr h)) = h
 
-by_lists : (c : Compared) (steps : ℕ) (f g : Forwarding) (missing : List ℕ) (ds : Differences) (found : List Difference) (undecided : List Undecided)
-    → ds.found.items ≡ found → ds.undecided.items ≡ undecided → AreDifferences c (world_of f) (world_of g) steps ds → IsVerdict c f g (verdict_on missing ds)
-by_lists c steps f g [] ds [] [] a b h = rw (a, b) (λ frame port received. alike ds.found.items ds.undecided.items frame port a b (h.all frame port received))
-by_lists c steps f g [] ds [] (u ∷ us) a b h = rw (a, b, some_more (length us)) tt
-by_lists c steps f g [] ds (d ∷ others) undecided a b h = rw (a, some_more (length others)) (d, h.real d (rw a (0, omega arith, refl)))
-by_lists c steps f g (port ∷ ports) ds [] undecided a b h = rw (a, some_more (length ports)) tt
-by_lists c steps f g (port ∷ ports) ds (d ∷ others) undecided a b h =
-    rw (a, some_more (length ports), some_more (length others)) (d, h.real d (rw a (0, omega arith, refl)))
+by_lists : (c : Compared) (steps : ℕ) (f g : Forwarding) (missing : List ℕ) (limits : Option Limits) (reserved : Bool) → is_reserved missing limits ≡ reserved → (ds : Differences) (found : List Difference) (undecided : List Undecided)
+    → ds.found.items ≡ found → ds.undecided.items ≡ undecided → AreDifferences c (world_of f) (world_of g) steps ds → IsVerdict c f g (verdict_on missing limits ds)
+by_lists c steps f g missing limits false e ds [] [] a b h = rw (e, a, b) (λ frame port received. alike ds.found.items ds.undecided.items frame port a b (h.all frame port received))
+by_lists c steps f g missing limits false e ds [] (u ∷ us) a b h = rw (e, a, b, some_more (length us)) tt
+by_lists c steps f g missing limits false e ds (d ∷ others) undecided a b h = rw (e, a, some_more (length others)) (d, h.real d (rw a (0, omega arith, refl)))
+by_lists c steps f g missing limits true e ds [] undecided a b h = rw (e, a) tt
+by_lists c steps f g missing limits true e ds (d ∷ others) undecided a b h = rw (e, a, some_more (length others)) (d, h.real d (rw a (0, omega arith, refl)))
 
-pub verdict_means : (c : Compared) (steps : ℕ) (f g : Forwarding) (missing : List ℕ) (found : Option Differences) → AreFoundBetween c steps f g found → IsVerdict c f g (diff_verdict missing found)
-verdict_means c steps f g missing None h = h
-verdict_means c steps f g missing (Some ds) h = by_lists c steps f g missing ds ds.found.items ds.undecided.items refl refl h
+pub verdict_means : (c : Compared) (steps : ℕ) (f g : Forwarding) (missing : List ℕ) (limits : Option Limits) (found : Option Differences) → AreFoundBetween c steps f g found → IsVerdict c f g (diff_verdict missing limits found)
+verdict_means c steps f g missing limits None h = h
+verdict_means c steps f g missing limits (Some ds) h = by_lists c steps f g missing limits (is_reserved missing limits) refl ds ds.found.items ds.undecided.items refl refl h
 
--- all frames are treated alike for certain only if no port is missing
-pub same_misses_none : (missing : List ℕ) (ds : Differences) → verdict_on missing ds ≡ Same → missing ≡ []
-same_misses_none [] ds h = refl
-same_misses_none (port ∷ ports) ds h = by_found (length ds.found.items == 0) (rw (some_more (length ports)) at h)
-  where
-    by_found : (none : Bool) → (if none then Open else Differs) ≡ Same → port ∷ ports ≡ []
-    by_found true e = cc
-    by_found false e = cc
+-- all frames are treated alike for certain only if no port is missing and the miss_send_len are the same
+open_or_differs : (none : Bool) → (if none then Open else Differs) ≡ Same → ⊥
+open_or_differs true e = cc
+open_or_differs false e = cc
+
+unreserved : (missing : List ℕ) (limits : Option Limits) (ds : Differences) (reserved : Bool) → is_reserved missing limits ≡ reserved → verdict_on missing limits ds ≡ Same → reserved ≡ false
+unreserved missing limits ds false e h = refl
+unreserved missing limits ds true e h = absurd (open_or_differs (length ds.found.items == 0) (rw e at h))
+
+none_there : (missing : List ℕ) → is_reserved missing None ≡ false → missing ≡ []
+none_there [] h = refl
+none_there (port ∷ ports) h = absurd (let some : is_reserved (port ∷ ports) None ≡ true = rw (some_more (length ports)) refl in cc)
+
+pub same_misses_none : (missing : List ℕ) (limits : Option Limits) (ds : Differences) → verdict_on missing limits ds ≡ Same → (missing ≡ []) × (limits ≡ None)
+same_misses_none missing None ds h = (none_there missing (unreserved missing None ds (is_reserved missing None) refl h), refl)
+same_misses_none missing (Some l) ds h = absurd (let none : is_reserved missing (Some l) ≡ false = unreserved missing (Some l) ds (is_reserved missing (Some l)) refl h in cc)

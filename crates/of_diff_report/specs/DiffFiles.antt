@@ -11,6 +11,7 @@ use Rattle.of_alike.specs.declared.alike.Compared.{Compared}
 use Rattle.of_diff.specs.declared.difference.Difference.{Difference}
 use Rattle.of_diff.specs.declared.difference.Differences.{Differences}
 use Rattle.of_diff_report.specs.declared.hits.FileFlows.{FileFlows}
+use Rattle.of_diff_report.specs.declared.reserved.Limits.{Limits}
 use Rattle.of_diff_report.specs.declared.writing.DiffForm.{DiffForm}
 use Rattle.of_diff_report.specs.declared.writing.DiffForm.TheVariants.{Json, Words}
 use Rattle.of_diff_report.specs.declared.writing.DiffVerdict.{DiffVerdict}
@@ -23,19 +24,19 @@ abbrev pub AreFoundBetween : Compared → ℕ → Forwarding → Forwarding → 
 AreFoundBetween c steps f g None = SamePorts f.ports g.ports → ⊥
 AreFoundBetween c steps f g (Some ds) = AreDifferences c (world_of f) (world_of g) steps ds
 
--- in words or as JSON, with the flow entries of both switches, and the ports that are named and missing
-abbrev pub diff_text : DiffForm → FileFlows → FileFlows → List ℕ → Forwarding → Forwarding → Option Differences → List ℕ
-diff_text Words a b missing f g None = other_ports_words missing
-diff_text Words a b missing f g (Some ds) = diff_words a b missing f g ds
-diff_text Json a b missing f g None = other_ports_json missing
-diff_text Json a b missing f g (Some ds) = diff_json a b missing f g ds
+-- in words or as JSON, with the flow entries of both switches, the ports that are named and missing, and the miss_send_len if they differ
+abbrev pub diff_text : DiffForm → FileFlows → FileFlows → List ℕ → Option Limits → Forwarding → Forwarding → Option Differences → List ℕ
+diff_text Words a b missing limits f g None = other_ports_words missing
+diff_text Words a b missing limits f g (Some ds) = diff_words a b missing limits f g ds
+diff_text Json a b missing limits f g None = other_ports_json missing
+diff_text Json a b missing limits f g (Some ds) = diff_json a b missing limits f g ds
 
-abbrev pub verdict_on : List ℕ → Differences → DiffVerdict
-verdict_on missing ds = if are_same_with missing ds then Same else if length ds.found.items == 0 then Undecided else Differs
+abbrev pub verdict_on : List ℕ → Option Limits → Differences → DiffVerdict
+verdict_on missing limits ds = if are_same_with missing limits ds then Same else if length ds.found.items == 0 then Undecided else Differs
 
-abbrev pub diff_verdict : List ℕ → Option Differences → DiffVerdict
-diff_verdict missing None = OtherPorts
-diff_verdict missing (Some ds) = verdict_on missing ds
+abbrev pub diff_verdict : List ℕ → Option Limits → Option Differences → DiffVerdict
+diff_verdict missing limits None = OtherPorts
+diff_verdict missing limits (Some ds) = verdict_on missing limits ds
 
 -- the verdict, if all was written
 abbrev pub IsVerdictResult : Result DiffVerdict Ended → DiffVerdict → Type 0
@@ -43,9 +44,9 @@ IsVerdictResult (Ok verdict) is = verdict ≡ is
 IsVerdictResult (Err ended) is = ended ≢ Done
 
 -- THE TEXT of what is found about two switches. The runs of all frames take at most so many steps together, and each search for a frame as many.
-abbrev pub IsDiffReport : Result DiffVerdict Ended → DiffForm → FileFlows → FileFlows → List ℕ → Compared → ℕ → Forwarding → Forwarding → List ℕ → Type 0
-IsDiffReport result form a b missing c steps f g text =
-    (found : Option Differences) × AreFoundBetween c steps f g found × (text ≡ diff_text form a b missing f g found) × IsVerdictResult result (diff_verdict missing found)
+abbrev pub IsDiffReport : Result DiffVerdict Ended → DiffForm → FileFlows → FileFlows → List ℕ → Option Limits → Compared → ℕ → Forwarding → Forwarding → List ℕ → Type 0
+IsDiffReport result form a b missing limits c steps f g text =
+    (found : Option Differences) × AreFoundBetween c steps f g found × (text ≡ diff_text form a b missing limits f g found) × IsVerdictResult result (diff_verdict missing limits found)
 
 -- WHAT THE VERDICT MEANS: each frame that is received is treated alike; or some frame is not, which both ran; or the ports differ
 abbrev pub IsVerdict : Compared → Forwarding → Forwarding → DiffVerdict → Type 0

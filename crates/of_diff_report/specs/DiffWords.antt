@@ -1,13 +1,20 @@
 -- THE REPORT OF `diff` IN WORDS: a line for each port that is named and missing, a block for each difference, a line for each reason why frames are
--- undecided, and a summary.
-use Rattle.std.specs.Prelude.{ℕ, ◌==◌, Bool, true, false, List, [], ◌∷◌, ◌++◌, length, filter, codes, decimal, if◌then◌else◌}
-use Rattle.std.specs.List.{flat_map}
+-- undecided, and a summary. Differences of frames whose TTL expires are counted in one line, unless all are of such frames.
+use Rattle.std.specs.Prelude.{ℕ, ◌==◌, ◌||◌, Bool, true, false, not, List, [], ◌∷◌, ◌++◌, length, filter, codes, decimal, Option, Some, None, if◌then◌else◌}
+use Rattle.std.specs.List.{flat_map, list_all, list_any}
+use Rattle.hex.specs.Hex.{encode_lower}
 use Rattle.of_text.specs.Lines.{ended}
+use Rattle.of_wire.specs.declared.reasons.PacketInReason.{PacketInReason}
+use Rattle.of_wire.specs.declared.reasons.PacketInReason.TheVariants as reasons
 use Rattle.of_machine.specs.declared.data.Item.{Item}
+use Rattle.of_machine.specs.declared.data.Item.TheVariants.{PacketIn, Sent}
 use Rattle.of_datapath.specs.Datapath.{Forwarding}
 use Rattle.of_trace.specs.Words.{heading}
-use Rattle.of_json.specs.LeavingWords.{frame_lines, side_words}
+use Rattle.of_json.specs.LeavingWords.{frame_lines}
 use Rattle.of_json.specs.UndecidedWords.{undecided_count, undecided_sets}
+use Rattle.of_changes.specs.ChangesInWords.{changed_side_words}
+use Rattle.of_alike.specs.declared.alike.Compared.{Compared}
+use Rattle.of_alike.specs.declared.alike.Compared.TheVariants.{All, Frames}
 use Rattle.of_alike.specs.declared.alike.Where.{Where}
 use Rattle.of_alike.specs.declared.alike.Where.TheVariants.{Controller, Port as ByPort}
 use Rattle.of_diff.specs.declared.difference.Difference.{Difference}
@@ -16,6 +23,7 @@ use Rattle.of_diff.specs.declared.difference.Undecided.{Undecided}
 use Rattle.of_diff.specs.declared.difference.Why.{Why}
 use Rattle.of_diff.specs.declared.difference.Why.TheVariants.{OtherActions, Search, Steps, UnknownTag}
 use Rattle.of_diff_report.specs.declared.hits.FileFlows.{FileFlows}
+use Rattle.of_diff_report.specs.declared.reserved.Limits.{Limits}
 use Rattle.of_diff_report.specs.EntryHits.{hit_lines}
 
 -- ---- ports that groups or flows of the files name, and that the switches do not have
@@ -25,6 +33,21 @@ missing_line port = codes "port " ++ decimal port ++ codes " is named, and the s
 
 abbrev pub missing_lines : List ℕ → List ℕ
 missing_lines ports = flat_map missing_line ports
+
+-- ---- a miss_send_len that is not that of the other switch (7.3.2): if the packets to the controller are compared
+
+abbrev pub other_limits : Compared → ℕ → ℕ → Option Limits
+other_limits Frames first second = None
+other_limits All first second = if first == second then None else Some (record { first = first; second = second })
+
+unfoldable pub limits_words : Limits → List ℕ
+limits_words l =
+    codes "miss_send_len is " ++ decimal l.first ++ codes " and " ++ decimal l.second ++ codes ": how much of a frame whose TTL expires a PACKET_IN has is not compared"
+    ++ 10 ∷ []
+
+abbrev pub limits_line : Option Limits → List ℕ
+limits_line None = []
+limits_line (Some l) = limits_words l
 
 -- ---- a difference: where something else leaves, the frame as the first switch receives it, and as `trace` takes it, for each switch the entries that it
 -- hits and what leaves, and how many sets of frames it has, if more than one
@@ -39,15 +62,49 @@ sets_words n = codes "    sets of frames: " ++ decimal n ++ 10 ∷ []
 unfoldable pub sets_line : ℕ → List ℕ
 sets_line n = if n == 1 then [] else sets_words n
 
--- the entries that the frame hits at a switch, and what leaves it
+-- the entries that the frame hits at a switch, what leaves it, and what changed in that
 unfoldable pub switch_words : List ℕ → FileFlows → Forwarding → ℕ → List ℕ → List Item → List ℕ
-switch_words who flows f port frame items = hit_lines who flows port frame f ++ side_words who items
+switch_words who flows f port frame items = hit_lines who flows port frame f ++ changed_side_words who frame items
 
 unfoldable pub difference_words : FileFlows → FileFlows → Forwarding → Forwarding → Difference → List ℕ
 difference_words a b f g d =
     where_words d.at ++ ended (heading f d.in_port d.frame.items) ++ frame_lines d.in_port d.frame.items
     ++ switch_words (codes "    first: ") a f d.in_port d.frame.items d.first.items
     ++ switch_words (codes "    second: ") b g d.in_port d.frame.items d.second.items ++ sets_line (length d.sets.items)
+
+-- ---- differences of frames whose TTL expires: `of frames whose TTL expires: 2 differences, such as --port 1 HEX`
+
+abbrev pub is_invalid_ttl : PacketInReason → Bool
+is_invalid_ttl reasons.NoMatch = false
+is_invalid_ttl reasons.Action = false
+is_invalid_ttl reasons.InvalidTtl = true
+
+abbrev pub is_expired_item : Item → Bool
+is_expired_item (Sent port frame) = false
+is_expired_item (PacketIn p) = is_invalid_ttl p.reason
+
+-- the TTL of its frame expires at one of the switches
+abbrev pub is_of_expired : Difference → Bool
+is_of_expired d = list_any is_expired_item d.first.items || list_any is_expired_item d.second.items
+
+-- those of other frames have a block each; if there are no others, these have
+abbrev pub told_words : Bool → FileFlows → FileFlows → Forwarding → Forwarding → Difference → List ℕ
+told_words all a b f g d = if all || not (is_of_expired d) then difference_words a b f g d else []
+
+abbrev pub difference_count : ℕ → List ℕ
+difference_count n = decimal n ++ (if n == 1 then codes " difference" else codes " differences")
+
+unfoldable pub expired_words : ℕ → Difference → List ℕ
+expired_words n d =
+    codes "of frames whose TTL expires: " ++ difference_count n ++ codes ", such as --port " ++ decimal d.in_port ++ 32 ∷ encode_lower d.frame.items ++ 10 ∷ []
+
+-- so many, with the first one
+abbrev pub first_expired_words : ℕ → List Difference → List ℕ
+first_expired_words n [] = []
+first_expired_words n (d ∷ ds) = if is_of_expired d then expired_words n d else first_expired_words n ds
+
+abbrev pub expired_line : List Difference → List ℕ
+expired_line found = if list_all is_of_expired found then [] else first_expired_words (length (filter is_of_expired found)) found
 
 -- ---- why frames are undecided: for each reason how many sets of frames
 
@@ -77,30 +134,34 @@ undecided_words undecided =
 
 -- ---- the summary: `1 difference, 3 undecided`
 
-abbrev pub difference_count : ℕ → List ℕ
-difference_count n = decimal n ++ (if n == 1 then codes " difference" else codes " differences")
-
 -- nothing differs, and nothing is undecided
 abbrev pub are_same : Differences → Bool
 are_same ds = if length ds.found.items == 0 then length ds.undecided.items == 0 else false
 
--- and no port is missing
-abbrev pub are_same_with : List ℕ → Differences → Bool
-are_same_with missing ds = if length missing == 0 then are_same ds else false
+-- a port is missing, or the miss_send_len differ
+abbrev pub is_reserved : List ℕ → Option Limits → Bool
+is_reserved missing (Some limits) = true
+is_reserved missing None = not (length missing == 0)
 
--- the switches with these ports treat all frames alike
-abbrev pub same_words : List ℕ → List ℕ
-same_words [] = codes "same: all frames are treated alike"
-same_words (port ∷ ports) = codes "no difference, as long as the switches do not have these ports"
+abbrev pub are_same_with : List ℕ → Option Limits → Differences → Bool
+are_same_with missing limits ds = if is_reserved missing limits then false else are_same ds
 
-unfoldable pub diff_summary : List ℕ → Differences → List ℕ
-diff_summary missing ds =
-    if are_same ds then same_words missing ++ 10 ∷ []
+-- the switches treat all frames alike, as far as this is compared
+abbrev pub same_words : List ℕ → Option Limits → List ℕ
+same_words [] None = codes "same: all frames are treated alike"
+same_words [] (Some limits) = codes "no difference, except perhaps in how much of a frame a PACKET_IN has"
+same_words (port ∷ ports) limits = codes "no difference, as long as the switches do not have these ports"
+
+unfoldable pub diff_summary : List ℕ → Option Limits → Differences → List ℕ
+diff_summary missing limits ds =
+    if are_same ds then same_words missing limits ++ 10 ∷ []
     else difference_count (length ds.found.items) ++ undecided_count (length ds.undecided.items) ++ 10 ∷ []
 
 -- THE REPORT
-unfoldable pub diff_words : FileFlows → FileFlows → List ℕ → Forwarding → Forwarding → Differences → List ℕ
-diff_words a b missing f g ds = missing_lines missing ++ flat_map (difference_words a b f g) ds.found.items ++ undecided_words ds.undecided.items ++ diff_summary missing ds
+unfoldable pub diff_words : FileFlows → FileFlows → List ℕ → Option Limits → Forwarding → Forwarding → Differences → List ℕ
+diff_words a b missing limits f g ds =
+    missing_lines missing ++ limits_line limits ++ flat_map (told_words (list_all is_of_expired ds.found.items) a b f g) ds.found.items ++ expired_line ds.found.items
+    ++ undecided_words ds.undecided.items ++ diff_summary missing limits ds
 
 -- of switches whose ports differ
 abbrev pub other_ports_words : List ℕ → List ℕ

@@ -1,11 +1,14 @@
 //! What is found about two switches, as JSON.
 ghost use Rattle.std.specs.Prelude.{◌≡◌, ◌++◌, codes, decimal, IfOk, OnOk};
 ghost use Rattle.of_json.specs.Strings.{array_member};
-ghost use Rattle.of_diff_report.specs.DiffJson.{at_member, both_hits_members, diff_document, diff_head, diff_json, difference_members, difference_object, differences_listed, missing_member, other_ports_json, same_in_json, undecided_member, undecided_string, why_name};
+ghost use Rattle.of_changes.specs.ChangesInJson.{changes_member};
+ghost use Rattle.of_diff_report.specs.DiffJson.{at_member, both_hits_members, diff_document, diff_head, diff_json, difference_members, difference_object, differences_listed, limits_in_json, limits_member as limits_member_of, missing_member, other_ports_json, same_in_json, undecided_member, undecided_string, why_name};
 
 use crate::hits::{DiffSide, push_hits_member};
+use crate::reserved::{Limits, Reserved};
 use crate::words::is_same_with;
 use of_alike::Where;
+use of_changes::push_changes_member;
 use of_classifier::Lookup;
 use of_diff::{Difference, Differences, Undecided, Why};
 use of_json::{
@@ -27,6 +30,20 @@ fn push_at(out: &mut Vec<u8>, at: Where) -> Result<(), AllocError>
     }
 }
 
+// Appends what changed in what leaves each switch.
+fn push_both_changes(
+    alloc: Global,
+    out: &mut Vec<u8>,
+    difference: &Difference,
+) -> Result<(), AllocError>
+    ensures { OnOk result (out.new.items ≡ out.old.items ++ changes_member (codes "first_changes") difference.now.frame.items difference.now.first.items
+        ++ changes_member (codes "second_changes") difference.now.frame.items difference.now.second.items) }
+{
+    let came = &difference.frame;
+    push_changes_member(alloc, out, b"first_changes", came, &difference.first)?;
+    push_changes_member(alloc, out, b"second_changes", came, &difference.second)
+}
+
 #[tactic(auto, unfolding(crate::specs::DiffJson::difference_members))]
 fn push_difference_members(
     alloc: Global,
@@ -40,6 +57,7 @@ fn push_difference_members(
     push_bytes_member(alloc, out, b"frame", &difference.frame)?;
     push_items_member(alloc, out, b"first", &difference.first)?;
     push_items_member(alloc, out, b"second", &difference.second)?;
+    push_both_changes(alloc, out, difference)?;
     push_number_member(out, b"sets", difference.sets.len() as u128)
 }
 
@@ -169,6 +187,31 @@ fn push_missing_member(out: &mut Vec<u8>, missing: &[u32]) -> Result<(), AllocEr
     push_array_member(out, b"missing_ports", missing, push_port)
 }
 
+fn push_limits(out: &mut Vec<u8>, limits: Option<Limits>) -> Result<(), AllocError>
+    ensures { OnOk result (out.new.items ≡ out.old.items ++ limits_in_json limits) }
+{
+    match limits {
+        None => out.extend_from_slice(b"null"),
+        Some(limits) => {
+            out.push(b'[')?;
+            push_decimal(out, u128::from(limits.first))?;
+            out.push(b',')?;
+            push_decimal(out, u128::from(limits.second))?;
+            out.push(b']')?;
+            Ok(())
+        }
+    }
+}
+
+#[tactic(auto, unfolding(crate::specs::DiffJson::limits_member))]
+fn push_limits_member(out: &mut Vec<u8>, limits: Option<Limits>) -> Result<(), AllocError>
+    ensures { OnOk result (out.new.items ≡ out.old.items ++ limits_member_of limits) }
+{
+    out.push(b',')?;
+    push_key(out, b"miss_send_len")?;
+    push_limits(out, limits)
+}
+
 #[tactic(auto, unfolding(of_json::specs::Strings::array_member))]
 fn push_objects_member(out: &mut Vec<u8>, objects: &[u8]) -> Result<(), AllocError>
     ensures { OnOk result (out.new.items ≡ out.old.items ++ array_member (codes "differences") objects.now) }
@@ -184,16 +227,17 @@ fn document(
     alloc: Global,
     same: &[u8],
     ports_differ: bool,
-    missing: &[u32],
+    of: &Reserved<'_>,
     objects: &[u8],
     undecided: &[Undecided],
 ) -> Result<Vec<u8>, AllocError>
-    ensures { IfOk result (λ text. text.items ≡ diff_document same.now ports_differ missing.now objects.now undecided.now) }
+    ensures { IfOk result (λ text. text.items ≡ diff_document same.now ports_differ of.now.missing.now of.now.limits objects.now undecided.now) }
 {
     let mut out = Vec::new(alloc);
     out.push(b'{')?;
     push_head(&mut out, same, ports_differ)?;
-    push_missing_member(&mut out, missing)?;
+    push_missing_member(&mut out, of.missing)?;
+    push_limits_member(&mut out, of.limits)?;
     push_objects_member(&mut out, objects)?;
     push_undecided_member(&mut out, undecided)?;
     out.push(b'}')?;
@@ -201,10 +245,10 @@ fn document(
     Ok(out)
 }
 
-fn same_word(missing: &[u32], found: &Differences) -> &'static [u8]
-    ensures { result.now ≡ same_in_json missing.now found.now }
+fn same_word(of: &Reserved<'_>, found: &Differences) -> &'static [u8]
+    ensures { result.now ≡ same_in_json of.now.missing.now of.now.limits found.now }
 {
-    if is_same_with(missing, found) {
+    if is_same_with(of, found) {
         b"true"
     } else if found.found.is_empty() {
         b"null"
@@ -218,18 +262,18 @@ pub fn differences_as_json<L: Lookup>(
     alloc: Global,
     first: &DiffSide<'_, L>,
     second: &DiffSide<'_, L>,
-    missing: &[u32],
+    of: &Reserved<'_>,
     found: &Differences,
 ) -> Result<Vec<u8>, AllocError>
-    ensures { IfOk result (λ text. text.items ≡
-        diff_json first.now.flows second.now.flows missing.now first.now.switch.now.core.forwarding second.now.switch.now.core.forwarding found.now) }
+    ensures { IfOk result (λ text. text.items ≡ diff_json first.now.flows second.now.flows of.now.missing.now of.now.limits
+        first.now.switch.now.core.forwarding second.now.switch.now.core.forwarding found.now) }
 {
     let objects = difference_objects(alloc, first, second, &found.found)?;
     document(
         alloc,
-        same_word(missing, found),
+        same_word(of, found),
         false,
-        missing,
+        of,
         &objects,
         &found.undecided,
     )
@@ -239,5 +283,9 @@ pub fn differences_as_json<L: Lookup>(
 pub fn other_ports_as_json(alloc: Global, missing: &[u32]) -> Result<Vec<u8>, AllocError>
     ensures { IfOk result (λ text. text.items ≡ other_ports_json missing.now) }
 {
-    document(alloc, b"false", true, missing, &[], &[])
+    let of = Reserved {
+        missing,
+        limits: None,
+    };
+    document(alloc, b"false", true, &of, &[], &[])
 }

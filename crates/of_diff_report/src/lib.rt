@@ -3,6 +3,7 @@
 
 mod hits;
 mod json;
+mod reserved;
 mod words;
 mod writing;
 

@@ -1,17 +1,21 @@
 //! What is found about two switches, in words.
-ghost use Rattle.std.specs.Prelude.{◌≡◌, ◌++◌, ◌∷◌, IfOk, OnOk};
-ghost use Rattle.std.specs.List.{flat_map};
-ghost use Rattle.of_diff_report.specs.DiffWords.{are_same, are_same_with, count_why, diff_summary, diff_words, difference_count, difference_words, is_why, missing_line, missing_lines, other_ports_words, same_words, sets_line, sets_words, switch_words, undecided_line, undecided_words, where_words, undecided_why};
+ghost use Rattle.std.specs.Prelude.{◌≡◌, ◌++◌, ◌∷◌, IfOk, OnOk, filter, length};
+ghost use Rattle.std.specs.List.{flat_map, list_all, list_any};
+ghost use Rattle.of_diff_report.specs.DiffWords.{are_same, are_same_with, count_why, diff_summary, diff_words, difference_count, difference_words, expired_line, expired_words, first_expired_words, is_expired_item, is_invalid_ttl, is_of_expired, is_why, limits_line, limits_words, missing_line, missing_lines, other_ports_words, same_words, sets_line, sets_words, switch_words, told_words, undecided_line, undecided_words, where_words, undecided_why};
 
 use crate::hits::{DiffSide, push_hit_lines};
+use crate::reserved::{Limits, Reserved};
 use of_alike::Where;
+use of_build::push_hex;
+use of_changes::push_changed_side;
 use of_classifier::Lookup;
 use of_diff::{Difference, Differences, Undecided, Why};
-use of_json::{push_frame_lines, push_side, push_undecided_count, push_undecided_sets};
+use of_json::{push_frame_lines, push_undecided_count, push_undecided_sets};
 use of_machine::Item;
 use of_switch::Switch;
 use of_trace::push_heading;
 use of_values::push_decimal;
+use of_wire::PacketInReason;
 use std::alloc::{AllocError, Global};
 
 #[tactic(auto, unfolding(crate::specs::DiffWords::missing_line))]
@@ -31,6 +35,31 @@ fn push_missing(out: &mut Vec<u8>, missing: &[u32]) -> Result<(), AllocError>
         push_missing_line(out, *port)?;
     }
     Ok(())
+}
+
+#[tactic(auto, unfolding(crate::specs::DiffWords::limits_words))]
+fn push_limits(out: &mut Vec<u8>, limits: Limits) -> Result<(), AllocError>
+    ensures { OnOk result (out.new.items ≡ out.old.items ++ limits_words limits) }
+{
+    out.extend_from_slice(b"miss_send_len is ")?;
+    push_decimal(out, u128::from(limits.first))?;
+    out.extend_from_slice(b" and ")?;
+    push_decimal(out, u128::from(limits.second))?;
+    out.extend_from_slice(
+        b": how much of a frame whose TTL expires a PACKET_IN has is not compared",
+    )?;
+    out.push(b'\n')?;
+    Ok(())
+}
+
+// Appends a line about the miss_send_len, if they differ.
+fn push_limits_line(out: &mut Vec<u8>, limits: Option<Limits>) -> Result<(), AllocError>
+    ensures { OnOk result (out.new.items ≡ out.old.items ++ limits_line limits) }
+{
+    match limits {
+        None => Ok(()),
+        Some(limits) => push_limits(out, limits),
+    }
 }
 
 // Appends where something else leaves.
@@ -70,7 +99,7 @@ fn push_sets_line(out: &mut Vec<u8>, count: usize) -> Result<(), AllocError>
     }
 }
 
-// Appends the entries that a frame hits at a switch, and what leaves it.
+// Appends the entries that a frame hits at a switch, what leaves it, and what changed in that.
 #[tactic(auto, unfolding(crate::specs::DiffWords::switch_words))]
 fn push_switch<L: Lookup>(
     alloc: Global,
@@ -85,7 +114,7 @@ fn push_switch<L: Lookup>(
         switch_words who.now of.now.flows of.now.switch.now.core.forwarding port frame.now items.now) }
 {
     push_hit_lines(alloc, out, who, of.switch, &of.flows, port, frame)?;
-    push_side(alloc, out, who, items)
+    push_changed_side(alloc, out, who, frame, items)
 }
 
 #[tactic(auto, unfolding(crate::specs::DiffWords::difference_words))]
@@ -124,20 +153,138 @@ fn push_difference<L: Lookup>(
     push_sets_line(out, difference.sets.len())
 }
 
+fn is_invalid(reason: PacketInReason) -> bool
+    ensures { result ≡ is_invalid_ttl reason }
+{
+    matches!(reason, PacketInReason::InvalidTtl)
+}
+
+fn is_expired(item: &Item) -> bool
+    ensures { result ≡ is_expired_item item.now }
+{
+    match item {
+        Item::Sent { .. } => false,
+        Item::PacketIn(packet) => is_invalid(packet.reason),
+    }
+}
+
+// Whether the TTL of the frame expires at one of the switches.
+fn expires(difference: &Difference) -> bool
+    ensures { result ≡ is_of_expired difference.now }
+{
+    difference.first.iter().any(is_expired) || difference.second.iter().any(is_expired)
+}
+
+// Appends a difference, unless it is one of those that are only counted.
+fn push_told<L: Lookup>(
+    alloc: Global,
+    out: &mut Vec<u8>,
+    first: &DiffSide<'_, L>,
+    second: &DiffSide<'_, L>,
+    all: bool,
+    difference: &Difference,
+) -> Result<(), AllocError>
+    ensures { OnOk result (out.new.items ≡ out.old.items ++ told_words all first.now.flows second.now.flows
+        first.now.switch.now.core.forwarding second.now.switch.now.core.forwarding difference.now) }
+{
+    if all || !expires(difference) {
+        push_difference(alloc, out, first, second, difference)
+    } else {
+        Ok(())
+    }
+}
+
 fn push_differences<L: Lookup>(
     alloc: Global,
     out: &mut Vec<u8>,
     first: &DiffSide<'_, L>,
     second: &DiffSide<'_, L>,
+    all: bool,
     found: &[Difference],
 ) -> Result<(), AllocError>
-    ensures { OnOk result (out.new.items ≡ out.old.items ++
-        flat_map (difference_words first.now.flows second.now.flows first.now.switch.now.core.forwarding second.now.switch.now.core.forwarding) found.now) }
+    ensures { OnOk result (out.new.items ≡ out.old.items ++ flat_map (told_words all first.now.flows second.now.flows
+        first.now.switch.now.core.forwarding second.now.switch.now.core.forwarding) found.now) }
 {
     for difference in found {
-        push_difference(alloc, out, first, second, difference)?;
+        push_told(alloc, out, first, second, all, difference)?;
     }
     Ok(())
+}
+
+fn push_difference_count(out: &mut Vec<u8>, count: usize) -> Result<(), AllocError>
+    ensures { OnOk result (out.new.items ≡ out.old.items ++ difference_count count) }
+{
+    push_decimal(out, count as u128)?;
+    if count == 1 {
+        out.extend_from_slice(b" difference")
+    } else {
+        out.extend_from_slice(b" differences")
+    }
+}
+
+#[tactic(auto, unfolding(crate::specs::DiffWords::expired_words))]
+fn push_expired(
+    alloc: Global,
+    out: &mut Vec<u8>,
+    count: usize,
+    difference: &Difference,
+) -> Result<(), AllocError>
+    ensures { OnOk result (out.new.items ≡ out.old.items ++ expired_words count difference.now) }
+{
+    out.extend_from_slice(b"of frames whose TTL expires: ")?;
+    push_difference_count(out, count)?;
+    out.extend_from_slice(b", such as --port ")?;
+    push_decimal(out, u128::from(difference.in_port))?;
+    out.push(b' ')?;
+    push_hex(alloc, out, &difference.frame)?;
+    out.push(b'\n')?;
+    Ok(())
+}
+
+// Appends how many differences are of frames whose TTL expires, and the first of these frames.
+fn push_first_expired(
+    alloc: Global,
+    out: &mut Vec<u8>,
+    count: usize,
+    found: &[Difference],
+) -> Result<(), AllocError>
+    ensures { OnOk result (out.new.items ≡ out.old.items ++ first_expired_words count found.now) }
+{
+    for difference in found {
+        if expires(difference) {
+            return push_expired(alloc, out, count, difference);
+        }
+    }
+    Ok(())
+}
+
+fn count_expired(found: &[Difference]) -> usize
+    ensures { result ≡ length (filter is_of_expired found.now) }
+{
+    found
+        .iter()
+        .filter(|difference| expires(difference))
+        .count()
+}
+
+fn all_expire(found: &[Difference]) -> bool
+    ensures { result ≡ list_all is_of_expired found.now }
+{
+    found.iter().all(expires)
+}
+
+// Appends a line about the differences that are only counted, if there are such.
+fn push_expired_line(
+    alloc: Global,
+    out: &mut Vec<u8>,
+    found: &[Difference],
+) -> Result<(), AllocError>
+    ensures { OnOk result (out.new.items ≡ out.old.items ++ expired_line found.now) }
+{
+    if all_expire(found) {
+        return Ok(());
+    }
+    push_first_expired(alloc, out, count_expired(found), found)
 }
 
 // Whether a reason is the other one.
@@ -210,41 +357,30 @@ pub fn is_same(found: &Differences) -> bool
     found.found.is_empty() && found.undecided.is_empty()
 }
 
-/// Whether, besides, no port is missing.
-pub fn is_same_with(missing: &[u32], found: &Differences) -> bool
-    ensures { result ≡ are_same_with missing.now found.now }
+/// Whether, besides, no port is missing, and the miss_send_len are the same.
+pub fn is_same_with(of: &Reserved<'_>, found: &Differences) -> bool
+    ensures { result ≡ are_same_with of.now.missing.now of.now.limits found.now }
 {
-    missing.is_empty() && is_same(found)
+    !of.is_some() && is_same(found)
 }
 
-fn same_sentence(missing: &[u32]) -> &'static [u8]
-    ensures { result.now ≡ same_words missing.now }
+fn same_sentence(of: &Reserved<'_>) -> &'static [u8]
+    ensures { result.now ≡ same_words of.now.missing.now of.now.limits }
 {
-    if missing.is_empty() {
-        b"same: all frames are treated alike"
-    } else {
-        b"no difference, as long as the switches do not have these ports"
-    }
-}
-
-fn push_difference_count(out: &mut Vec<u8>, count: usize) -> Result<(), AllocError>
-    ensures { OnOk result (out.new.items ≡ out.old.items ++ difference_count count) }
-{
-    push_decimal(out, count as u128)?;
-    if count == 1 {
-        out.extend_from_slice(b" difference")
-    } else {
-        out.extend_from_slice(b" differences")
+    match (of.missing, of.limits) {
+        ([], None) => b"same: all frames are treated alike",
+        ([], Some(_)) => b"no difference, except perhaps in how much of a frame a PACKET_IN has",
+        _ => b"no difference, as long as the switches do not have these ports",
     }
 }
 
 // Appends how many differences and undecided sets of frames there are.
 #[tactic(auto, unfolding(crate::specs::DiffWords::diff_summary))]
-fn push_summary(out: &mut Vec<u8>, missing: &[u32], found: &Differences) -> Result<(), AllocError>
-    ensures { OnOk result (out.new.items ≡ out.old.items ++ diff_summary missing.now found.now) }
+fn push_summary(out: &mut Vec<u8>, of: &Reserved<'_>, found: &Differences) -> Result<(), AllocError>
+    ensures { OnOk result (out.new.items ≡ out.old.items ++ diff_summary of.now.missing.now of.now.limits found.now) }
 {
     if is_same(found) {
-        out.extend_from_slice(same_sentence(missing))?;
+        out.extend_from_slice(same_sentence(of))?;
     } else {
         push_difference_count(out, found.found.len())?;
         push_undecided_count(out, found.undecided.len())?;
@@ -259,17 +395,20 @@ pub fn differences_in_words<L: Lookup>(
     alloc: Global,
     first: &DiffSide<'_, L>,
     second: &DiffSide<'_, L>,
-    missing: &[u32],
+    of: &Reserved<'_>,
     found: &Differences,
 ) -> Result<Vec<u8>, AllocError>
-    ensures { IfOk result (λ text. text.items ≡
-        diff_words first.now.flows second.now.flows missing.now first.now.switch.now.core.forwarding second.now.switch.now.core.forwarding found.now) }
+    ensures { IfOk result (λ text. text.items ≡ diff_words first.now.flows second.now.flows of.now.missing.now of.now.limits
+        first.now.switch.now.core.forwarding second.now.switch.now.core.forwarding found.now) }
 {
     let mut out = Vec::new(alloc);
-    push_missing(&mut out, missing)?;
-    push_differences(alloc, &mut out, first, second, &found.found)?;
+    let all = all_expire(&found.found);
+    push_missing(&mut out, of.missing)?;
+    push_limits_line(&mut out, of.limits)?;
+    push_differences(alloc, &mut out, first, second, all, &found.found)?;
+    push_expired_line(alloc, &mut out, &found.found)?;
     push_undecided(&mut out, &found.undecided)?;
-    push_summary(&mut out, missing, found)?;
+    push_summary(&mut out, of, found)?;
     Ok(out)
 }
 

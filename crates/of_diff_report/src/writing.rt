@@ -1,5 +1,5 @@
 //! The report on two switches.
-ghost use Rattle.std.specs.Prelude.{◌≡◌, ◌<◌, ◌↔◌, ℕ, List, [], IfOk, Ok, None, Some};
+ghost use Rattle.std.specs.Prelude.{◌≡◌, ◌<◌, ◌↔◌, ℕ, List, Option, [], IfOk, Ok, None, Some};
 ghost use Rattle.of_datapath.specs.Datapath.{Forwarding, world_of};
 ghost use Rattle.of_replay.specs.FileRuns.{Writes, ended_as};
 ghost use Rattle.of_symbolic_run.specs.Received.{IsReceivedAt};
@@ -7,10 +7,13 @@ ghost use Rattle.of_diff.specs.Differences.{IsDifference, IsTreatedAlike};
 ghost use Rattle.of_alike.specs.declared.alike.Compared.{Compared as WhatIsCompared};
 ghost use Rattle.of_diff.specs.declared.difference.Difference.{Difference};
 ghost use Rattle.of_diff_report.specs.declared.hits.FileFlows.{FileFlows as AFileFlows};
+ghost use Rattle.of_diff_report.specs.declared.reserved.Limits.{Limits as OtherLimits};
 ghost use Rattle.of_diff_report.specs.DiffFiles.{AreFoundBetween, IsDiffReport, IsVerdict, diff_text, diff_verdict, verdict_on};
+ghost use Rattle.of_diff_report.specs.DiffWords.{other_limits};
 
 use crate::hits::DiffSide;
 use crate::json::{differences_as_json, other_ports_as_json};
+use crate::reserved::{Limits, Reserved, limits_between};
 use crate::words::{differences_in_words, is_same_with, other_ports_in_words};
 use of_alike::Compared;
 use of_classifier::Lookup;
@@ -35,7 +38,7 @@ pub enum DiffVerdict {
     Same,
     /// Some frame makes something else leave them.
     Differs,
-    /// No difference is found, but it is not known of all frames, or a port is missing.
+    /// No difference is found, but it is not known of all frames, or a port is missing, or the miss_send_len differ.
     Undecided,
     /// Their ports differ.
     OtherPorts,
@@ -56,7 +59,8 @@ fn find_differences<L: Lookup>(
 
 // That the ports differ.
 fn other_ports_in(alloc: Global, form: DiffForm, missing: &[u32]) -> Result<Vec<u8>, AllocError>
-    ensures { (a b : AFileFlows) (f g : Forwarding) → IfOk result (λ text. text.items ≡ diff_text form a b missing.now f g None) }
+    ensures { (a b : AFileFlows) (limits : Option OtherLimits) (f g : Forwarding) →
+        IfOk result (λ text. text.items ≡ diff_text form a b missing.now limits f g None) }
 {
     match form {
         DiffForm::Words => other_ports_in_words(alloc, missing),
@@ -70,16 +74,15 @@ fn found_in<L: Lookup>(
     form: DiffForm,
     first: &DiffSide<'_, L>,
     second: &DiffSide<'_, L>,
-    missing: &[u32],
+    of: &Reserved<'_>,
     found: &Differences,
 ) -> Result<Vec<u8>, AllocError>
-    ensures { IfOk result (λ text. text.items ≡
-        diff_text form first.now.flows second.now.flows
-        missing.now first.now.switch.now.core.forwarding second.now.switch.now.core.forwarding (Some found.now)) }
+    ensures { IfOk result (λ text. text.items ≡ diff_text form first.now.flows second.now.flows of.now.missing.now of.now.limits
+        first.now.switch.now.core.forwarding second.now.switch.now.core.forwarding (Some found.now)) }
 {
     match form {
-        DiffForm::Words => differences_in_words(alloc, first, second, missing, found),
-        DiffForm::Json => differences_as_json(alloc, first, second, missing, found),
+        DiffForm::Words => differences_in_words(alloc, first, second, of, found),
+        DiffForm::Json => differences_as_json(alloc, first, second, of, found),
     }
 }
 
@@ -89,22 +92,22 @@ fn text_in<L: Lookup>(
     form: DiffForm,
     first: &DiffSide<'_, L>,
     second: &DiffSide<'_, L>,
-    missing: &[u32],
+    of: &Reserved<'_>,
     found: &Option<Differences>,
 ) -> Result<Vec<u8>, AllocError>
-    ensures { IfOk result (λ text. text.items ≡
-        diff_text form first.now.flows second.now.flows missing.now first.now.switch.now.core.forwarding second.now.switch.now.core.forwarding found.now) }
+    ensures { IfOk result (λ text. text.items ≡ diff_text form first.now.flows second.now.flows of.now.missing.now of.now.limits
+        first.now.switch.now.core.forwarding second.now.switch.now.core.forwarding found.now) }
 {
     match found {
-        None => other_ports_in(alloc, form, missing),
-        Some(found) => found_in(alloc, form, first, second, missing, found),
+        None => other_ports_in(alloc, form, of.missing),
+        Some(found) => found_in(alloc, form, first, second, of, found),
     }
 }
 
-fn verdict_among(missing: &[u32], found: &Differences) -> DiffVerdict
-    ensures { result ≡ verdict_on missing.now found.now }
+fn verdict_among(of: &Reserved<'_>, found: &Differences) -> DiffVerdict
+    ensures { result ≡ verdict_on of.now.missing.now of.now.limits found.now }
 {
-    if is_same_with(missing, found) {
+    if is_same_with(of, found) {
         DiffVerdict::Same
     } else if found.found.is_empty() {
         DiffVerdict::Undecided
@@ -114,20 +117,28 @@ fn verdict_among(missing: &[u32], found: &Differences) -> DiffVerdict
 }
 
 // Whether two switches treat all frames alike, of which this is found.
-fn verdict_of(missing: &[u32], found: &Option<Differences>) -> DiffVerdict
-    ensures is { result ≡ diff_verdict missing.now found.now }
+fn verdict_of(of: &Reserved<'_>, found: &Option<Differences>) -> DiffVerdict
+    ensures is { result ≡ diff_verdict of.now.missing.now of.now.limits found.now }
     ensures means { (c : WhatIsCompared) (steps : ℕ) (f g : Forwarding) → AreFoundBetween c steps f g found.now → IsVerdict c f g result }
-    ensures none_missing { result ≡ DiffVerdict.Same → missing.now ≡ [] }
+    ensures none_missing { result ≡ DiffVerdict.Same → of.now.missing.now ≡ [] }
+    ensures same_limits { result ≡ DiffVerdict.Same → of.now.limits ≡ None }
 {
     match found {
         None => DiffVerdict::OtherPorts,
-        Some(found) => verdict_among(missing, found),
+        Some(found) => verdict_among(of, found),
     }
+}
+
+fn limits_of<L: Lookup>(first: &Switch<L>, second: &Switch<L>, compared: Compared) -> Option<Limits>
+    ensures { result ≡ other_limits compared first.now.core.control.config.miss_send_len second.now.core.control.config.miss_send_len }
+{
+    limits_between(compared, first.miss_send_len(), second.miss_send_len())
 }
 
 /// Writes which frames two switches treat differently (OpenFlow 1.3.5, 5.1), and which of their flow entries those hit. The runs of all frames take at
 /// most so many steps together, and each search for a frame as many. Ports that groups or flows name, and that the switches do not have, are `missing`.
-/// Ok says whether the switches treat all frames alike; they are not said to if a port is missing.
+/// Ok says whether the switches treat all frames alike; they are not said to if a port is missing, or if the packets to the controller are compared
+/// and the miss_send_len of the switches differ.
 ///
 /// Err is `WriteFault`, where a write failed and a prefix of the text was written; or `NoMemory`, where nothing was.
 pub fn write_differences<L: Lookup, W: Sink>(
@@ -141,22 +152,30 @@ pub fn write_differences<L: Lookup, W: Sink>(
     writer: &mut W,
 ) -> Result<DiffVerdict, Ended>
     requires { W.failures writer.old ≡ 0 }
-    ensures output { Writes (IsDiffReport result form first.now.flows second.now.flows missing.now compared steps first.now.switch.now.core.forwarding
-        second.now.switch.now.core.forwarding) (ended_as result) (W.taken writer.old) (W.taken writer.new) }
+    ensures output { Writes (IsDiffReport result form first.now.flows second.now.flows missing.now
+        (other_limits compared first.now.switch.now.core.control.config.miss_send_len second.now.switch.now.core.control.config.miss_send_len)
+        compared steps first.now.switch.now.core.forwarding second.now.switch.now.core.forwarding)
+        (ended_as result) (W.taken writer.old) (W.taken writer.new) }
     ensures verdict { IfOk result (IsVerdict compared first.now.switch.now.core.forwarding second.now.switch.now.core.forwarding) }
     ensures same { result ≡ Ok DiffVerdict.Same → (frame : List ℕ) (port : ℕ) → IsReceivedAt (world_of first.now.switch.now.core.forwarding) frame port
         → IsTreatedAlike compared (world_of first.now.switch.now.core.forwarding) (world_of second.now.switch.now.core.forwarding) frame port }
     ensures none_missing { result ≡ Ok DiffVerdict.Same → missing.now ≡ [] }
+    ensures same_limits { result ≡ Ok DiffVerdict.Same →
+        other_limits compared first.now.switch.now.core.control.config.miss_send_len second.now.switch.now.core.control.config.miss_send_len ≡ None }
     ensures write_fault { (ended_as result ≡ Ended.WriteFault) ↔ (0 < W.failures writer.new) }
 {
+    let of = Reserved {
+        missing,
+        limits: limits_of(first.switch, second.switch, compared),
+    };
     let Ok(found) = find_differences(alloc, first.switch, second.switch, compared, steps) else {
         return Err(Ended::NoMemory);
     };
-    let Ok(text) = text_in(alloc, form, first, second, missing, &found) else {
+    let Ok(text) = text_in(alloc, form, first, second, &of, &found) else {
         return Err(Ended::NoMemory);
     };
     if write_all(writer, &text) {
-        Ok(verdict_of(missing, &found))
+        Ok(verdict_of(&of, &found))
     } else {
         Err(Ended::WriteFault)
     }

@@ -4,3 +4,4 @@ pub mod NamedPorts
 pub mod Playing
 pub mod FileTables
 pub mod FirstEvents
+pub mod Switches

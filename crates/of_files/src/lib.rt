@@ -7,6 +7,7 @@ mod contents;
 mod flow_lines;
 mod playing;
 mod ports;
+mod switches;
 mod tables;
 
 pub use beginning::first_events;
@@ -14,4 +15,8 @@ pub use contents::{Content, content_of};
 pub use flow_lines::text_origins;
 pub use playing::play_file;
 pub use ports::{FIRST_PORTS, missing_ports, named_ports, ports_for};
+pub use switches::{
+    Contents, Described, FileSwitch, NoContents, PortList, both_ports, describe, file_ports,
+    file_switch, port_list, push_named, read_contents, switch_of,
+};
 pub use tables::{FileTables, read_table, read_text};

@@ -79,6 +79,8 @@ const NOT_MADE: &[(How, &str, usize, Option<(u16, u16)>)] = &[
     (How::Beside, rows::TO_ABSENT_GROUP, 0, Some((2, 9))),
     (How::Beside, rows::OTHER_FLAGS, 0, Some((5, 7))),
     (How::Beside, rows::BAD_LATER_GROUP, 1, Some((6, 12))),
+    // not (0, 2/9): the group that is refused by itself counts as there
+    (How::Beside, rows::NAMED_BAD_GROUP, 1, Some((6, 12))),
     (How::Beside, rows::HELD, 0, None),
     (How::Beside, rows::DELETED, 1, None),
     (How::Beside, rows::BARRIER, 0, None),

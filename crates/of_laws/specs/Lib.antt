@@ -21,3 +21,4 @@ pub mod Sound
 pub mod StructCells
 pub mod Told
 pub mod Written
+pub mod Standard

@@ -5,7 +5,8 @@
 //! `written_messages` join the grammar of messages to what reads them and to what writes them: which bytes encode which message is in specs/Grammar
 //! for a controller's and in specs/Told for the switch's, apart from both. `replies` does so for multipart replies (specs/Replied), and says that no
 //! message of either side begins another. `round_trip` has what holds of a file that is written for a flow text, when it is run (specs/RoundTrip).
-//! `config_laws` says that the messages of a configuration give it back (specs/Built).
+//! `config_laws` says that the messages of a configuration give it back (specs/Built). `standard` compares the tables that code and definitions
+//! read with the numbers of the standard, which are written apart from them (specs/Standard).
 #![tactic(auto)]
 
 mod building;
@@ -24,6 +25,7 @@ mod round_trip;
 mod sending;
 mod small;
 mod sound;
+mod standard;
 mod write_error;
 mod writing;
 mod written_messages;
@@ -47,6 +49,7 @@ pub use rewritten::{
 };
 pub use round_trip::{dis_undoes_asm, text_comes_back, texts_are_refused_as_messages};
 pub use sending::config_of;
+pub use standard::tables_are_of_the_standard;
 pub use write_error::WriteError;
 pub use writing::write_message;
 pub use written_messages::{

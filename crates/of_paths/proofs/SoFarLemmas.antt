@@ -1,9 +1,8 @@
 -- What is known of the frames while cases are left.
-use Rattle.std.proofs.Common.{◌≡◌, ◌<◌, ◌≤◌, ◌+◌, ◌-◌, ℕ, true, List, [], ◌∷◌, ◌++◌, length, Result, Ok, Err, refl, sym, subst, arith, inl, inr, ◌⊎◌, zero, suc, reverse}
+use Rattle.std.proofs.Common.{◌≡◌, ◌<◌, ◌≤◌, ◌+◌, ◌-◌, ℕ, true, List, [], ◌∷◌, ◌++◌, length, Result, Ok, Err, refl, sym, subst, arith, inl, inr, ◌⊎◌, reverse}
 use Rattle.std.specs.Prelude.{OnOk, if◌then◌else◌, is_ok}
 use Rattle.std.specs.Global.{Vec}
 use Rattle.std.specs.List.{Contains}
-use Rattle.std.proofs.lemmas.List.{reverse-append}
 use Rattle.std.proofs.lemmas.List.Elements.{Contains-append_cases, Contains-append_left, Contains-append_right, Contains-push, Contains-push_cases}
 use Rattle.of_oxm.specs.declared.match_field.MatchField.{MatchField}
 use Rattle.of_oxm.specs.Relations.{matches_map}
@@ -16,7 +15,7 @@ use Rattle.of_symbolic_run.specs.declared.dividing.Case.{Case}
 use Rattle.of_symbolic_run.specs.declared.state.SymbolicState.{SymbolicState}
 use Rattle.of_symbolic_run.specs.Cases.{AreCases}
 use Rattle.of_symbolic_run.specs.FrameSets.{InFrames}
-use Rattle.of_symbolic_run.specs.Later.{AreOneLater, IsOneLater}
+use Rattle.of_symbolic_run.specs.NextStates.{AreNextStates, IsNextState}
 use Rattle.of_symbolic_run.specs.States.{IsAt, items_for}
 use Rattle.of_symbolic_run.specs.Received.{IsReceivedAt}
 use Rattle.of_symbolic_run.specs.Unfound.{FindsNone}
@@ -30,7 +29,9 @@ use Rattle.of_paths.specs.declared.path.WhyUndecided.TheVariants.{Steps}
 use Rattle.of_paths.specs.Paths.{ArePaths, AreMerged}
 use Rattle.of_paths.specs.Reasons.{AreLeftAfter, AreMatched, AreUndecided, IsFirstCase, IsReason, IsStateOfRuns}
 use Rattle.of_paths.specs.SoFar.{ArePathsSoFar, AreRunsOf, InCases, IsFoundIn, PutsPath, unfound}
+use Rattle.of_symbolic_run.proofs.NextLemmas.{one_apart}
 use Rattle.of_paths.proofs.FoundLemmas.{found_undecided, last_undecided, more_undecided}
+use Rattle.of_paths.proofs.ReachedLemmas.{from_reverse, last_of_run, to_reverse}
 
 pub on_appended : {X Y E : Type 0} (r : Result Y E) (new old more : List X) (Q : Type 0) → new ≡ (if is_ok r then old ++ more else old) → (new ≡ old ++ more → Q) → OnOk r Q
 on_appended (Ok x) new old more Q is f = f is
@@ -51,22 +52,6 @@ pub first_of_none : {X : Type 0} (none new : List X) (x : X) → none ≡ [] →
 first_of_none none new x is more = rw is at more
 
 -- ---- the other way round
-
-from_reverse : {X : Type 0} (xs : List X) (y : X) → Contains (reverse xs) y → Contains xs y
-from_reverse [] y h = h
-from_reverse {X = X} (x ∷ xs) y h = by_place (λ k. from_reverse xs y k) (Contains-push_cases (reverse xs) x y (subst (λ (l : List X). Contains l y) (reverse-append (x ∷ []) xs) h))
-  where
-    by_place : (Contains (reverse xs) y → Contains xs y) → Contains (reverse xs) y ⊎ (x ≡ y) → Contains (x ∷ xs) y
-    by_place from (inl before) = (let k = from before in (suc k.0, omega (arith, k.1), k.2))
-    by_place from (inr same) = (0, omega arith, same)
-
-to_reverse : {X : Type 0} (xs : List X) (y : X) → Contains xs y → Contains (reverse xs) y
-to_reverse [] y h = h
-to_reverse {X = X} (x ∷ xs) y (zero, lt, is) = subst (λ (l : List X). Contains l y) (sym (reverse-append (x ∷ []) xs)) (subst (λ (z : X). Contains (reverse xs ++ x ∷ []) z) is (Contains-push (reverse xs) x))
-to_reverse {X = X} (x ∷ xs) y (suc k, lt, is) = subst (λ (l : List X). Contains l y) (sym (reverse-append (x ∷ []) xs)) (Contains-append_left (reverse xs) (x ∷ []) y (to_reverse xs y (k, omega (arith, lt), is)))
-
-pub reversed_later : (old : SymbolicState) (cases more : List Case) → more ≡ reverse cases → AreOneLater old cases → AreOneLater old more
-reversed_later old cases more is later c there = later c (from_reverse cases c (subst (λ (l : List Case). Contains l c) is there))
 
 pub reversed_cases : (w : TheWorld) (old : Case) (cases more : List Case) → more ≡ reverse cases → AreCases w old.frames old.state cases → AreCases w old.frames old.state more
 reversed_cases w old cases more is are = record {
@@ -90,13 +75,16 @@ one_case w old new frames step = record {
         by_place (inl before) = absurd (omega (arith, before.1))
         by_place (inr same) = same
 
--- it is one step later
-pub one_later : (old : SymbolicState) (new : Case) → IsOneLater old new.state → AreOneLater old (new ∷ [])
-one_later old new later c there = by_place (Contains-push_cases [] new c there)
+-- its next state
+pub one_next : (w : TheWorld) (old : SymbolicState) (new : Case) → IsNextState w old new.state → AreNextStates w old (new ∷ [])
+one_next w old new next = record { each = each; apart = one_apart new }
   where
-    by_place : Contains [] c ⊎ (new ≡ c) → IsOneLater old c.state
-    by_place (inl before) = absurd (omega (arith, before.1))
-    by_place (inr same) = subst (λ (x : Case). IsOneLater old x.state) same later
+    each : (c : Case) → Contains (new ∷ []) c → IsNextState w old c.state
+    each c there = by_place (Contains-push_cases [] new c there)
+      where
+        by_place : Contains [] c ⊎ (new ≡ c) → IsNextState w old c.state
+        by_place (inl before) = absurd (omega (arith, before.1))
+        by_place (inr same) = subst (λ (x : Case). IsNextState w old x.state) same next
 
 -- the lines and the items of a run that is done
 abbrev pub path_of : Case → Path
@@ -176,11 +164,11 @@ module _ (m : Merging) (w : TheWorld) (within : List MatchField) (steps : ℕ) w
       reason = reason;
     }
 
-    pub put_ended : (taken : ℕ) (p : Path) (found' : Paths) → taken ≤ steps → AreLeftAfter w within taken (cases ++ old ∷ []) → p.frames ≡ old.frames → old.state.tasks.items ≡ [] → (IsStateOfRuns w old → AreRunsOf w old p) → PutsPath m w steps p found found' → ArePathsSoFar m w within steps cases found'
-    put_ended taken p found' most left frames done runs puts = record {
+    pub put_ended : (taken : ℕ) (p : Path) (found' : Paths) → taken ≤ steps → AreLeftAfter w within taken (cases ++ old ∷ []) → p.frames ≡ old.frames → old.state.tasks.items ≡ [] → p.steps.items ≡ old.state.steps.items → p.emitted.items ≡ old.state.emitted.items → (IsStateOfRuns w old → AreRunsOf w old p) → PutsPath m w steps p found found' → ArePathsSoFar m w within steps cases found'
+    put_ended taken p found' most left frames done told sent runs puts = record {
       hold = others_hold;
       inside = others_inside;
-      right = puts.found within (record { matched = rw frames last_inside; takes = λ frame port received inside. (runs last_holds).takes frame port received (rw (sym frames) inside); emits = λ frame port received inside. (runs last_holds).emits frame port received (rw (sym frames) inside) })
+      right = puts.found within (record { run = last_of_run w within taken cases old p left done told sent; matched = rw frames last_inside; takes = λ frame port received inside. (runs last_holds).takes frame port received (rw (sym frames) inside); emits = λ frame port received inside. (runs last_holds).emits frame port received (rw (sym frames) inside) })
           (λ none. last_is_undecided taken (unfound p) most left frames (done, subst (FindsNone w steps) frames none)) h.right;
       all = λ frame port received matched. at_cases frame port (IsSomewhere cases found' frame port) (h.all frame port received matched)
           (λ inside. inr (puts.own frame port received (rw frames inside)))

@@ -1,10 +1,10 @@
 -- The steps that the runs of all frames took together.
-use Rattle.std.proofs.Common.{◌≡◌, ◌≤◌, ◌+◌, ℕ, suc, List, [], ◌∷◌, ◌++◌, refl, subst, arith}
+use Rattle.std.proofs.Common.{◌≡◌, ◌≤◌, ◌+◌, ℕ, suc, List, [], ◌∷◌, ◌++◌, refl, reverse, subst, arith}
 use Rattle.of_oxm.specs.declared.match_field.MatchField.{MatchField}
 use Rattle.of_machine.specs.TheWorld.{TheWorld}
 use Rattle.of_symbolic_run.specs.declared.dividing.Case.{Case}
 use Rattle.of_symbolic_run.specs.Cases.{AreCases}
-use Rattle.of_symbolic_run.specs.Later.{AreOneLater}
+use Rattle.of_symbolic_run.specs.NextStates.{AreNextStates}
 use Rattle.of_symbolic_run.specs.Sides.{IsUnknownLookup}
 use Rattle.of_paths.specs.Reasons.{AreCaseSteps, AreLeftAfter, IsCaseStep}
 
@@ -23,8 +23,8 @@ module _ (w : TheWorld) (within : List MatchField) (taken : ℕ) where
   }
 
   module _ (cases : List Case) (old : Case) (left : AreLeftAfter w within taken (cases ++ old ∷ [])) where
-    pub step_taken : (more : List Case) → AreCases w old.frames old.state more → AreOneLater old.state more → AreLeftAfter w within (taken + 1) (cases ++ more)
-    step_taken more are later = one_more (cases ++ old ∷ []) (cases ++ more) left (IsCaseStep.moved cases old more refl refl are later)
+    pub step_taken : (more : List Case) → AreCases w old.frames old.state more → AreNextStates w old.state more → AreLeftAfter w within (taken + 1) (cases ++ reverse more)
+    step_taken more are next = one_more (cases ++ old ∷ []) (cases ++ reverse more) left (IsCaseStep.moved cases old more refl refl are next)
 
     pub step_ended : old.state.tasks.items ≡ [] → AreLeftAfter w within (taken + 1) cases
     step_ended done = one_more (cases ++ old ∷ []) cases left (IsCaseStep.ended old refl done)

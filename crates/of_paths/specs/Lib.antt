@@ -4,3 +4,4 @@ pub mod Reasons
 pub mod Paths
 pub mod SoFar
 pub mod Places
+pub mod EachPort

@@ -5,7 +5,9 @@ use Rattle.of_oxm.specs.declared.match_field.MatchField.{MatchField}
 use Rattle.of_oxm.specs.Relations.{matches_map}
 use Rattle.of_machine.specs.TheWorld.{TheWorld}
 use Rattle.of_symbolic.specs.Parts.{received_fields}
+use Rattle.of_symbolic_run.specs.declared.state.SymbolicState.{SymbolicState}
 use Rattle.of_symbolic_run.specs.FrameSets.{InFrames}
+use Rattle.of_symbolic_run.specs.NextStates.{IsStateAfter}
 use Rattle.of_symbolic_run.specs.Received.{IsReceivedAt, items_at}
 use Rattle.of_symbolic_run.specs.States.{items_for}
 use Rattle.of_paths.specs.declared.path.Merging.{Merging}
@@ -17,8 +19,18 @@ use Rattle.of_paths.specs.declared.path.UndecidedFrames.{UndecidedFrames}
 use Rattle.of_paths.specs.Reasons.{AreMatched, AreUndecided}
 use Rattle.of_paths.specs.Ways.{AreApart, class_way, lines_at, way_of}
 
+-- its steps and what they emit are those of a state that steps of a run lead to, whether or not a frame takes them, and that has no packets
+pub record IsOfRun (w : TheWorld) (p : Path) : Type 0 where
+  pub taken : ℕ
+  pub state : SymbolicState
+  pub reached : IsStateAfter w taken state
+  pub ended : state.tasks.items ≡ []
+  pub steps : p.steps.items ≡ state.steps.items
+  pub emitted : p.emitted.items ≡ state.emitted.items
+
 -- each frame of the path that is received takes its steps, and emits what they emit
 pub record IsPath (w : TheWorld) (within : List MatchField) (p : Path) : Type 0 where
+  pub run : IsOfRun w p
   pub matched : AreMatched within p.frames
   pub takes : (frame : List ℕ) (port : ℕ) → IsReceivedAt w frame port → InFrames p.frames frame port → lines_at w frame port ≡ p.steps.items
   pub emits : (frame : List ℕ) (port : ℕ) → IsReceivedAt w frame port → InFrames p.frames frame port → items_at w frame port ≡ items_for w.ports p.emitted.items frame port

@@ -1,5 +1,5 @@
 -- WHY FRAMES ARE UNDECIDED: the runs of all frames take steps together, and a set of frames may be left (OpenFlow 1.3.5, 5.1).
-use Rattle.std.specs.Prelude.{◌≡◌, ◌≤◌, ◌++◌, ℕ, zero, suc, List, [], ◌∷◌, true}
+use Rattle.std.specs.Prelude.{◌≡◌, ◌≤◌, ◌++◌, ℕ, zero, suc, List, [], ◌∷◌, reverse, true}
 use Rattle.std.specs.List.{Contains}
 use Rattle.of_rewrite.specs.Frames.{IsFrame}
 use Rattle.of_oxm.specs.declared.match_field.MatchField.{MatchField}
@@ -10,7 +10,7 @@ use Rattle.of_symbolic_run.specs.declared.dividing.Case.{Case}
 use Rattle.of_symbolic_run.specs.declared.frame_set.FrameSet.{FrameSet}
 use Rattle.of_symbolic_run.specs.Cases.{AreCases}
 use Rattle.of_symbolic_run.specs.FrameSets.{InFrames}
-use Rattle.of_symbolic_run.specs.Later.{AreOneLater}
+use Rattle.of_symbolic_run.specs.NextStates.{AreNextStates, IsFirstState}
 use Rattle.of_symbolic_run.specs.States.{IsAt}
 use Rattle.of_symbolic_run.specs.Received.{IsReceivedAt}
 use Rattle.of_symbolic_run.specs.Sides.{IsUnknownLookup}
@@ -29,17 +29,17 @@ IsStateOfRuns w c = (frame : List ℕ) (port : ℕ) → IsFrame frame → InFram
 
 -- ---- steps of all runs together
 
--- the beginning: one set of all frames that are received and that conditions match, with a state that took no step
+-- the beginning: one set of all frames that are received and that conditions match, with the first state
 pub record IsFirstCase (w : TheWorld) (within : List MatchField) (c : Case) : Type 0 where
   pub runs : IsStateOfRuns w c
-  pub none : c.state.steps.items ≡ []
+  pub begins : IsFirstState c.state
   pub matched : AreMatched within c.frames
   pub all : (frame : List ℕ) (port : ℕ) → IsReceivedAt w frame port → matches_map within (received_fields frame port) ≡ true → InFrames c.frames frame port
 
--- ONE STEP: the run of the last set of frames takes one step, which may divide the set; or the set is done with, since its run is at its end, or since
--- it is not known what its lookup finds
+-- ONE STEP: the run of the last set of frames takes one step, which may divide the set: its next states take its place, the first one last. Or the set is
+-- done with, since its run is at its end, or since it is not known what its lookup finds
 pub data IsCaseStep (w : TheWorld) (old new : List Case) : Type 0 where
-  moved : (others : List Case) (c : Case) (cases : List Case) → old ≡ others ++ c ∷ [] → new ≡ others ++ cases → AreCases w c.frames c.state cases → AreOneLater c.state cases → IsCaseStep w old new
+  moved : (others : List Case) (c : Case) (cases : List Case) → old ≡ others ++ c ∷ [] → new ≡ others ++ reverse cases → AreCases w c.frames c.state cases → AreNextStates w c.state cases → IsCaseStep w old new
   ended : (c : Case) → old ≡ new ++ c ∷ [] → c.state.tasks.items ≡ [] → IsCaseStep w old new
   unknown : (c : Case) → old ≡ new ++ c ∷ [] → IsUnknownLookup w c.state → IsCaseStep w old new
 

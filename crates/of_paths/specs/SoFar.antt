@@ -8,7 +8,7 @@ use Rattle.of_symbolic.specs.Parts.{received_fields}
 use Rattle.of_symbolic_run.specs.declared.dividing.Case.{Case}
 use Rattle.of_symbolic_run.specs.Cases.{AreCases}
 use Rattle.of_symbolic_run.specs.FrameSets.{InFrames}
-use Rattle.of_symbolic_run.specs.Later.{AreOneLater}
+use Rattle.of_symbolic_run.specs.NextStates.{AreNextStates}
 use Rattle.of_symbolic_run.specs.Received.{IsReceivedAt, items_at}
 use Rattle.of_symbolic_run.specs.Sides.{IsUnknownLookup}
 use Rattle.of_symbolic_run.specs.States.{items_for}
@@ -36,8 +36,9 @@ pub record AreRunsOf (w : TheWorld) (old : Case) (p : Path) : Type 0 where
 
 -- what comes of a state for some frames
 abbrev pub IsNextOf : TheWorld → Case → Next → Type 0
-IsNextOf w old (next.Cases cases) = AreCases w old.frames old.state cases.items × AreOneLater old.state cases.items
-IsNextOf w old (next.Ended p) = (p.frames ≡ old.frames) × (old.state.tasks.items ≡ []) × (IsStateOfRuns w old → AreRunsOf w old p)
+IsNextOf w old (next.Cases cases) = AreCases w old.frames old.state cases.items × AreNextStates w old.state cases.items
+IsNextOf w old (next.Ended p) =
+    (p.frames ≡ old.frames) × (old.state.tasks.items ≡ []) × (p.steps.items ≡ old.state.steps.items) × (p.emitted.items ≡ old.state.emitted.items) × (IsStateOfRuns w old → AreRunsOf w old p)
 IsNextOf w old (next.Undecided u) = (u.frames ≡ old.frames) × (u.why ≡ UnknownTag) × IsUnknownLookup w old.state
 
 -- what was found is right

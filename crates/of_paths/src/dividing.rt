@@ -8,6 +8,7 @@ ghost use Rattle.of_regions.specs.Conditions.{AreConditions};
 ghost use Rattle.of_machine.specs.TheWorld.{TheWorld};
 ghost use Rattle.of_symbolic.specs.Parts.{received_fields};
 ghost use Rattle.of_symbolic_run.specs.FrameSets.{InFrames};
+ghost use Rattle.of_symbolic_run.specs.NextStates.{IsFirstState};
 ghost use Rattle.of_symbolic_run.specs.declared.dividing.Case.{Case as ACase};
 ghost use Rattle.of_symbolic_run.specs.Received.{IsReceivedAt};
 ghost use Rattle.of_paths.specs.declared.path.Merging.{Merging as AMerging};
@@ -81,7 +82,7 @@ fn first_case<'a, L: Lookup>(
 ) -> Result<Case<'a>, AllocError>
     requires { AreConditions within.now }
     ensures holds { IfOk result (IsStateOfRuns (world_of (forwarding_of datapath.now))) }
-    ensures none { IfOk result (λ case. case.state.steps.items ≡ []) }
+    ensures begins { IfOk result (λ case. IsFirstState case.state) }
     ensures within { IfOk result (λ case. AreMatched within.now case.frames) }
     ensures all { IfOk result (λ case. (frame : List ℕ) (port : ℕ) → IsReceivedAt (world_of (forwarding_of datapath.now)) frame port →
         matches_map within.now (received_fields frame port) ≡ true → InFrames case.frames frame port) }

@@ -1,50 +1,14 @@
--- WHERE PATHS LEAD, by their steps, for some ingress port (OpenFlow 1.3.5, 5.12).
-use Rattle.std.specs.Prelude.{◌≡◌, ℕ, ◌==◌, ◌||◌, Bool, true, false, List, [], ◌∷◌, length, Option, Some, None}
-use Rattle.std.specs.List.{Contains, list_any}
-use Rattle.of_wire.specs.declared.limits.TheConstants.{OFPP_ALL, OFPP_CONTROLLER, OFPP_FLOOD, OFPP_IN_PORT}
-use Rattle.of_actions.specs.declared.action.Action.TheVariants.{Output}
-use Rattle.of_machine.specs.declared.data.Item.{Item}
-use Rattle.of_machine.specs.declared.data.Item.TheVariants.{PacketIn, Sent}
-use Rattle.of_machine.specs.declared.data.Step.{Step}
-use Rattle.of_machine.specs.declared.data.Step.TheVariants.{Act, TtlExpired}
-use Rattle.of_paths.specs.declared.path.Path.{Path}
+-- WHERE THE FRAMES OF A CLASS GO: where its frame goes, if they come in by one port (OpenFlow 1.3.5, 5.12).
+use Rattle.std.specs.Prelude.{◌≡◌, ℕ, Bool, true, List, Option, Some, None}
+use Rattle.std.specs.List.{Contains}
 use Rattle.of_paths.specs.declared.path.PathClass.{PathClass}
 use Rattle.of_paths.specs.Paths.{InPaths}
+use Rattle.of_paths.specs.Places.{lead_to}
 use Rattle.of_paths.specs.declared.destination.Destination.{Destination}
-use Rattle.of_paths.specs.declared.destination.Destination.TheVariants.{Controller, Nothing, Port}
 
--- an OUTPUT to this port may send out of the port
-abbrev pub is_led_by : ℕ → ℕ → Bool
-is_led_by port output = (output == port) || (output == OFPP_FLOOD) || (output == OFPP_ALL) || (output == OFPP_IN_PORT)
-
-abbrev pub is_port_step : ℕ → Step → Bool
-is_port_step port (Act (Output output max_len)) = is_led_by port output
-is_port_step port other = false
-
--- a packet to the controller
-abbrev pub is_controller_step : Step → Bool
-is_controller_step (Act (Output port max_len)) = port == OFPP_CONTROLLER
-is_controller_step TtlExpired = true
-is_controller_step other = false
-
-abbrev pub is_leading_to : Destination → Step → Bool
-is_leading_to (Port port) step = is_port_step port step
-is_leading_to Controller step = is_controller_step step
-is_leading_to Nothing step = false
-
-abbrev pub leads_by_steps : Destination → List Step → Bool
-leads_by_steps to steps = list_any (is_leading_to to) steps
-
--- the first path has the steps of all, except which entries are hit
-abbrev pub has_destination : Destination → List Path → Bool
-has_destination to [] = false
-has_destination to (p ∷ others) = leads_by_steps to p.steps.items
-
--- nothing left for the frame that was run, or the steps lead there
+-- something of its frame leaves by the port, or goes to the controller; or nothing of it leaves
 abbrev pub is_class_leading : Destination → PathClass → Bool
-is_class_leading Nothing c = length c.items.items == 0
-is_class_leading (Port port) c = has_destination (Port port) c.paths.items
-is_class_leading Controller c = has_destination Controller c.paths.items
+is_class_leading to c = lead_to to c.items.items
 
 -- to the place that is asked for, if one is
 abbrev pub is_class_shown : Option Destination → PathClass → Bool

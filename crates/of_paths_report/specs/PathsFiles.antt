@@ -1,17 +1,16 @@
 -- WHAT `paths` WRITES ABOUT A SWITCH, and whether it is known of all frames.
 use Rattle.std.specs.Prelude.{◌≡◌, ◌≢◌, ℕ, ◌==◌, List, length, Option, Result, Ok, Err, if◌then◌else◌}
-use Rattle.of_oxm.specs.declared.match_field.MatchField.{MatchField}
 use Rattle.of_datapath.specs.Datapath.{Forwarding, world_of}
 use Rattle.of_replay.specs.declared.event_file.Ended.{Ended}
 use Rattle.of_replay.specs.declared.event_file.Ended.TheVariants.{Done}
-use Rattle.of_paths.specs.Paths.{ArePaths}
-use Rattle.of_paths.specs.declared.path.Merging.{Merging}
 use Rattle.of_paths.specs.declared.path.Paths.{Paths}
 use Rattle.of_paths.specs.declared.destination.Destination.{Destination}
+use Rattle.of_paths_report.specs.declared.asked.Asked.{Asked}
 use Rattle.of_paths_report.specs.declared.writing.PathsForm.{PathsForm}
 use Rattle.of_paths_report.specs.declared.writing.PathsForm.TheVariants.{Json, Words}
 use Rattle.of_paths_report.specs.declared.writing.PathsVerdict.{PathsVerdict}
 use Rattle.of_paths_report.specs.declared.writing.PathsVerdict.TheVariants.{Complete, Undecided}
+use Rattle.of_paths_report.specs.Asked.{AreAskedPaths}
 use Rattle.of_paths_report.specs.PathsWords.{paths_words}
 use Rattle.of_paths_report.specs.PathsJson.{paths_json}
 
@@ -29,8 +28,7 @@ abbrev pub IsPathsResult : Result PathsVerdict Ended → PathsVerdict → Type 0
 IsPathsResult (Ok verdict) is = verdict ≡ is
 IsPathsResult (Err ended) is = ended ≢ Done
 
--- THE TEXT of the paths of a switch, for the frames that conditions match, merged or each alone: those that lead to a place, if one is asked for. The
--- runs of all frames take at most so many steps together, and each search for a frame as many.
-abbrev pub IsPathsReport : Result PathsVerdict Ended → PathsForm → List MatchField → Merging → Option Destination → ℕ → Forwarding → List ℕ → Type 0
-IsPathsReport result form within merging to steps f text =
-    (found : Paths) × ArePaths merging (world_of f) within steps found × (text ≡ paths_text form f to found) × IsPathsResult result (paths_verdict found)
+-- THE TEXT of the paths of a switch that are asked for. The runs of all frames take at most so many steps together, and each search for a frame as many.
+abbrev pub IsPathsReport : Result PathsVerdict Ended → PathsForm → Asked → Forwarding → List ℕ → Type 0
+IsPathsReport result form asked f text =
+    (found : Paths) × AreAskedPaths (world_of f) asked found × (text ≡ paths_text form f asked.to found) × IsPathsResult result (paths_verdict found)

@@ -11,6 +11,7 @@ use Rattle.of_json.specs.Hits.{hits_at}
 use Rattle.of_json.specs.Parts.{document_head, key, listed, number_member, quoted, text_member}
 use Rattle.of_json.specs.Strings.{array_member}
 use Rattle.of_json.specs.LeavingJson.{items_member}
+use Rattle.of_changes.specs.ChangesInJson.{changes_member}
 use Rattle.of_paths.specs.declared.path.Path.{Path}
 use Rattle.of_paths.specs.declared.path.PathClass.{PathClass}
 use Rattle.of_paths.specs.declared.path.Paths.{Paths}
@@ -35,7 +36,7 @@ hits_array p = 91 ∷ listed hit_object (hits_of_path p) ++ 93 ∷ []
 unfoldable pub hits_member : List Path → List ℕ
 hits_member paths = array_member (codes "hits") (listed hits_array paths)
 
--- ---- a class: its frame, the steps of that, what leaves, and the entries that each of its paths hits
+-- ---- a class: its frame, the steps of that, what leaves and changed, and the entries that each of its paths hits
 
 -- a string: the line of a step as `trace` prints it
 unfoldable pub step_string : Step → List ℕ
@@ -47,7 +48,8 @@ steps_member steps = 44 ∷ key (codes "steps") ++ 91 ∷ listed step_string ste
 unfoldable pub class_members : Forwarding → PathClass → List ℕ
 class_members f c =
     key (codes "in_port") ++ decimal c.in_port ++ text_member (codes "frame") (encode_lower c.frame.items)
-    ++ steps_member (steps_in c.in_port c.frame.items f) ++ items_member (codes "items") c.items.items ++ hits_member c.paths.items
+    ++ steps_member (steps_in c.in_port c.frame.items f) ++ items_member (codes "items") c.items.items
+    ++ changes_member (codes "changes") c.frame.items c.items.items ++ hits_member c.paths.items
 
 unfoldable pub class_object : Forwarding → PathClass → List ℕ
 class_object f c = 123 ∷ class_members f c ++ 125 ∷ []

@@ -9,8 +9,9 @@ use Rattle.of_datapath.specs.Datapath.{Forwarding}
 use Rattle.of_datapath.specs.DryRun.{steps_in}
 use Rattle.of_trace.specs.Text.{step_line}
 use Rattle.of_trace.specs.Words.{heading}
-use Rattle.of_json.specs.LeavingWords.{frame_lines, side_words}
+use Rattle.of_json.specs.LeavingWords.{frame_lines}
 use Rattle.of_json.specs.UndecidedWords.{undecided_count, undecided_sets}
+use Rattle.of_changes.specs.ChangesInWords.{changed_side_words}
 use Rattle.of_paths.specs.declared.path.Path.{Path}
 use Rattle.of_paths.specs.declared.path.PathClass.{PathClass}
 use Rattle.of_paths.specs.declared.path.Paths.{Paths}
@@ -48,7 +49,7 @@ further_words [] = []
 further_words (p ∷ []) = []
 further_words (p ∷ q ∷ others) = further_paths (q ∷ others)
 
--- ---- a class: its frame, the steps of that as `trace` prints them, and what leaves
+-- ---- a class: its frame, the steps of that as `trace` prints them, and what leaves and changed
 
 unfoldable pub indented_line : Step → List ℕ
 indented_line s = codes "    " ++ step_line s ++ 10 ∷ []
@@ -56,7 +57,7 @@ indented_line s = codes "    " ++ step_line s ++ 10 ∷ []
 unfoldable pub class_words : Forwarding → PathClass → List ℕ
 class_words f c =
     codes "path: " ++ ended (heading f c.in_port c.frame.items) ++ frame_lines c.in_port c.frame.items ++ flat_map indented_line (steps_in c.in_port c.frame.items f)
-    ++ side_words (codes "    ") c.items.items ++ further_words c.paths.items
+    ++ changed_side_words (codes "    ") c.frame.items c.items.items ++ further_words c.paths.items
 
 -- if its paths lead to the place that is asked for
 abbrev pub shown_words : Forwarding → Option Destination → PathClass → List ℕ

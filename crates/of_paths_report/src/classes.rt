@@ -7,8 +7,9 @@ ghost use Rattle.of_paths_report.specs.PathsWords.{class_words, indented_line, s
 
 use crate::destination::is_shown;
 use crate::hits::push_further;
+use of_changes::push_changed_side;
 use of_classifier::Lookup;
-use of_json::{push_frame_lines, push_side};
+use of_json::push_frame_lines;
 use of_machine::Step;
 use of_paths::{Destination, PathClass};
 use of_switch::{Switch, SwitchError};
@@ -53,7 +54,7 @@ fn push_indented_steps(out: &mut Vec<u8>, steps: &[Step]) -> Result<(), AllocErr
     Ok(())
 }
 
-// Appends a class: its frame, the steps of that, and what leaves.
+// Appends a class: its frame, the steps of that, and what leaves and changed.
 #[tactic(auto, unfolding(crate::specs::PathsWords::class_words))]
 fn push_class_words<L: Lookup>(
     alloc: Global,
@@ -68,7 +69,7 @@ fn push_class_words<L: Lookup>(
     push_heading(alloc, out, switch, class.in_port, &class.frame)?;
     push_frame_lines(alloc, out, class.in_port, &class.frame)?;
     push_indented_steps(out, &trace.steps)?;
-    push_side(alloc, out, b"    ", &class.items)?;
+    push_changed_side(alloc, out, b"    ", &class.frame, &class.items)?;
     push_further(out, &class.paths)
 }
 

@@ -9,6 +9,7 @@ ghost use Rattle.of_paths_report.specs.PathsJson.{class_members, class_object, c
 use crate::classes::traced;
 use crate::destination::is_shown;
 use crate::json_hits::push_hits_member;
+use of_changes::push_changes_member;
 use of_classifier::Lookup;
 use of_json::{
     begin_array, push_array_member, push_bytes_member, push_document_head, push_items_member,
@@ -68,7 +69,7 @@ fn push_steps_member(out: &mut Vec<u8>, steps: &[Step]) -> Result<(), AllocError
     Ok(())
 }
 
-// Appends the members of a class: its frame, the steps of that, what leaves, and which entries its paths hit.
+// Appends the members of a class: its frame, the steps of that, what leaves and changed, and which entries its paths hit.
 #[tactic(auto, unfolding(crate::specs::PathsJson::class_members))]
 fn push_class_members<L: Lookup>(
     alloc: Global,
@@ -84,6 +85,7 @@ fn push_class_members<L: Lookup>(
     push_bytes_member(alloc, out, b"frame", &class.frame)?;
     push_steps_member(out, &trace.steps)?;
     push_items_member(alloc, out, b"items", &class.items)?;
+    push_changes_member(alloc, out, b"changes", &class.frame, &class.items)?;
     push_hits_member(alloc, out, &class.paths)
 }
 

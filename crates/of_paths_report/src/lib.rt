@@ -11,7 +11,7 @@ mod laws;
 mod undecided;
 mod writing;
 
-pub use asked::asked_conditions;
-pub use laws::what_leaves_is_in_leading_classes;
+pub use asked::Asked;
+pub use laws::told_frames_are_those_that_go_there;
 pub use of_paths::Destination;
 pub use writing::{PathsForm, PathsVerdict, write_paths};

@@ -1,18 +1,16 @@
 //! The report on the frames that a switch receives.
 ghost use Rattle.std.specs.Prelude.{◌≡◌, ◌<◌, ◌↔◌, IfOk};
-ghost use Rattle.of_datapath.specs.Datapath.{world_of};
 ghost use Rattle.of_regions.specs.Conditions.{AreConditions};
 ghost use Rattle.of_replay.specs.FileRuns.{Writes, ended_as};
-ghost use Rattle.of_paths.specs.Paths.{ArePaths};
 ghost use Rattle.of_paths_report.specs.PathsFiles.{IsPathsReport, paths_text, paths_verdict};
 ghost use Rattle.of_paths_report.specs.PathsWords.{paths_words};
 
+use crate::asked::{Asked, asked_paths};
 use crate::classes::push_classes;
 use crate::json::paths_as_json;
 use crate::undecided::{push_path_summary, push_undecided_frames};
 use of_classifier::Lookup;
-use of_oxm::MatchField;
-use of_paths::{Destination, Merging, Paths, paths};
+use of_paths::{Destination, Paths};
 use of_replay::{Ended, Sink, write_all};
 use of_switch::Switch;
 use std::alloc::{AllocError, Global};
@@ -33,20 +31,6 @@ pub enum PathsVerdict {
     Complete,
     /// Some frames are undecided.
     Undecided,
-}
-
-// The paths of the frames of a switch.
-fn find_paths<L: Lookup>(
-    alloc: Global,
-    switch: &Switch<L>,
-    within: &[MatchField],
-    merging: Merging,
-    steps: usize,
-) -> Result<Paths, AllocError>
-    requires { AreConditions within.now }
-    ensures { IfOk result (ArePaths merging (world_of switch.now.core.forwarding) within.now steps) }
-{
-    paths(alloc, switch.datapath(), within, merging, steps)
 }
 
 // What is found, in words.
@@ -92,31 +76,27 @@ fn verdict_for(found: &Paths) -> PathsVerdict
     }
 }
 
-/// Writes which steps the frames take that a switch receives and that conditions match (OpenFlow 1.3.5, 5.1): the paths that lead to a place, if one
-/// is asked for; those of one way merged, or each alone. The runs of all frames take at most so many steps together, and each search for a frame as
-/// many. Ok says whether it is known of all of them.
+/// Writes which steps the frames take that a switch receives and that are asked for (OpenFlow 1.3.5, 5.1): the paths that lead to a place, if one is asked
+/// for; those of one way merged, or each alone. Ok says whether it is known of all of them.
 ///
 /// Err is `WriteFault`, where a write failed and a prefix of the text was written; or `NoMemory`, where nothing was.
 pub fn write_paths<L: Lookup, W: Sink>(
     alloc: Global,
     switch: &Switch<L>,
-    within: &[MatchField],
-    merging: Merging,
-    to: Option<Destination>,
-    steps: usize,
+    asked: &Asked,
     form: PathsForm,
     writer: &mut W,
 ) -> Result<PathsVerdict, Ended>
-    requires conditions { AreConditions within.now }
+    requires conditions { AreConditions asked.now.within.items }
     requires well { W.failures writer.old ≡ 0 }
-    ensures output { Writes (IsPathsReport result form within.now merging to steps switch.now.core.forwarding) (ended_as result)
+    ensures output { Writes (IsPathsReport result form asked.now switch.now.core.forwarding) (ended_as result)
         (W.taken writer.old) (W.taken writer.new) }
     ensures write_fault { (ended_as result ≡ Ended.WriteFault) ↔ (0 < W.failures writer.new) }
 {
-    let Ok(found) = find_paths(alloc, switch, within, merging, steps) else {
+    let Ok(found) = asked_paths(alloc, switch, asked) else {
         return Err(Ended::NoMemory);
     };
-    let Ok(text) = found_text(alloc, form, switch, to, &found) else {
+    let Ok(text) = found_text(alloc, form, switch, asked.to, &found) else {
         return Err(Ended::NoMemory);
     };
     if write_all(writer, &text) {

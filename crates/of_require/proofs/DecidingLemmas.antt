@@ -15,7 +15,6 @@ use Rattle.of_symbolic_run.specs.FrameSets.{InFrames}
 use Rattle.of_symbolic_run.specs.PortNumbers.{IsReceivingPort, came_in_by}
 use Rattle.of_symbolic_run.specs.Received.{IsReceivedAt, items_at}
 use Rattle.of_symbolic_run.specs.States.{items_for}
-use Rattle.of_symbolic_run.proofs.ConditionLemmas.{within_port}
 use Rattle.of_paths.specs.declared.path.Merging.TheVariants.{Each}
 use Rattle.of_paths.specs.declared.path.Path.{Path}
 use Rattle.of_paths.specs.declared.path.PathClass.{PathClass}
@@ -23,6 +22,7 @@ use Rattle.of_paths.specs.declared.path.Paths.{Paths}
 use Rattle.of_paths.specs.declared.path.UndecidedFrames.{UndecidedFrames}
 use Rattle.of_paths.specs.Paths.{ArePaths, InClasses, InFirstPath, InPaths, IsPath, IsPathClass}
 use Rattle.of_paths.specs.Ways.{lines_at}
+use Rattle.of_paths.proofs.PortLemmas.{and_true, both, matched_from, matched_there}
 use Rattle.of_require.specs.declared.requirement.Requirement.{Requirement}
 use Rattle.of_require.specs.declared.deciding.Decision.{Decision}
 use Rattle.of_require.specs.declared.deciding.Decision.TheVariants.{Frame, NoFrame, NoneMatches, Undecided}
@@ -34,16 +34,6 @@ use Rattle.of_require.specs.Deciding.{IsDecisionFor, IsShownOf, IsSought, IsSoug
 use Rattle.of_require.specs.Decisions.{IsDeciding, NoneDecides, NoneMatch, decides}
 use Rattle.of_require.specs.Requirements.{is_done, is_leaving}
 use Rattle.of_require.proofs.BareLemmas.{bare, bare_all, same_does, same_leaving}
-
-pub both : (a b : Bool) → (a && b) ≡ true → (a ≡ true) × (b ≡ true)
-both true true h = (refl, refl)
-both true false h = absurd cc
-both false b h = absurd cc
-
-pub and_true : (a b : Bool) → a ≡ true → b ≡ true → (a && b) ≡ true
-and_true true true h k = refl
-and_true true false h k = absurd cc
-and_true false b h k = absurd cc
 
 pub never_both : (b : Bool) → b ≡ true → b ≡ false → ⊥
 never_both true h k = cc
@@ -87,15 +77,6 @@ only_in p q (zero, lt, is) = sym is
 only_in p q (suc k, lt, is) = absurd (omega (arith, lt))
 
 module _ (w : TheWorld) (r : Requirement) (port : ℕ) (fits : port < 2 ^ 32) where
-  -- a frame that came in by the port is matched, and one that is matched came in by the port
-  matched_there : (frame : List ℕ) (q : ℕ) → q ≡ port → matches_map r.within.items (received_fields frame q) ≡ true → matches_map (came_in_by port ∷ r.within.items) (received_fields frame q) ≡ true
-  matched_there frame q same h = and_true _ _ (eq-eqb (bit_and q (ones_of InPort)) port (ap (λ (n : ℕ). bit_and n (ones_of InPort)) same ∙ within_port port fits)) h
-
-  pub matched_from : (frame : List ℕ) (q : ℕ) → q < 2 ^ 32 → matches_map (came_in_by port ∷ r.within.items) (received_fields frame q) ≡ true → (q ≡ port) × (matches_map r.within.items (received_fields frame q) ≡ true)
-  matched_from frame q small h =
-      let parts = both _ _ h in
-      (sym (within_port q small) ∙ eqb-true (bit_and q (ones_of InPort)) port parts.0, parts.1)
-
   module _ (c : PathClass) (class : IsPathClass w (came_in_by port ∷ r.within.items) c) (one : length c.paths.items ≡ 1) where
     path : Path
     path = (one_path c.paths.items one).0
@@ -111,7 +92,7 @@ module _ (w : TheWorld) (r : Requirement) (port : ℕ) (fits : port < 2 ^ 32) wh
     inside = subst (λ (l : List Path). InFirstPath l c.frame.items c.in_port) alone class.shown
 
     own_match : (c.in_port ≡ port) × (matches_map r.within.items (received_fields c.frame.items c.in_port) ≡ true)
-    own_match = matched_from c.frame.items c.in_port class.fits (is_path.matched c.frame.items c.in_port inside)
+    own_match = matched_from r.within.items port c.frame.items c.in_port class.fits (is_path.matched c.frame.items c.in_port inside)
 
     decided_by : class_decides r c ≡ decides r c.in_port path.steps.items c.items.items
     decided_by = ap (λ (l : List Path). first_decides r c.in_port l c.items.items) alone
@@ -167,14 +148,14 @@ module _ (w : TheWorld) (r : Requirement) (steps port : ℕ) (found : Paths) (fi
 
   -- no class decides, so no frame does
   pub none_shows : ((frame : List ℕ) (q : ℕ) → (q ≡ port) × InClasses found.classes.items frame q → IsDeciding w r frame q → ⊥) → found.undecided.items ≡ [] → NoneDecides w r (λ q. Contains (port ∷ []) q)
-  none_shows none undecided frame q there deciding = let at = only_in port q there in elim (are.all frame q deciding.about.received (matched_there w r port fits frame q at deciding.about.matched)) as (λ x. ⊥) [
+  none_shows none undecided frame q there deciding = let at = only_in port q there in elim (are.all frame q deciding.about.received (matched_there r.within.items port fits frame q at deciding.about.matched)) as (λ x. ⊥) [
     | inl in_class ↦ none frame q (at, in_class) deciding
     | inr u ↦ none_in u.0 (subst (λ (l : List UndecidedFrames). Contains l u.0) undecided u.1)
   ]
 
   -- the requirement is about no class, so no frame matches
   pub none_matched : none_leaves r found.classes.items ≡ true → found.undecided.items ≡ [] → NoneMatch w r (λ q. Contains (port ∷ []) q)
-  none_matched none undecided frame q there received matched leaving = let at = only_in port q there in elim (are.all frame q received (matched_there w r port fits frame q at matched)) as (λ x. ⊥) [
+  none_matched none undecided frame q there received matched leaving = let at = only_in port q there in elim (are.all frame q received (matched_there r.within.items port fits frame q at matched)) as (λ x. ⊥) [
     | inl in_class ↦ never_both _ (sym (leaves_alike w r port fits in_class.0 (are.classes in_class.0 in_class.1) (are.merged in_class.0 in_class.1) frame q at received in_class.2) ∙ leaving) (not_leaving r found.classes.items in_class.0 none in_class.1)
     | inr u ↦ none_in u.0 (subst (λ (l : List UndecidedFrames). Contains l u.0) undecided u.1)
   ]

@@ -37,7 +37,8 @@ use Rattle.of_require.specs.Decisions.{IsDeciding, decides}
 use Rattle.of_require.specs.Packets.{AreAsked, IsAskedBy, IsUnknownAmong, IsUnknownClass, IsUnknownPath, packet_actions}
 use Rattle.of_require.specs.Requirements.{frame_has, have, is_done, is_leaving}
 use Rattle.of_require.proofs.BareLemmas.{bare, bare_all, same_leaving}
-use Rattle.of_require.proofs.DecidingLemmas.{and_true, both, leaves_alike, matched_from, never_both, only_in}
+use Rattle.of_paths.proofs.PortLemmas.{and_true, both, matched_from}
+use Rattle.of_require.proofs.DecidingLemmas.{leaves_alike, never_both, only_in}
 use Rattle.of_require.proofs.DividingLemmas.{AreAllIn, AreMatchedAlike, part_ways, part_within}
 use Rattle.of_require.proofs.ListLemmas.{each_more, only_one, some_more}
 use Rattle.of_require.proofs.HavingLemmas.{marked_alike, same_have}
@@ -73,7 +74,7 @@ module _ (w : TheWorld) (r : Requirement) (fields : List MatchField) (steps : �
   received_there : (s : FrameSet) (frame : List ℕ) (q : ℕ) → ((f : List ℕ) (x : ℕ) → InFrames s f x → InFrames p.frames f x) → IsFrameFoundIn s frame q →
       (q ≡ port) × IsReceivedAt w frame q × (matches_map r.within.items (received_fields frame q) ≡ true)
   received_there s frame q within found =
-      let from = matched_from w r port fits frame q found.fits (is_path.matched frame q (within frame q found.within)) in
+      let from = matched_from r.within.items port frame q found.fits (is_path.matched frame q (within frame q found.within)) in
       (from.0, subst (λ (x : ℕ). IsReceivedAt w frame x) (sym from.0) (record { frame_is = found.frame_is; short = found.short; ingress = receives.port; there = receives.there; receives = receives.receives }), from.1)
 
   lines_are : (frame : List ℕ) (q : ℕ) → IsReceivedAt w frame q → InFrames p.frames frame q → lines_at w frame q ≡ p.steps.items

@@ -4,12 +4,12 @@ use Rattle.std.specs.List.{list_all, list_any}
 use Rattle.of_oxm.specs.declared.match_field.MatchField.{MatchField}
 use Rattle.of_oxm.specs.Relations.{matches_map}
 use Rattle.of_machine.specs.declared.data.Item.{Item}
-use Rattle.of_machine.specs.declared.data.Item.TheVariants.{PacketIn, Sent}
 use Rattle.of_machine.specs.declared.data.Step.{Step}
 use Rattle.of_machine.specs.declared.data.Step.TheVariants.{Entry, Miss, TtlExpired}
 use Rattle.of_machine.specs.TheWorld.{TheWorld}
 use Rattle.of_symbolic.specs.Parts.{received_fields}
 use Rattle.of_symbolic_run.specs.Received.{IsReceivedAt, items_at}
+use Rattle.of_changes.specs.ChangesInWords.{item_frame}
 use Rattle.of_paths.specs.Ways.{lines_at}
 use Rattle.of_paths.specs.declared.destination.Destination.{Destination}
 use Rattle.of_paths.specs.declared.destination.Destination.TheVariants.{Nothing}
@@ -39,11 +39,6 @@ abbrev pub is_lookup_in : ℕ → Step → Bool
 is_lookup_in table (Entry t number) = t == table
 is_lookup_in table (Miss t) = t == table
 is_lookup_in table other = false
-
--- the frame of an item, as it leaves
-abbrev pub item_frame : Item → List ℕ
-item_frame (Sent port frame) = frame
-item_frame (PacketIn p) = p.frame
 
 -- a frame, of 14 bytes at least, has these fields, where IN_PORT is the port by which it came in
 abbrev pub frame_has : List MatchField → ℕ → List ℕ → Bool

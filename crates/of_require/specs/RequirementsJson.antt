@@ -2,6 +2,7 @@
 use Rattle.std.specs.Prelude.{ℕ, Bool, true, false, List, [], ◌∷◌, ◌++◌, codes, decimal}
 use Rattle.hex.specs.Hex.{encode_lower}
 use Rattle.of_json.specs.LeavingJson.{items_member}
+use Rattle.of_changes.specs.ChangesInJson.{changes_member}
 use Rattle.of_json.specs.Parts.{key, listed, number_member, text_member, truth_member}
 use Rattle.of_json.specs.Strings.{array_member, string_member}
 use Rattle.of_require.specs.declared.answers.Answer.{Answer}
@@ -21,9 +22,11 @@ abbrev pub may_match : Decision → Bool
 may_match NoneMatches = false
 may_match other = true
 
--- the frame that decides, and what leaves; or the port of frames of which it is not known
+-- the frame that decides, and what leaves and changed; or the port of frames of which it is not known
 unfoldable pub frame_members : Shown → List ℕ
-frame_members shown = number_member (codes "in_port") shown.in_port ++ text_member (codes "frame") (encode_lower shown.frame.items) ++ items_member (codes "items") shown.items.items
+frame_members shown =
+    number_member (codes "in_port") shown.in_port ++ text_member (codes "frame") (encode_lower shown.frame.items) ++ items_member (codes "items") shown.items.items
+    ++ changes_member (codes "changes") shown.frame.items shown.items.items
 
 unfoldable pub shown_members : Decision → List ℕ
 shown_members (Frame shown) = frame_members shown

@@ -1,8 +1,9 @@
 -- THE REPORT ON REQUIREMENTS in words: a line for each that fails, is undecided or matches no frame, with the frame that decides it, and a summary.
 use Rattle.std.specs.Prelude.{ℕ, ◌==◌, Bool, true, false, List, [], ◌∷◌, ◌++◌, length, map, codes, decimal, if◌then◌else◌}
 use Rattle.std.specs.List.{flat_map}
-use Rattle.of_json.specs.LeavingWords.{frame_lines, side_words}
+use Rattle.of_json.specs.LeavingWords.{frame_lines}
 use Rattle.of_values.specs.Origins.{printable}
+use Rattle.of_changes.specs.ChangesInWords.{changed_side_words}
 use Rattle.of_require.specs.declared.answers.Answer.{Answer}
 use Rattle.of_require.specs.declared.deciding.Decision.{Decision}
 use Rattle.of_require.specs.declared.deciding.Decision.TheVariants.{Frame, NoFrame, NoneMatches, Undecided}
@@ -20,10 +21,10 @@ verdict_said verdicts.Undecided = codes "requirement undecided"
 unfoldable pub verdict_line : Answer → List ℕ
 verdict_line a = verdict_said (verdict_of a) ++ codes ": line " ++ decimal a.line.number ++ codes ": " ++ map printable a.line.text.items ++ 10 ∷ []
 
--- ---- the frame that decides, its bytes and its words, and what leaves
+-- ---- the frame that decides, its bytes and its words, and what leaves and changed
 
 unfoldable pub deciding_frame_words : Shown → List ℕ
-deciding_frame_words s = frame_lines s.in_port s.frame.items ++ side_words (codes "    ") s.items.items
+deciding_frame_words s = frame_lines s.in_port s.frame.items ++ changed_side_words (codes "    ") s.frame.items s.items.items
 
 unfoldable pub numbered_text : List ℕ → ℕ → List ℕ
 numbered_text text n = text ++ decimal n

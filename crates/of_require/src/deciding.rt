@@ -1,11 +1,9 @@
 //! Whether a switch meets a requirement.
 ghost use Rattle.std.specs.Prelude.{◌≡◌, ◌∷◌, ◌++◌, [], ℕ, List, IfNone, IfOk, IfSome, false, not, true};
 ghost use Rattle.std.specs.List.{Contains};
-ghost use Rattle.of_regions.specs.Conditions.{AreConditions};
 ghost use Rattle.of_datapath.specs.Datapath.{world_of};
 ghost use Rattle.of_datapath.specs.Numbers.{forwarding_of};
 ghost use Rattle.of_machine.specs.TheWorld.{TheWorld};
-ghost use Rattle.of_symbolic_run.specs.PortNumbers.{came_in_by};
 ghost use Rattle.of_paths.specs.declared.path.PathClass.{PathClass as APathClass};
 ghost use Rattle.of_require.specs.Deciding.{IsDecisionFor, IsShownOf, IsSoughtInClass, IsSoughtInClasses, IsSoughtInEach, class_decides as decided_by_class, found_so_far, is_plain, none_leaves as none_leaves_by};
 ghost use Rattle.of_require.specs.Decisions.{IsDecision, verdict_by};
@@ -18,8 +16,8 @@ use crate::requirement::{Demand, Quantifier, Requirement};
 use of_classifier::Lookup;
 use of_datapath::Datapath;
 use of_machine::Items;
-use of_oxm::{Match, MatchField};
-use of_paths::{Merging, PathClass, Paths, ingress_conditions, paths};
+use of_oxm::Match;
+use of_paths::{Merging, PathClass, Paths, paths_of_port};
 use of_symbolic_run::receiving_port;
 use std::alloc::{AllocError, Global};
 
@@ -61,20 +59,6 @@ pub enum Verdict {
     Holds,
     Fails,
     Undecided,
-}
-
-// That a frame comes in by a port, and that the conditions match it.
-fn conditions_at(
-    alloc: Global,
-    requirement: &Requirement,
-    port: u32,
-) -> Result<Vec<MatchField>, AllocError>
-    ensures is { IfOk result (λ fields. fields.items ≡ came_in_by port ∷ requirement.now.within.items) }
-    ensures conditions { IfOk result (λ fields. AreConditions fields.items) }
-{
-    let mut fields = ingress_conditions(alloc, Some(port))?;
-    fields.extend_from_slice(&requirement.within)?;
-    Ok(fields)
 }
 
 // Whether the frames of a class decide a requirement.
@@ -225,8 +209,14 @@ fn decide_at<L: Lookup>(
     if !receiving_port(datapath.port_list(), port) {
         return Ok(Decision::NoneMatches);
     }
-    let within = conditions_at(alloc, requirement, port)?;
-    let Paths { classes, undecided } = paths(alloc, datapath, &within, Merging::Each, steps)?;
+    let Paths { classes, undecided } = paths_of_port(
+        alloc,
+        datapath,
+        port,
+        &requirement.within,
+        Merging::Each,
+        steps,
+    )?;
     let none_matches = none_leaves(requirement, &classes);
     let sought = seek(alloc, datapath, requirement, classes, steps)?;
     match sought {

@@ -1,31 +1,21 @@
 //! What a frame does, by the steps and the items of its run.
 ghost use Rattle.std.specs.Prelude.{◌≡◌, ◌&&◌, ◌||◌, not};
 ghost use Rattle.std.specs.List.{list_all, list_any};
-ghost use Rattle.of_paths.specs.Places.{leaves_to};
 ghost use Rattle.of_require.specs.Decisions.{decides as decides_by};
-ghost use Rattle.of_require.specs.Requirements.{is_done as does_by, frame_has as frame_has_fields, goes_among, has_fields as has_fields_by, have as have_by, is_counted as is_counted_by, is_dropped as is_dropped_by, is_expiry, is_leaving as is_leaving_by, is_lookup_in, is_nothing, item_frame as frame_in};
+ghost use Rattle.of_require.specs.Requirements.{is_done as does_by, frame_has as frame_has_fields, goes_among, has_fields as has_fields_by, have as have_by, is_counted as is_counted_by, is_dropped as is_dropped_by, is_expiry, is_leaving as is_leaving_by, is_lookup_in, is_nothing};
 
 use crate::requirement::{Demand, Quantifier, Requirement};
+use of_changes::item_frame;
 use of_headers::read_inside;
 use of_machine::{Item, Step};
 use of_oxm::{Match, matches};
 use of_paths::Destination;
 
-fn leaves(item: &Item, to: Destination) -> bool
-    ensures { result ≡ leaves_to to item.now }
-{
-    match (item, to) {
-        (Item::Sent { port, .. }, Destination::Port(number)) => *port == number,
-        (Item::PacketIn(_), Destination::Controller) => true,
-        _ => false,
-    }
-}
-
 // Whether an item goes to one of these places.
 fn goes(item: &Item, places: &[Destination]) -> bool
     ensures { result ≡ goes_among places.now item.now }
 {
-    places.iter().any(|to| leaves(item, *to))
+    places.iter().any(|to| to.takes(item))
 }
 
 fn is_no_place(to: Destination) -> bool
@@ -89,15 +79,6 @@ fn some_expires(steps: &[Step]) -> bool
     ensures { result ≡ list_any is_expiry steps.now }
 {
     steps.iter().any(|step| expires(step))
-}
-
-fn item_frame(item: &Item) -> &[u8]
-    ensures { result.now ≡ frame_in item.now }
-{
-    match item {
-        Item::Sent { frame, .. } => frame.as_slice(),
-        Item::PacketIn(packet) => packet.frame.as_slice(),
-    }
 }
 
 // Whether a frame has these fields.

@@ -4,6 +4,7 @@ ghost use Rattle.of_require.specs.RequirementsJson.{answer_object, frame_members
 
 use crate::answers::Answer;
 use crate::deciding::{Decision, Shown, Verdict};
+use of_changes::push_changes_member;
 use of_json::{
     push_array_member, push_bytes_member, push_items_member, push_key, push_number_member,
     push_string_member, push_text_member, push_truth_member,
@@ -33,7 +34,8 @@ fn push_frame_members(alloc: Global, out: &mut Vec<u8>, shown: &Shown) -> Result
 {
     push_number_member(out, b"in_port", u128::from(shown.in_port))?;
     push_bytes_member(alloc, out, b"frame", &shown.frame)?;
-    push_items_member(alloc, out, b"items", &shown.items)
+    push_items_member(alloc, out, b"items", &shown.items)?;
+    push_changes_member(alloc, out, b"changes", &shown.frame, &shown.items)
 }
 
 #[tactic(auto, unfolding(crate::specs::RequirementsJson::shown_members))]

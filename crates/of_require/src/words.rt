@@ -5,7 +5,8 @@ ghost use Rattle.of_require.specs.Words.{answer_words, counted_noun, decision_wo
 
 use crate::answers::{Answer, count};
 use crate::deciding::{Decision, Shown, Verdict};
-use of_json::{push_frame_lines, push_side};
+use of_changes::push_changed_side;
+use of_json::push_frame_lines;
 use of_values::{push_decimal, push_printable};
 use std::alloc::{AllocError, Global};
 
@@ -32,13 +33,13 @@ fn push_verdict_line(out: &mut Vec<u8>, answer: &Answer) -> Result<(), AllocErro
     Ok(())
 }
 
-// Appends the frame that decides, and what leaves.
+// Appends the frame that decides, and what leaves and changed.
 #[tactic(auto, unfolding(crate::specs::Words::deciding_frame_words))]
 fn push_shown(alloc: Global, out: &mut Vec<u8>, shown: &Shown) -> Result<(), AllocError>
     ensures { OnOk result (out.new.items ≡ out.old.items ++ deciding_frame_words shown.now) }
 {
     push_frame_lines(alloc, out, shown.in_port, &shown.frame)?;
-    push_side(alloc, out, b"    ", &shown.items)
+    push_changed_side(alloc, out, b"    ", &shown.frame, &shown.items)
 }
 
 /// Appends a text, and a number.

@@ -5,6 +5,7 @@ use Rattle.std.specs.Global.{Vec}
 use Rattle.std.specs.List.{Contains}
 use Rattle.std.specs.Option.{option_map}
 use Rattle.std.proofs.lemmas.List.{append-nil, map-append}
+use Rattle.std.proofs.lemmas.Bool.Decides.{nat_tests}
 use Rattle.std.proofs.lemmas.Option.{slice_get-get_or}
 use Rattle.of_layers.specs.declared.field.Field.{Field}
 use Rattle.of_actions.specs.declared.action.Action.{Action}
@@ -16,13 +17,14 @@ use Rattle.of_table.specs.Table.{FlowEntry, flow_at, winner_place}
 use Rattle.of_machine.specs.declared.data.Packet.{Packet}
 use Rattle.of_machine.specs.declared.data.Item.{Item}
 use Rattle.of_machine.specs.declared.data.Step.{Step}
+use Rattle.of_machine.specs.declared.data.Step.TheVariants.{Entry as AtEntry, Miss}
 use Rattle.of_machine.specs.TheWorld.{TheWorld}
 use Rattle.of_machine.specs.Rows.{Row, Task, at_entry, entry_row, lookup_row, task, works}
 use Rattle.of_machine.specs.Rows as rows
 use Rattle.of_symbolic.specs.declared.branching.Branch.{Branch}
 use Rattle.of_symbolic.specs.declared.overlay.Overlay.{Overlay}
 use Rattle.of_symbolic.specs.Overlays.{IsOverlay}
-use Rattle.of_symbolic.specs.Branches.{AreBranches, AsksUnknown, flows_listed, rewritten_fields}
+use Rattle.of_symbolic.specs.Branches.{AreBranches, AsksUnknown, HaveDistinctEntries, flows_listed, rewritten_fields}
 use Rattle.of_symbolic.specs.Parts.{InPart, received_fields}
 use Rattle.of_symbolic_run.specs.declared.advance.Advance.TheVariants as advances
 use Rattle.of_symbolic_run.specs.declared.dividing.Case.{Case}
@@ -33,10 +35,12 @@ use Rattle.of_symbolic_run.specs.declared.state.SymbolicState.{SymbolicState}
 use Rattle.of_symbolic_run.specs.declared.state.SymbolicTask.{SymbolicTask}
 use Rattle.of_symbolic_run.specs.declared.state.Work.{Work}
 use Rattle.of_symbolic_run.specs.declared.state.Work.TheVariants.{Do, Lookup}
-use Rattle.of_symbolic_run.specs.Cases.{AreCases, AreCasesOf, AsksUnknownOf, IsAtEntry, IsCaseOf, IsEntered, IsTableOf, first_key, flow_found, flow_named, goes_to_table, lookup_line, flow_with_number}
-use Rattle.of_symbolic_run.specs.Later.{AreOneLater, IsOneLater}
+use Rattle.of_symbolic_run.specs.Cases.{AreCases, AreCasesOf, AsksUnknownOf, IsAtEntry, IsCaseOf, IsEntered, IsTableOf, first_key, flow_found, flow_named, goes_to_table, is_listed, lookup_line, flow_with_number}
+use Rattle.of_symbolic_run.specs.NextStates.{AreNextStates, IsNextStateIf, chosen_row}
 use Rattle.of_symbolic_run.specs.States.{IsStateCopy, answer_to_tasks, items_for, packet_for, row_for, task_for, work_for}
-use Rattle.of_symbolic_run.proofs.FirstLemmas.{copy_stepped, first_item, firsts, is_lookup, some_lookup}
+use Rattle.of_symbolic_run.proofs.FirstLemmas.{first_item, firsts, is_lookup, some_lookup}
+use Rattle.of_symbolic_run.proofs.ListedLemmas.{listed_at}
+use Rattle.of_symbolic_run.proofs.NextLemmas.{copy_next, last_same, next_at_row, some_same}
 
 -- ---- instructions as work
 
@@ -96,20 +100,33 @@ at_left table (Some f) frame port t x t' same h = rw (h.0 ∙ ap (λ (q : Symbol
 
 pub entered_is : (table : ℕ) (found : Option (ℕ × Flow)) (old copy new : SymbolicState) (x t' : SymbolicTask) → answer_to_tasks old.tasks.items ≡ advances.Lookup table → IsStateCopy old copy → x ≡ get_or copy.tasks.items 0 x →
     IsAtEntry table found x t' → new.tasks.items ≡ set copy.tasks.items 0 t' → new.emitted.items ≡ copy.emitted.items → new.steps.items ≡ copy.steps.items ++ lookup_line table found ∷ [] → IsEntered table found old new
-entered_is table found old copy new x t' answer copied is entry tasks emitted steps w frame port hit at =
+entered_is table found old copy new x t' answer copied is entry tasks emitted steps w number named =
     let f = firsts old.tasks.items copy.tasks.items copied.0 (some_lookup old.tasks.items table answer) in
-    let p = packet_for f.t.packet frame port in
     let same : x.packet ≡ f.t.packet = ap (λ (y : SymbolicTask). y.packet) (first_item copy.tasks.items x f.copy f.others is f.copied) ∙ f.same.0 in
     let work : f.t.work.items ≡ Lookup table ∷ drop 1 f.t.work.items = is_lookup f.t.work.items table (ap answer_to_tasks (sym f.first) ∙ answer) in
-    let found_is : flow_found w table (w.winner table (rows.key_of p)) ≡ found = ap (λ (ts : List SymbolicTask). flow_found w table (w.winner table (first_key ts frame port))) (sym f.first) ∙ hit in
-    let row_is = lookup_is w p table (w.winner table (rows.key_of p)) found found_is in
-    let left : (row_for w frame port f.t).left ≡ task_for frame port t' ∷ [] = rw work (row_is.left ∙ at_left table found frame port f.t x t' same entry) in
-    let sent : (row_for w frame port f.t).items ≡ [] = rw work row_is.items in
-    let told : (row_for w frame port f.t).line ≡ lookup_line table found = rw work row_is.line in
-    let lines : new.steps.items ≡ old.steps.items ++ (row_for w frame port f.t).line ∷ [] = steps ∙ ap (λ (l : List Step). l ++ lookup_line table found ∷ []) copied.2 ∙ ap (λ (x : Step). old.steps.items ++ x ∷ []) (sym told) in
-    let more : items_for w.ports new.emitted.items frame port ≡ items_for w.ports old.emitted.items frame port ++ (row_for w frame port f.t).items =
-    ap (λ (es : List Emission). items_for w.ports es frame port) (emitted ∙ copied.1) ∙ sym (append-nil (items_for w.ports old.emitted.items frame port)) ∙ ap (λ (is : List Item). items_for w.ports old.emitted.items frame port ++ is) (sym sent) in
-    copy_stepped w frame port old new f.t t' f.rest f.others f.first (tasks ∙ ap (λ (ts : List SymbolicTask). set ts 0 t') f.copied) f.behind left more lines at
+    let row_is = (λ (frame : List ℕ) (port : ℕ). lookup_is w (packet_for f.t.packet frame port) table number found named) in
+    let left : (frame : List ℕ) (port : ℕ) → (chosen_row w number false frame port f.t).left ≡ task_for frame port t' ∷ [] = (λ frame port. rw work ((row_is frame port).left ∙ at_left table found frame port f.t x t' same entry)) in
+    let sent : (frame : List ℕ) (port : ℕ) → (chosen_row w number false frame port f.t).items ≡ [] = (λ frame port. rw work (row_is frame port).items) in
+    let told : (frame : List ℕ) (port : ℕ) → (chosen_row w number false frame port f.t).line ≡ lookup_line table found = (λ frame port. rw work (row_is frame port).line) in
+    let lines : (frame : List ℕ) (port : ℕ) → new.steps.items ≡ old.steps.items ++ (chosen_row w number false frame port f.t).line ∷ [] = (λ frame port. steps ∙ ap (λ (l : List Step). l ++ lookup_line table found ∷ []) copied.2 ∙ ap (λ (s : Step). old.steps.items ++ s ∷ []) (sym (told frame port))) in
+    let more : (frame : List ℕ) (port : ℕ) → items_for w.ports new.emitted.items frame port ≡ items_for w.ports old.emitted.items frame port ++ (chosen_row w number false frame port f.t).items =
+    (λ frame port. ap (λ (es : List Emission). items_for w.ports es frame port) (emitted ∙ copied.1) ∙ sym (append-nil (items_for w.ports old.emitted.items frame port)) ∙ ap (λ (l : List Item). items_for w.ports old.emitted.items frame port ++ l) (sym (sent frame port))) in
+    copy_next w number false old new f.t t' f.rest f.others f.first (tasks ∙ ap (λ (ts : List SymbolicTask). set ts 0 t') f.copied) f.behind left more lines
+
+-- the line that a lookup tells
+entered_told : (w : TheWorld) (table : ℕ) (number : Option ℕ) (found : Option (ℕ × Flow)) (old new : SymbolicState) → answer_to_tasks old.tasks.items ≡ advances.Lookup table → flow_found w table number ≡ found → IsNextStateIf w number false old new → new.steps.items ≡ old.steps.items ++ lookup_line table found ∷ []
+entered_told w table number found old new answer named h =
+    let work : h.t.work.items ≡ Lookup table ∷ drop 1 h.t.work.items = is_lookup h.t.work.items table (ap answer_to_tasks (sym h.first) ∙ answer) in
+    let told : (chosen_row w number false [] 0 h.t).line ≡ lookup_line table found = rw work (lookup_is w (packet_for h.t.packet [] 0) table number found named).line in
+    h.lines [] 0 ∙ ap (λ (s : Step). old.steps.items ++ s ∷ []) told
+
+-- the row of a frame whose first packet hits the entry of this number, or none
+hit_row : (w : TheWorld) (frame : List ℕ) (port table : ℕ) (number : Option ℕ) (ts : List SymbolicTask) (t : SymbolicTask) (rest : List SymbolicTask) → ts ≡ t ∷ rest → answer_to_tasks ts ≡ advances.Lookup table → w.winner table (first_key ts frame port) ≡ number → row_for w frame port t ≡ chosen_row w number false frame port t
+hit_row w frame port table number ts t rest first answer hit =
+    let p = packet_for t.packet frame port in
+    let work : t.work.items ≡ Lookup table ∷ drop 1 t.work.items = is_lookup t.work.items table (ap answer_to_tasks (sym first) ∙ answer) in
+    let won : w.winner table (rows.key_of p) ≡ number = ap (λ (l : List SymbolicTask). w.winner table (first_key l frame port)) (sym first) ∙ hit in
+    rw work (ap (lookup_row w p table) won)
 
 -- ---- entries by their places
 
@@ -133,15 +150,35 @@ named_is listed place k x is at lt = rw is (sym (ap (flow_with_number k) (listed
 pub named_past : (listed : List (Bor Entry)) (place : Option ℕ) (k : ℕ) → place ≡ Some k → length listed ≤ k → None ≡ flow_named (flows_listed listed) place
 named_past listed place k is le = rw is (sym (ap (flow_with_number k) (past_flow listed k le)))
 
+-- a line names the entry
+flow_there : (flows : List FlowEntry) (k : ℕ) → k < length flows → (f : Flow) × (flow_at k flows ≡ Some f)
+flow_there [] k lt = absurd (omega (arith, lt))
+flow_there (e ∷ flows) zero lt = (e.flow, refl)
+flow_there (e ∷ flows) (suc k) lt = flow_there flows k (omega (arith, lt))
+
+is_inside : (k most : ℕ) → is_listed most (Some k) ≡ true → k < most
+is_inside k most h = grind (arith, nat_tests)
+
+entry_line : (table : ℕ) (flows : List FlowEntry) (k : ℕ) → is_listed (length flows) (Some k) ≡ true → lookup_line table (flow_named flows (Some k)) ≡ AtEntry table k
+entry_line table flows k h = let f = flow_there flows k (is_inside k (length flows) h) in ap (λ (o : Option Flow). lookup_line table (flow_with_number k o)) f.1
+
+names_entry : (table : ℕ) (flows : List FlowEntry) (x y : Option ℕ) → is_listed (length flows) x ≡ true → is_listed (length flows) y ≡ true → lookup_line table (flow_named flows x) ≡ lookup_line table (flow_named flows y) → x ≡ y
+names_entry table flows None None h k same = refl
+names_entry table flows None (Some b) h k same = let no : Miss table ≡ AtEntry table b = same ∙ entry_line table flows b k in absurd cc
+names_entry table flows (Some a) None h k same = let no : AtEntry table a ≡ Miss table = sym (entry_line table flows a h) ∙ same in absurd cc
+names_entry table flows (Some a) (Some b) h k same =
+    let both : AtEntry table a ≡ AtEntry table b = sym (entry_line table flows a h) ∙ same ∙ entry_line table flows b k in
+    let number : a ≡ b = cc in
+    ap Some number
+
 -- ---- the case of a branch
 
 pub case_is : (table : ℕ) (flows : List FlowEntry) (frames : FrameSet) (state : SymbolicState) (b : Branch) (c : Case) (found : Option (ℕ × Flow)) → ((fields : Field → Option ℕ) → InPart b.part fields → InPart frames.part fields) →
-    c.frames.part ≡ b.part → c.frames.ttl_from ≡ frames.ttl_from → c.frames.ttl_to ≡ frames.ttl_to → found ≡ flow_named flows b.entry → IsEntered table found state c.state → IsOneLater state c.state → IsCaseOf table flows frames state b c
-case_is table flows frames state b c found inside part least most is entered later = record {
+    c.frames.part ≡ b.part → c.frames.ttl_from ≡ frames.ttl_from → c.frames.ttl_to ≡ frames.ttl_to → found ≡ flow_named flows b.entry → IsEntered table found state c.state → IsCaseOf table flows frames state b c
+case_is table flows frames state b c found inside part least most is entered = record {
   within = λ frame port h. (let own : InPart b.part (received_fields frame port) = rw (sym part) h.part in (record { part = inside (received_fields frame port) own; ttl = rw (sym least, sym most) h.ttl }, own));
   all = λ frame port h own. record { part = rw part own; ttl = rw (least, most) h.ttl };
   entered = subst (λ (o : Option (ℕ × Flow)). IsEntered table o state c.state) is entered;
-  later = later;
 }
 
 module _ (table : ℕ) (flows : List FlowEntry) (frames : FrameSet) (state : SymbolicState) where
@@ -180,16 +217,26 @@ module _ (table : ℕ) (flows : List FlowEntry) (frames : FrameSet) (state : Sym
       let o = of_branch branches cases are.1 k b (omega (arith, lt)) at in
       record { c = o.c; there = (suc o.there.0, omega (arith, o.there.1), o.there.2); own = o.own }
 
-  pub cases_later : (branches : List Branch) (cases : List Case) → AreCasesOf table flows frames state branches cases → AreOneLater state cases
-  cases_later branches cases made c there = let o = of_case branches cases made there.0 c there.1 there.2 in o.own.later
+  -- the branch of the case at a place
+  record IsCaseAt (branches : List Branch) (k : ℕ) (c : Case) : Type 0 where
+    b : Branch
+    there : slice_get branches k ≡ Some b
+    own : IsCaseOf table flows frames state b c
+
+  case_at : (branches : List Branch) (cases : List Case) → AreCasesOf table flows frames state branches cases → (k : ℕ) (c : Case) → slice_get cases k ≡ Some c → IsCaseAt branches k c
+  case_at [] [] are k c at = absurd cc
+  case_at [] (y ∷ cases) are k c at = absurd are
+  case_at (x ∷ branches) [] are k c at = absurd are
+  case_at (x ∷ branches) (y ∷ cases) are zero c at = record { b = x; there = refl; own = subst (IsCaseOf table flows frames state x) (some_same y c at) are.0 }
+  case_at (x ∷ branches) (y ∷ cases) are (suc k) c at = let o = case_at branches cases are.1 k c at in record { b = o.b; there = o.there; own = o.own }
 
   found_named : (w : TheWorld) → IsTableOf w table flows → (o : Option ℕ) → flow_found w table o ≡ flow_named flows o
   found_named w is None = refl
   found_named w is (Some n) = ap (flow_with_number n) (is.flow n)
 
-  pub cases_are : (w : TheWorld) (l : List Action) (metadata : ℕ) (branches : List Branch) (cases : List Case) → IsTableOf w table flows → ((frame : List ℕ) (port : ℕ) → first_key state.tasks.items frame port ≡ rewritten_fields l metadata frame port) →
+  pub cases_are : (w : TheWorld) (l : List Action) (metadata : ℕ) (branches : List Branch) (cases : List Case) → answer_to_tasks state.tasks.items ≡ advances.Lookup table → IsTableOf w table flows → ((frame : List ℕ) (port : ℕ) → first_key state.tasks.items frame port ≡ rewritten_fields l metadata frame port) →
       AreBranches flows l metadata frames.part branches → AreCasesOf table flows frames state branches cases → AreCases w frames state cases
-  cases_are w l metadata branches cases is key are made = record {
+  cases_are w l metadata branches cases answer is key are made = record {
     within = λ c there frame port h. (let o = of_case branches cases made there.0 c there.1 there.2 in (o.own.within frame port h).0);
     all = λ frame port is h.
         let b = are.all frame port is h.part in
@@ -198,8 +245,24 @@ module _ (table : ℕ) (flows : List FlowEntry) (frames : FrameSet) (state : Sym
     at = λ c there frame port is_frame h at.
         let o = of_case branches cases made there.0 c there.1 there.2 in
         let won : w.winner table (first_key state.tasks.items frame port) ≡ o.b.entry = is.winner (first_key state.tasks.items frame port) ∙ ap (λ (k : Field → Option ℕ). winner_place k flows) (key frame port) ∙ are.wins o.b o.there frame port is_frame (o.own.within frame port h).1 in
-        o.own.entered w frame port (ap (flow_found w table) won ∙ found_named w is o.b.entry) at;
+        let next = o.own.entered w o.b.entry (found_named w is o.b.entry) in
+        next_at_row w frame port o.b.entry false state c.state next (hit_row w frame port table o.b.entry state.tasks.items next.t next.rest next.first answer won) at;
   }
+
+  -- the branches of other entries have other lines
+  pub cases_next : (w : TheWorld) (branches : List Branch) (cases : List Case) → answer_to_tasks state.tasks.items ≡ advances.Lookup table → IsTableOf w table flows → HaveDistinctEntries branches → ((b : Branch) → Contains branches b → is_listed (length flows) b.entry ≡ true) →
+      AreCasesOf table flows frames state branches cases → AreNextStates w state cases
+  cases_next w branches cases answer is once listed made = record {
+    each = λ c there. (let o = of_case branches cases made there.0 c there.1 there.2 in record { found = o.b.entry; expires = false; follows = o.own.entered w o.b.entry (found_named w is o.b.entry) });
+    apart = λ i j a b at_i at_j same.
+        let x = case_at branches cases made i a at_i in
+        let y = case_at branches cases made j b at_j in
+        once i j x.b y.b x.there y.there (names_entry table flows x.b.entry y.b.entry (listed x.b (listed_at branches i x.b x.there)) (listed y.b (listed_at branches j y.b y.there))
+        (last_same state.steps.items (lookup_line table (flow_named flows x.b.entry)) (lookup_line table (flow_named flows y.b.entry)) (sym (told x.b a x.own) ∙ same ∙ told y.b b y.own)));
+  }
+    where
+      told : (b : Branch) (c : Case) → IsCaseOf table flows frames state b c → c.state.steps.items ≡ state.steps.items ++ lookup_line table (flow_named flows b.entry) ∷ []
+      told b c own = entered_told w table b.entry (flow_named flows b.entry) state c.state answer (found_named w is b.entry) (own.entered w b.entry (found_named w is b.entry))
 
 -- ---- the first packet
 

@@ -1,16 +1,11 @@
 -- The first packet of a state, and of a copy.
-use Rattle.std.proofs.Common.{◌≡◌, ◌<◌, ℕ, suc, List, [], ◌∷◌, ◌++◌, length, get_or, drop, refl, sym, ◌∙◌, ap, arith}
-use Rattle.std.specs.Prelude.{map}
+use Rattle.std.proofs.Common.{◌≡◌, ◌<◌, ℕ, suc, List, [], ◌∷◌, length, get_or, drop, refl, ◌∙◌, ap, arith}
 use Rattle.of_actions.specs.declared.action.Action.TheVariants as actions
-use Rattle.of_machine.specs.TheWorld.{TheWorld}
-use Rattle.of_machine.specs.Rows.{Task}
 use Rattle.of_symbolic_run.specs.declared.advance.Advance.TheVariants as advances
 use Rattle.of_symbolic_run.specs.declared.state.SymbolicTask.{SymbolicTask}
-use Rattle.of_symbolic_run.specs.declared.state.SymbolicState.{SymbolicState}
 use Rattle.of_symbolic_run.specs.declared.state.Work.{Work}
 use Rattle.of_symbolic_run.specs.declared.state.Work.TheVariants.{Lookup, Do, RunSet, Act}
-use Rattle.of_symbolic_run.specs.States.{AreTaskCopies, IsAt, IsTaskCopy, answer_to_tasks, answer_to_works, items_for, row_for, task_for}
-use Rattle.of_symbolic_run.proofs.RunLemmas.{same_tasks, taken_at}
+use Rattle.of_symbolic_run.specs.States.{AreTaskCopies, IsTaskCopy, answer_to_tasks, answer_to_works}
 
 -- ---- the first work
 
@@ -87,13 +82,3 @@ as_many (t ∷ ts) (c ∷ copies) are = ap suc (as_many ts copies are.1)
 
 pub first_item : (ts : List SymbolicTask) (x t : SymbolicTask) (rest : List SymbolicTask) → x ≡ get_or ts 0 x → ts ≡ t ∷ rest → x ≡ t
 first_item ts x t rest is first = is ∙ ap (λ (xs : List SymbolicTask). get_or xs 0 x) first
-
--- ---- a step of the first packet, on a copy
-
-pub copy_stepped : (w : TheWorld) (frame : List ℕ) (port : ℕ) (old new : SymbolicState) (t t' : SymbolicTask) (rest others : List SymbolicTask) → old.tasks.items ≡ t ∷ rest → new.tasks.items ≡ t' ∷ others → AreTaskCopies rest others →
-    (row_for w frame port t).left ≡ task_for frame port t' ∷ [] → items_for w.ports new.emitted.items frame port ≡ items_for w.ports old.emitted.items frame port ++ (row_for w frame port t).items →
-    new.steps.items ≡ old.steps.items ++ (row_for w frame port t).line ∷ [] → IsAt w frame port old → IsAt w frame port new
-copy_stepped w frame port old new t t' rest others first next behind left items lines at =
-    let all : map (task_for frame port) new.tasks.items ≡ (row_for w frame port t).left ++ map (task_for frame port) rest =
-    ap (map (task_for frame port)) next ∙ ap (λ (xs : List Task). task_for frame port t' ∷ xs) (same_tasks frame port rest others behind) ∙ ap (λ (xs : List Task). xs ++ map (task_for frame port) rest) (sym left) in
-    taken_at w frame port old new t rest first all items lines at

@@ -20,9 +20,10 @@ use Rattle.of_symbolic_run.specs.declared.state.SymbolicState.{SymbolicState}
 use Rattle.of_symbolic_run.specs.declared.state.SymbolicTask.{SymbolicTask}
 use Rattle.of_symbolic_run.specs.declared.state.Work.TheVariants.{Act}
 use Rattle.of_symbolic_run.specs.Groups.{AreBucketTasks, AreGroupTasks, AreServedLists, IsBucketTask, IsGroupOf, lists_of}
-use Rattle.of_symbolic_run.specs.States.{IsAt, answer_to_tasks, items_for, packet_for, row_for, task_for, work_for}
+use Rattle.of_symbolic_run.specs.NextStates.{IsNextState, chosen_row}
+use Rattle.of_symbolic_run.specs.States.{IsAt, answer_to_tasks, answer_to_works, items_for, packet_for, task_for, work_for}
 use Rattle.of_symbolic_run.proofs.FirstLemmas.{is_group}
-use Rattle.of_symbolic_run.proofs.RunLemmas.{taken_at}
+use Rattle.of_symbolic_run.proofs.NextLemmas.{next_at_row}
 
 -- ---- buckets
 
@@ -64,13 +65,13 @@ module _ (w : TheWorld) (frame : List ℕ) (port : ℕ) (group : ℕ) (packet : 
       let own : AreBucketTasks packet (map (λ place. unwrap_or (w.bucket group place) []) places) ts = subst (λ (o : Option (List (List Action))). AreGroupTasks packet o ts) (sym is) are in
       (ap (λ (xs : List Task). xs ++ task (packet_for packet frame port) rest ∷ []) (copies_are places ts own), refl, refl)
 
-pub group_ran : (group : ℕ) (buckets : Option (List (List Action))) (old new : SymbolicState) (first next : SymbolicTask) (rest ts : List SymbolicTask) → answer_to_tasks old.tasks.items ≡ advances.Group group → first ≡ get_or old.tasks.items 0 first → rest ≡ drop 1 old.tasks.items →
+pub group_next : (group : ℕ) (buckets : Option (List (List Action))) (old new : SymbolicState) (first next : SymbolicTask) (rest ts : List SymbolicTask) → answer_to_tasks old.tasks.items ≡ advances.Group group → first ≡ get_or old.tasks.items 0 first → rest ≡ drop 1 old.tasks.items →
     next.packet ≡ first.packet → next.work.items ≡ drop 1 first.work.items → AreGroupTasks next.packet buckets ts → new.tasks.items ≡ (ts ++ next ∷ []) ++ rest → new.emitted.items ≡ old.emitted.items → new.steps.items ≡ old.steps.items ++ DidAct (actions.Group group) ∷ [] →
-    (w : TheWorld) (frame : List ℕ) (port : ℕ) → IsGroupOf w group buckets → IsAt w frame port old → IsAt w frame port new
-group_ran group buckets old new first next rest ts answer is behind packet work are tasks emitted steps w frame port of at =
+    (w : TheWorld) → IsGroupOf w group buckets → IsNextState w old new
+group_next group buckets old new first next rest ts answer is behind packet work are tasks emitted steps w of =
     by_list old.tasks.items refl
   where
-    by_list : (l : List SymbolicTask) → old.tasks.items ≡ l → IsAt w frame port new
+    by_list : (l : List SymbolicTask) → old.tasks.items ≡ l → IsNextState w old new
     by_list [] e = let bad : advances.Done ≡ advances.Group group = ap answer_to_tasks (sym e) ∙ answer in absurd cc
     by_list (t ∷ l) e =
         let same : first ≡ t = is ∙ ap (λ (xs : List SymbolicTask). get_or xs 0 first) e in
@@ -79,14 +80,20 @@ group_ran group buckets old new first next rest ts answer is behind packet work 
         let own : next.packet ≡ t.packet = packet ∙ ap (λ (x : SymbolicTask). x.packet) same in
         let left_work : next.work.items ≡ drop 1 t.work.items = work ∙ ap (λ (x : SymbolicTask). drop 1 x.work.items) same in
         let these : AreGroupTasks t.packet buckets ts = subst (λ (p : SymbolicPacket). AreGroupTasks p buckets ts) own are in
-        let row_is = group_left w frame port group t.packet (map work_for (drop 1 t.work.items)) (w.chosen group) buckets ts of these in
-        let goes_on : task_for frame port next ≡ task (packet_for t.packet frame port) (map work_for (drop 1 t.work.items)) = rw (own, left_work) refl in
-        let left : map (task_for frame port) new.tasks.items ≡ (row_for w frame port t).left ++ map (task_for frame port) l =
-        rw work_is (ap (map (task_for frame port)) (tasks ∙ ap (λ (xs : List SymbolicTask). (ts ++ next ∷ []) ++ xs) others) ∙ map-append (task_for frame port) (ts ++ next ∷ []) l
-        ∙ ap (λ (xs : List Task). xs ++ map (task_for frame port) l) (map-append (task_for frame port) ts (next ∷ []) ∙ ap (λ (x : Task). map (task_for frame port) ts ++ x ∷ []) goes_on ∙ sym row_is.0)) in
-        let sent : (row_for w frame port t).items ≡ [] = rw work_is row_is.1 in
-        let more : items_for w.ports new.emitted.items frame port ≡ items_for w.ports old.emitted.items frame port ++ (row_for w frame port t).items =
-        ap (λ (es : List Emission). items_for w.ports es frame port) emitted ∙ sym (append-nil (items_for w.ports old.emitted.items frame port)) ∙ ap (λ (xs : List Item). items_for w.ports old.emitted.items frame port ++ xs) (sym sent) in
-        let told : (row_for w frame port t).line ≡ DidAct (actions.Group group) = rw work_is row_is.2 in
-        let lines : new.steps.items ≡ old.steps.items ++ (row_for w frame port t).line ∷ [] = steps ∙ ap (λ (s : Step). old.steps.items ++ s ∷ []) (sym told) in
-        taken_at w frame port old new t l e left more lines at
+        let row_is = (λ (frame : List ℕ) (port : ℕ). group_left w frame port group t.packet (map work_for (drop 1 t.work.items)) (w.chosen group) buckets ts of these) in
+        let goes_on : (frame : List ℕ) (port : ℕ) → task_for frame port next ≡ task (packet_for t.packet frame port) (map work_for (drop 1 t.work.items)) = (λ frame port. rw (own, left_work) refl) in
+        let left : (frame : List ℕ) (port : ℕ) → map (task_for frame port) new.tasks.items ≡ (chosen_row w None false frame port t).left ++ map (task_for frame port) l =
+        (λ frame port. rw work_is (ap (map (task_for frame port)) (tasks ∙ ap (λ (xs : List SymbolicTask). (ts ++ next ∷ []) ++ xs) others) ∙ map-append (task_for frame port) (ts ++ next ∷ []) l
+        ∙ ap (λ (xs : List Task). xs ++ map (task_for frame port) l) (map-append (task_for frame port) ts (next ∷ []) ∙ ap (λ (x : Task). map (task_for frame port) ts ++ x ∷ []) (goes_on frame port) ∙ sym (row_is frame port).0))) in
+        let sent : (frame : List ℕ) (port : ℕ) → (chosen_row w None false frame port t).items ≡ [] = (λ frame port. rw work_is (row_is frame port).1) in
+        let more : (frame : List ℕ) (port : ℕ) → items_for w.ports new.emitted.items frame port ≡ items_for w.ports old.emitted.items frame port ++ (chosen_row w None false frame port t).items =
+        (λ frame port. ap (λ (es : List Emission). items_for w.ports es frame port) emitted ∙ sym (append-nil (items_for w.ports old.emitted.items frame port)) ∙ ap (λ (xs : List Item). items_for w.ports old.emitted.items frame port ++ xs) (sym (sent frame port))) in
+        let told : (frame : List ℕ) (port : ℕ) → (chosen_row w None false frame port t).line ≡ DidAct (actions.Group group) = (λ frame port. rw work_is (row_is frame port).2) in
+        let lines : (frame : List ℕ) (port : ℕ) → new.steps.items ≡ old.steps.items ++ (chosen_row w None false frame port t).line ∷ [] = (λ frame port. steps ∙ ap (λ (s : Step). old.steps.items ++ s ∷ []) (sym (told frame port))) in
+        record { found = None; expires = false; follows = record { t = t; rest = l; first = e; tasks = left; items = more; lines = lines } }
+
+-- each frame takes that step
+pub group_at : (group : ℕ) (w : TheWorld) (frame : List ℕ) (port : ℕ) (old new : SymbolicState) → answer_to_tasks old.tasks.items ≡ advances.Group group → IsNextState w old new → IsAt w frame port old → IsAt w frame port new
+group_at group w frame port old new answer h =
+    let kind : answer_to_works h.follows.t.work.items ≡ advances.Group group = ap answer_to_tasks (sym h.follows.first) ∙ answer in
+    next_at_row w frame port h.found h.expires old new h.follows (rw kind refl)

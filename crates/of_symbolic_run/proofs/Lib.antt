@@ -8,7 +8,8 @@ pub mod FrameLemmas
 pub mod GroupLemmas
 pub mod GroupedLemmas
 pub mod HeaderLemmas
-pub mod LaterLemmas
+pub mod ListedLemmas
+pub mod NextLemmas
 pub mod Pairing
 pub mod ReceivedLemmas
 pub mod RunLemmas

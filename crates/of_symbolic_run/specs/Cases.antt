@@ -1,5 +1,5 @@
 -- WHAT A STATE BECOMES FOR PARTS OF ITS FRAMES (OpenFlow 1.3.5, 5.3, 5.6 and 5.12).
-use Rattle.std.specs.Prelude.{◌≡◌, ℕ, Bool, true, false, List, [], ◌∷◌, Option, None, Some, map, ⊤}
+use Rattle.std.specs.Prelude.{◌≡◌, ℕ, nat_lt, Bool, true, false, List, [], ◌∷◌, Option, None, Some, map, ⊤}
 use Rattle.std.specs.Borrow.{Bor}
 use Rattle.std.specs.List.{Contains}
 use Rattle.std.specs.Option.{option_map}
@@ -25,7 +25,7 @@ use Rattle.of_symbolic_run.specs.declared.frame_set.FrameSet.{FrameSet}
 use Rattle.of_symbolic_run.specs.declared.state.SymbolicState.{SymbolicState}
 use Rattle.of_symbolic_run.specs.declared.state.SymbolicTask.{SymbolicTask}
 use Rattle.of_symbolic_run.specs.FrameSets.{InFrames}
-use Rattle.of_symbolic_run.specs.Later.{IsOneLater}
+use Rattle.of_symbolic_run.specs.NextStates.{IsNextStateIf}
 use Rattle.of_symbolic_run.specs.States.{IsAt, packet_for, work_for}
 
 -- THE CASES of a state for some frames: no case has other frames, each frame is in a case, and the state of a case is one of the run of each of its frames
@@ -81,11 +81,14 @@ abbrev pub IsAtEntry : ℕ → Option (ℕ × Flow) → SymbolicTask → Symboli
 IsAtEntry table None old new = (new.packet ≡ old.packet) × (new.work.items ≡ [])
 IsAtEntry table (Some f) old new = (new.packet ≡ record old.packet { cookie = f.1.cookie; table = table; miss = is_miss f.1 }) × (map work_for new.work.items ≡ works f.1.instructions)
 
--- for the frames whose first packet hits this flow, or none, one state follows the other
+-- where the entry of this number has this flow, or there is none, one state follows the other
 abbrev pub IsEntered : ℕ → Option (ℕ × Flow) → SymbolicState → SymbolicState → Type 0
-IsEntered table found old new =
-    (w : TheWorld) (frame : List ℕ) (port : ℕ) →
-    flow_found w table (w.winner table (first_key old.tasks.items frame port)) ≡ found → IsAt w frame port old → IsAt w frame port new
+IsEntered table found old new = (w : TheWorld) (number : Option ℕ) → flow_found w table number ≡ found → IsNextStateIf w number false old new
+
+-- one of so many entries, or none
+abbrev pub is_listed : ℕ → Option ℕ → Bool
+is_listed most None = true
+is_listed most (Some place) = nat_lt place most
 
 -- a branch of a part, with conditions
 abbrev pub IsBranchOf : Part → Branch → Type 0
@@ -96,7 +99,6 @@ pub record IsCaseOf (table : ℕ) (flows : List FlowEntry) (frames : FrameSet) (
   pub within : (frame : List ℕ) (port : ℕ) → InFrames c.frames frame port → InFrames frames frame port × InPart b.part (received_fields frame port)
   pub all : (frame : List ℕ) (port : ℕ) → InFrames frames frame port → InPart b.part (received_fields frame port) → InFrames c.frames frame port
   pub entered : IsEntered table (flow_named flows b.entry) state c.state
-  pub later : IsOneLater state c.state
 
 -- those of branches, one after the other
 abbrev pub AreCasesOf : ℕ → List FlowEntry → FrameSet → SymbolicState → List Branch → List Case → Type 0

@@ -11,7 +11,7 @@ use Rattle.of_symbolic_run.specs.declared.frame_set.FrameSet.{FrameSet}
 use Rattle.of_symbolic_run.specs.declared.state.SymbolicState.{SymbolicState}
 use Rattle.of_symbolic_run.specs.declared.state.SymbolicTask.{SymbolicTask}
 use Rattle.of_symbolic_run.specs.FrameSets.{AreFramesOrNone, AreFramesThat}
-use Rattle.of_symbolic_run.specs.Later.{IsOneLater}
+use Rattle.of_symbolic_run.specs.NextStates.{IsNextStateIf}
 use Rattle.of_symbolic_run.specs.States.{IsAt}
 use Rattle.of_symbolic_run.specs.TimesToLive.{expires, is_last}
 
@@ -24,11 +24,10 @@ first_ttl (t ∷ rest) frame = ttl_of (layers_of (frame_of_actions t.packet.rewr
 abbrev pub IsLimit : List SymbolicTask → Option ℕ → Type 0
 IsLimit tasks limit = (frame : List ℕ) → IsFrame frame → is_last (first_ttl tasks frame) ≡ expires limit frame
 
--- for the frames for which it expires, or for which it does not, one state follows the other
-abbrev pub IsDecremented : Bool → SymbolicState → SymbolicState → Type 0
-IsDecremented last old new =
-    (w : TheWorld) (frame : List ℕ) (port : ℕ) →
-    IsFrame frame → is_last (first_ttl old.tasks.items frame) ≡ last → IsAt w frame port old → IsAt w frame port new
+-- if it expires, or if it does not, one state follows the other, and so it does for the frames for which that is so
+pub record IsDecremented (last : Bool) (old new : SymbolicState) : Type 0 where
+  pub next : (w : TheWorld) → IsNextStateIf w None last old new
+  pub at : (w : TheWorld) (frame : List ℕ) (port : ℕ) → IsFrame frame → is_last (first_ttl old.tasks.items frame) ≡ last → IsAt w frame port old → IsAt w frame port new
 
 -- one more action rewrote the frame, and the first work is done
 abbrev pub IsOneMoreRewrite : Action → SymbolicTask → SymbolicTask → Type 0
@@ -38,7 +37,6 @@ IsOneMoreRewrite a old new = (new.packet ≡ record old.packet { rewrites = old.
 pub record IsExpiredCase (test : List ℕ → Bool) (frames : FrameSet) (state : SymbolicState) (c : Case) : Type 0 where
   pub frames_are : AreFramesThat test frames c.frames
   pub state_is : IsDecremented true state c.state
-  pub later : IsOneLater state c.state
 
 abbrev pub AddsExpired : (List ℕ → Bool) → FrameSet → SymbolicState → List Case → List Case → Type 0
 AddsExpired test frames state old new =

@@ -4,7 +4,7 @@ pub mod FrameParts
 pub mod FrameSets
 pub mod Groups
 pub mod JointCases
-pub mod Later
+pub mod NextStates
 pub mod PortNumbers
 pub mod Received
 pub mod Rewriting

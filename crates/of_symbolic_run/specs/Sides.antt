@@ -7,7 +7,7 @@ use Rattle.of_symbolic_run.specs.declared.advance.Advance.TheVariants.{Lookup}
 use Rattle.of_symbolic_run.specs.declared.frame_set.FrameSet.{FrameSet}
 use Rattle.of_symbolic_run.specs.declared.state.SymbolicState.{SymbolicState}
 use Rattle.of_symbolic_run.specs.Cases.{AreCases, AsksUnknownOf, IsTableOf}
-use Rattle.of_symbolic_run.specs.Later.{AreOneLater, IsOneLater}
+use Rattle.of_symbolic_run.specs.NextStates.{AreNextStates, IsNextState}
 use Rattle.of_symbolic_run.specs.States.{IsAt, answer_to_tasks}
 use Rattle.of_symbolic_run.specs.declared.side.Side.{Side}
 use Rattle.of_symbolic_run.specs.declared.side.Side.TheVariants.{Advanced, Divided, Unknown}
@@ -19,8 +19,8 @@ pub record IsUnknownLookup (w : TheWorld) (s : SymbolicState) : Type 0 where
   pub lookup : answer_to_tasks s.tasks.items ≡ Lookup table
   pub unknown : (TABLES ≤ table) ⊎ ((flows : List FlowEntry) × IsTableOf w table flows × AsksUnknownOf s.tasks.items flows)
 
--- what becomes of one state for some frames: if there is a packet, the run takes one more step, or it is not known what a lookup finds
+-- what becomes of one state for some frames: if there is a packet, its next state, or its next ones, or it is not known what a lookup finds
 abbrev pub SideIs : TheWorld → FrameSet → SymbolicState → SymbolicState → Side → Type 0
-SideIs w frames old new Advanced = ((frame : List ℕ) (port : ℕ) → IsAt w frame port old → IsAt w frame port new) × (0 < length old.tasks.items → IsOneLater old new)
-SideIs w frames old new (Divided cases) = AreCases w frames old cases.items × AreOneLater old cases.items
+SideIs w frames old new Advanced = ((frame : List ℕ) (port : ℕ) → IsAt w frame port old → IsAt w frame port new) × (0 < length old.tasks.items → IsNextState w old new)
+SideIs w frames old new (Divided cases) = AreCases w frames old cases.items × AreNextStates w old cases.items
 SideIs w frames old new Unknown = IsUnknownLookup w old

@@ -5,7 +5,7 @@ ghost use Rattle.of_machine.specs.TheWorld.{TheWorld};
 ghost use Rattle.of_symbolic_run.specs.declared.advance.Advance.TheVariants.{DecNwTtl};
 ghost use Rattle.of_symbolic_run.specs.Cases.{AreCases};
 ghost use Rattle.of_symbolic_run.specs.Decrementing.{AddsExpired, IsDecremented, IsLimit, IsOneMoreRewrite};
-ghost use Rattle.of_symbolic_run.specs.Later.{AreOneLater, IsOneLater};
+ghost use Rattle.of_symbolic_run.specs.NextStates.{AreNextStates};
 ghost use Rattle.of_symbolic_run.specs.States.{answer_to_tasks};
 ghost use Rattle.of_symbolic_run.specs.TimesToLive.{expires};
 
@@ -45,8 +45,7 @@ impl<'a> SymbolicState<'a> {
     // It expired: a packet to the controller, and the packet has no work left (OpenFlow 1.3.5, 5.12).
     fn expired(&self, alloc: Global) -> Result<SymbolicState<'a>, AllocError>
         requires { answer_to_tasks self.now.tasks.items ≡ DecNwTtl }
-        ensures follows { IfOk result (IsDecremented true self.now) }
-        ensures later { IfOk result (IsOneLater self.now) }
+        ensures { IfOk result (IsDecremented true self.now) }
     {
         let mut state = self.copy(alloc)?;
         let packet = state.tasks[0].packet.copy()?;
@@ -59,8 +58,7 @@ impl<'a> SymbolicState<'a> {
     // It did not expire.
     fn decremented(&self, alloc: Global) -> Result<SymbolicState<'a>, AllocError>
         requires { answer_to_tasks self.now.tasks.items ≡ DecNwTtl }
-        ensures follows { IfOk result (IsDecremented false self.now) }
-        ensures later { IfOk result (IsOneLater self.now) }
+        ensures { IfOk result (IsDecremented false self.now) }
     {
         let mut state = self.copy(alloc)?;
         state.tasks[0].decrement()?;
@@ -98,7 +96,7 @@ pub fn divide_by_ttl<'a>(
 ) -> Result<Vec<Case<'a>>, AllocError>
     requires first { answer_to_tasks state.now.tasks.items ≡ DecNwTtl }
     ensures cases { IfOk result (λ cases. (w : TheWorld) → AreCases w frames.now state.now cases.items) }
-    ensures later { IfOk result (λ cases. AreOneLater state.now cases.items) }
+    ensures next { IfOk result (λ cases. (w : TheWorld) → AreNextStates w state.now cases.items) }
 {
     let limit = state.ttl_limit();
     let mut cases = Vec::new(alloc);

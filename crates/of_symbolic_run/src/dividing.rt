@@ -1,13 +1,13 @@
 //! What a lookup makes of a state.
-ghost use Rattle.std.specs.Prelude.{◌≡◌, map, IfOk, IfSome, IfNone};
+ghost use Rattle.std.specs.Prelude.{◌≡◌, filter, map, IfOk, IfSome, IfNone};
 ghost use Rattle.std.specs.List.{Contains};
 ghost use Rattle.of_machine.specs.TheWorld.{TheWorld};
 ghost use Rattle.of_table.specs.Entries.{flows_of};
 ghost use Rattle.of_symbolic.specs.Branches.{flows_listed};
 ghost use Rattle.of_symbolic.specs.declared.branching.Branch.{Branch as ABranch};
 ghost use Rattle.of_symbolic_run.specs.declared.advance.Advance.TheVariants.{Lookup};
-ghost use Rattle.of_symbolic_run.specs.Cases.{AreCases, AreCasesOf, AsksUnknownOf, IsBranchOf, IsCaseOf, IsTableOf, flow_named, found_flow};
-ghost use Rattle.of_symbolic_run.specs.Later.{AreOneLater};
+ghost use Rattle.of_symbolic_run.specs.Cases.{AreCases, AreCasesOf, AsksUnknownOf, IsBranchOf, IsCaseOf, IsTableOf, flow_named, found_flow, is_listed};
+ghost use Rattle.of_symbolic_run.specs.NextStates.{AreNextStates};
 ghost use Rattle.of_symbolic_run.specs.States.{answer_to_tasks};
 
 use crate::frame_set::FrameSet;
@@ -43,6 +43,22 @@ pub fn entry_named<'a>(listed: &[&'a Entry], place: Option<usize>) -> Option<(us
         Some(place) if place < listed.len() => Some((place, listed[place])),
         Some(_) => None,
     }
+}
+
+fn is_inside(entry: Option<usize>, most: usize) -> bool
+    ensures { result ≡ is_listed most entry }
+{
+    match entry {
+        None => true,
+        Some(place) => place < most,
+    }
+}
+
+/// Keeps the branches of a list of so many entries, and that of a miss: no packet hits another entry.
+pub fn keep_listed(branches: &mut Vec<Branch>, most: usize)
+    ensures { branches.new.items ≡ filter (λ b. is_listed most b.entry) branches.old.items }
+{
+    branches.retain(|branch| is_inside(branch.entry, most));
 }
 
 // The case of a branch.
@@ -98,7 +114,8 @@ fn cases_by_entry<'a>(
     requires first { answer_to_tasks state.now.tasks.items ≡ Lookup table }
     ensures some { IfOk result (λ found. IfSome found (λ cases. (w : TheWorld) → IsTableOf w table (flows_of entries.entry) →
         AreCases w frames.now state.now cases.items)) }
-    ensures later { IfOk result (λ found. IfSome found (λ cases. AreOneLater state.now cases.items)) }
+    ensures next { IfOk result (λ found. IfSome found (λ cases. (w : TheWorld) → IsTableOf w table (flows_of entries.entry) →
+        AreNextStates w state.now cases.items)) }
     ensures none { IfOk result (λ found. IfNone found (AsksUnknownOf state.now.tasks.items (flows_of entries.entry))) }
 {
     let listed = listed_entries(alloc, entries)?;
@@ -107,7 +124,8 @@ fn cases_by_entry<'a>(
     let overlay = packet.rewrites.overlay(alloc)?;
     match branches(alloc, &listed, &overlay, packet.metadata, &frames.part)? {
         None => Ok(None),
-        Some(branches) => {
+        Some(mut branches) => {
+            keep_listed(&mut branches, listed.len());
             let cases = cases_of(alloc, &listed, state, frames, table, branches)?;
             Ok(Some(cases))
         }
@@ -127,7 +145,8 @@ pub fn look_up<'a>(
     requires first { answer_to_tasks state.now.tasks.items ≡ Lookup table }
     ensures some { IfOk result (λ found. IfSome found (λ cases. (w : TheWorld) → IsTableOf w table (flows_of entries.entry) →
         AreCases w frames.now state.now cases.items)) }
-    ensures later { IfOk result (λ found. IfSome found (λ cases. AreOneLater state.now cases.items)) }
+    ensures next { IfOk result (λ found. IfSome found (λ cases. (w : TheWorld) → IsTableOf w table (flows_of entries.entry) →
+        AreNextStates w state.now cases.items)) }
     ensures none { IfOk result (λ found. IfNone found (AsksUnknownOf state.now.tasks.items (flows_of entries.entry))) }
 {
     let found = cases_by_entry(alloc, entries, state, frames, table)?;

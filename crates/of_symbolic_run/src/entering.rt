@@ -4,7 +4,6 @@ ghost use Rattle.of_actions.specs.InstructionLists.{are_kept};
 ghost use Rattle.of_machine.specs.Rows.{works};
 ghost use Rattle.of_symbolic_run.specs.declared.advance.Advance.TheVariants.{Lookup};
 ghost use Rattle.of_symbolic_run.specs.Cases.{IsAtEntry, IsEntered, found_flow, goes_to_table, lookup_line};
-ghost use Rattle.of_symbolic_run.specs.Later.{IsOneLater};
 ghost use Rattle.of_symbolic_run.specs.States.{answer_to_tasks, work_for};
 
 use crate::served::ServedInstruction;
@@ -93,8 +92,7 @@ impl<'a> SymbolicState<'a> {
         found: Option<(usize, &'a Entry)>,
     ) -> Result<SymbolicState<'a>, AllocError>
         requires { answer_to_tasks self.now.tasks.items ≡ Lookup table }
-        ensures entered { IfOk result (IsEntered table (found_flow found.entry) self.now) }
-        ensures later { IfOk result (IsOneLater self.now) }
+        ensures { IfOk result (IsEntered table (found_flow found.entry) self.now) }
     {
         let mut state = self.copy(alloc)?;
         state.tasks[0].enter(alloc, table, found)?;

@@ -5,8 +5,8 @@ ghost use Rattle.of_datapath.specs.Numbers.{forwarding_of};
 ghost use Rattle.of_machine.specs.Sound.{AllBuckets};
 ghost use Rattle.of_symbolic_run.specs.declared.advance.Advance.TheVariants.{Group as WantsGroup};
 ghost use Rattle.of_symbolic_run.specs.Groups.{AreServedLists, lists_of};
-ghost use Rattle.of_symbolic_run.specs.Later.{IsOneLater};
-ghost use Rattle.of_symbolic_run.specs.States.{IsAt, answer_to_tasks};
+ghost use Rattle.of_symbolic_run.specs.NextStates.{IsNextState};
+ghost use Rattle.of_symbolic_run.specs.States.{answer_to_tasks};
 
 use crate::{SymbolicState, run_group};
 use of_actions::Action;
@@ -41,9 +41,7 @@ pub fn step_group<'a, L: Lookup>(
     group: u32,
 ) -> Result<(), AllocError>
     requires { answer_to_tasks state.now.tasks.items ≡ WantsGroup group }
-    ensures at { OnOk result ((frame : List ℕ) (port : ℕ) →
-        IsAt (world_of (forwarding_of datapath.now)) frame port state.old → IsAt (world_of (forwarding_of datapath.now)) frame port state.new) }
-    ensures later { OnOk result (IsOneLater state.old state.new) }
+    ensures { OnOk result (IsNextState (world_of (forwarding_of datapath.now)) state.old state.new) }
 {
     datapath.known_world();
     match datapath.buckets_for(group) {

@@ -1,12 +1,12 @@
 //! What a GROUP makes of a state.
-ghost use Rattle.std.specs.Prelude.{◌≡◌, ℕ, List, IfOk, IfSome, IsTrue, OnOk, false};
+ghost use Rattle.std.specs.Prelude.{◌≡◌, List, IfOk, IfSome, IsTrue, OnOk, false};
 ghost use Rattle.std.specs.List.{list_all};
 ghost use Rattle.of_actions.specs.Supported.{is_supported};
 ghost use Rattle.of_machine.specs.TheWorld.{TheWorld};
 ghost use Rattle.of_symbolic_run.specs.declared.advance.Advance.TheVariants.{Group};
 ghost use Rattle.of_symbolic_run.specs.Groups.{AreBucketTasks, AreGroupTasks, AreServedLists, IsBucketTask, IsGroupOf, bucket_lists, lists_of};
-ghost use Rattle.of_symbolic_run.specs.Later.{IsOneLater};
-ghost use Rattle.of_symbolic_run.specs.States.{IsAt, answer_to_tasks};
+ghost use Rattle.of_symbolic_run.specs.NextStates.{IsNextState};
+ghost use Rattle.of_symbolic_run.specs.States.{answer_to_tasks};
 
 use crate::state::{SymbolicPacket, SymbolicState, SymbolicTask, Work};
 use crate::written::Written;
@@ -74,9 +74,7 @@ pub fn run_group(
 ) -> Result<(), AllocError>
     requires first { answer_to_tasks state.now.tasks.items ≡ Group group }
     requires served { IfSome (bucket_lists buckets) AreServedLists }
-    ensures at { OnOk result ((w : TheWorld) (frame : List ℕ) (port : ℕ) → IsGroupOf w group (bucket_lists buckets.entry) →
-        IsAt w frame port state.old → IsAt w frame port state.new) }
-    ensures later { OnOk result (IsOneLater state.old state.new) }
+    ensures { OnOk result ((w : TheWorld) → IsGroupOf w group (bucket_lists buckets.entry) → IsNextState w state.old state.new) }
 {
     state.steps.push(Step::Act(Action::Group(group)))?;
     let mut first = state.tasks.remove(0);

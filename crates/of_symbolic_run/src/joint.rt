@@ -8,10 +8,10 @@ ghost use Rattle.of_symbolic.specs.declared.branching.Branch.{Branch as ABranch}
 ghost use Rattle.of_symbolic_run.specs.declared.advance.Advance.TheVariants.{Lookup};
 ghost use Rattle.of_symbolic_run.specs.Cases.{AreCases, AreCasesOf, AsksUnknownOf, IsBranchOf, IsCaseOf, IsTableOf};
 ghost use Rattle.of_symbolic_run.specs.JointCases.{first_case, first_cases, second_case, second_cases};
-ghost use Rattle.of_symbolic_run.specs.Later.{AreOneLater};
+ghost use Rattle.of_symbolic_run.specs.NextStates.{AreNextStates};
 ghost use Rattle.of_symbolic_run.specs.States.{AreTaskCopies, answer_to_tasks};
 
-use crate::dividing::{entry_named, listed_entries};
+use crate::dividing::{entry_named, keep_listed, listed_entries};
 use crate::frame_set::FrameSet;
 use crate::state::SymbolicState;
 use of_symbolic::{Branch, branches};
@@ -97,8 +97,10 @@ pub fn look_up_both<'a>(
         AreCases w frames.now first.now (first_cases cases.items))) }
     ensures second { IfOk result (λ found. IfSome found (λ cases. (w : TheWorld) → IsTableOf w table (flows_of entries.entry) →
         AreCases w frames.now second.now (second_cases cases.items))) }
-    ensures later_first { IfOk result (λ found. IfSome found (λ cases. AreOneLater first.now (first_cases cases.items))) }
-    ensures later_second { IfOk result (λ found. IfSome found (λ cases. AreOneLater second.now (second_cases cases.items))) }
+    ensures next_first { IfOk result (λ found. IfSome found (λ cases. (w : TheWorld) → IsTableOf w table (flows_of entries.entry) →
+        AreNextStates w first.now (first_cases cases.items))) }
+    ensures next_second { IfOk result (λ found. IfSome found (λ cases. (w : TheWorld) → IsTableOf w table (flows_of entries.entry) →
+        AreNextStates w second.now (second_cases cases.items))) }
     ensures none { IfOk result (λ found. IfNone found (AsksUnknownOf first.now.tasks.items (flows_of entries.entry))) }
 {
     let listed = listed_entries(alloc, entries)?;
@@ -107,7 +109,8 @@ pub fn look_up_both<'a>(
     let overlay = packet.rewrites.overlay(alloc)?;
     match branches(alloc, &listed, &overlay, packet.metadata, &frames.part)? {
         None => Ok(None),
-        Some(branches) => {
+        Some(mut branches) => {
+            keep_listed(&mut branches, listed.len());
             let cases = joint_cases_of(alloc, &listed, first, second, frames, table, branches)?;
             Ok(Some(cases))
         }

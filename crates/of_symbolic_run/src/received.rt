@@ -1,6 +1,7 @@
 //! The first state of a run.
-ghost use Rattle.std.specs.Prelude.{◌≡◌, ℕ, List, [], IfOk};
+ghost use Rattle.std.specs.Prelude.{ℕ, List, IfOk};
 ghost use Rattle.of_machine.specs.TheWorld.{TheWorld};
+ghost use Rattle.of_symbolic_run.specs.NextStates.{IsFirstState};
 ghost use Rattle.of_symbolic_run.specs.States.{IsAt};
 
 use crate::rewrites::Rewrites;
@@ -11,7 +12,7 @@ use std::alloc::{AllocError, Global};
 /// The state of a frame that was received, before its first lookup (OpenFlow 1.3.5, 5.1).
 pub fn received_state<'a>(alloc: Global) -> Result<SymbolicState<'a>, AllocError>
     ensures at { IfOk result (λ s. (w : TheWorld) (frame : List ℕ) (port : ℕ) → IsAt w frame port s) }
-    ensures steps { IfOk result (λ s. s.steps.items ≡ []) }
+    ensures first { IfOk result IsFirstState }
 {
     let packet = SymbolicPacket {
         rewrites: Rewrites::none(alloc),

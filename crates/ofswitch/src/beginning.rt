@@ -1,9 +1,9 @@
 //! The groups and flows with which a switch begins.
-use crate::files::{Contents, FileRead, NoFile, read_contents};
+use crate::files::{NoFile, read_file_contents};
 use crate::lookups::Lookups;
 use of_command_line::FileKind;
 use of_explain::push_message;
-use of_files::first_events;
+use of_files::{Contents, first_events};
 use of_replay::Ended;
 use of_sockets::Teller;
 use of_switch::{Effect, Event, Report, Seed, Switch};
@@ -12,9 +12,9 @@ use std::alloc::{AllocError, Global};
 /// The type of an ERROR (OpenFlow 1.3.5, 7.1).
 const ERROR: u8 = 1;
 
-fn events_of(alloc: Global, contents: &Contents) -> Result<Vec<Event>, AllocError> {
+fn events_of(alloc: Global, contents: &Contents<Lookups>) -> Result<Vec<Event>, AllocError> {
     match contents {
-        Contents::Tables { tables, .. } => first_events(alloc, &tables.config),
+        Contents::Tables(tables) => first_events(alloc, &tables.config),
         Contents::Events(switch) => first_events(alloc, &switch.config()?),
     }
 }
@@ -25,8 +25,8 @@ pub fn events_of_tables(rt: &HostRuntime, tables: Option<&str>) -> Result<Vec<Ev
     let Some(path) = tables else {
         return Ok(Vec::new(rt.alloc()));
     };
-    let FileRead { contents, .. } = read_contents(rt, path, FileKind::Guessed, None, false)?;
-    match events_of(rt.alloc(), &contents) {
+    let read = read_file_contents(rt, path, FileKind::Guessed, None, false)?;
+    match events_of(rt.alloc(), &read.contents) {
         Ok(events) => Ok(events),
         Err(_) => Err(NoFile::ended(rt.alloc(), Ended::NoMemory)),
     }

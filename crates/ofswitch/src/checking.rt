@@ -1,11 +1,9 @@
 //! Reports of `check`.
-use crate::files::{
-    Contents, FileRead, NoFile, PortList, Unread, port_list, push_named, read_contents, say_missing,
-};
+use crate::files::{FileRead, NoFile, Unread, read_file_contents, say_missing};
 use crate::lookups::Lookups;
 use crate::requiring::{Required, decide_all, missing_on, push_required, read_required};
 use of_command_line::{Check, CheckOutput};
-use of_files::FileTables;
+use of_files::{Contents, FileTables, PortList, port_list, push_named};
 use of_replay::streams::WriterSink;
 use of_replay::{Ended, switch_of_config, write_all};
 use of_report::{Form, write_report};
@@ -132,11 +130,11 @@ fn switch_reported(
 fn named_list(
     alloc: Global,
     asked: &Check,
-    contents: &Contents,
+    contents: &Contents<Lookups>,
     lines: &[Line],
 ) -> Result<PortList, AllocError> {
     let mut named = Vec::new(alloc);
-    push_named(&mut named, contents)?;
+    push_named(alloc, &mut named, contents)?;
     push_required(&mut named, lines)?;
     port_list(alloc, &asked.of.ports, &named)
 }
@@ -149,7 +147,7 @@ fn contents_reported(
 ) -> Result<CheckVerdict, NoFile> {
     let alloc = rt.alloc();
     match &read.contents {
-        Contents::Tables { tables, .. } => {
+        Contents::Tables(tables) => {
             if asked.output != CheckOutput::Json {
                 if let Err(ended) = print_part(rt, &read.bytes) {
                     return Err(NoFile::ended(alloc, ended));
@@ -182,7 +180,7 @@ fn file_reported(
     asked: &Check,
     lines: Vec<Line>,
 ) -> Result<CheckVerdict, NoFile> {
-    let read = read_contents(rt, asked.of.path.as_str(), asked.of.kind, None, false)?;
+    let read = read_file_contents(rt, asked.of.path.as_str(), asked.of.kind, None, false)?;
     contents_reported(rt, asked, &read, lines)
 }
 

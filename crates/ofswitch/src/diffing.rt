@@ -1,80 +1,28 @@
 //! Differences of two switches.
-use crate::files::{
-    Contents, FileRead, NoFile, PortList, Unread, port_list, push_named, read_contents,
-};
+use crate::files::{FileRead, NoFile, Unread, read_file_contents};
 use crate::lookups::Lookups;
 use of_alike::Compared;
 use of_command_line::{Diff, FileKind};
 use of_diff_report::{DiffForm, DiffSide, DiffVerdict, FileFlows, write_differences};
-use of_files::FileTables;
+use of_files::{Contents, FileSwitch, both_ports, file_switch};
+use of_replay::Ended;
 use of_replay::streams::WriterSink;
-use of_replay::{Ended, switch_of_config};
-use of_switch::Switch;
-use std::alloc::{AllocError, Global};
 
 // What a file is read as. The name of one that is at fault comes before what is wrong with it.
-fn contents_of<'a>(rt: &HostRuntime, path: &'a str) -> Result<Contents, Unread<'a>> {
-    match read_contents(rt, path, FileKind::Guessed, None, true) {
+fn contents_of<'a>(rt: &HostRuntime, path: &'a str) -> Result<Contents<Lookups>, Unread<'a>> {
+    match read_file_contents(rt, path, FileKind::Guessed, None, true) {
         Ok(FileRead { contents, .. }) => Ok(contents),
         Err(why) => Err(Unread { path, why }),
     }
 }
 
-// A switch, and its flow entries.
-#[derive(Drop)]
-struct FileSwitch {
-    switch: Switch<Lookups>,
-    tables: FileTables,
-}
-
-fn side_of(of: &FileSwitch) -> DiffSide<'_, Lookups> {
+fn side_of(of: &FileSwitch<Lookups>) -> DiffSide<'_, Lookups> {
     DiffSide {
         flows: FileFlows {
             config: &of.tables.config,
             origins: &of.tables.origins,
         },
         switch: &of.switch,
-    }
-}
-
-// The ports that the switch of an event file has.
-fn own_ports(alloc: Global, contents: &Contents) -> Result<Option<Vec<u32>>, AllocError> {
-    match contents {
-        Contents::Tables { .. } => Ok(None),
-        Contents::Events(_) => {
-            let mut ports = Vec::new(alloc);
-            push_named(&mut ports, contents)?;
-            Ok(Some(ports))
-        }
-    }
-}
-
-// The ports of the switches of files that have none: those that are given, those of the other switch if it is that of an event file, or those
-// that both files name.
-fn ports_between(
-    alloc: Global,
-    given: &Option<Vec<u32>>,
-    first: &Contents,
-    second: &Contents,
-) -> Result<PortList, AllocError> {
-    let mut named = Vec::new(alloc);
-    push_named(&mut named, first)?;
-    push_named(&mut named, second)?;
-    if given.is_some() {
-        return port_list(alloc, given, &named);
-    }
-    let own = match own_ports(alloc, first)? {
-        Some(ports) => Some(ports),
-        None => own_ports(alloc, second)?,
-    };
-    port_list(alloc, &own, &named)
-}
-
-// Whether the switch is one after a run, with ports of its own.
-fn is_run(contents: &Contents) -> bool {
-    match contents {
-        Contents::Tables { .. } => false,
-        Contents::Events(_) => true,
     }
 }
 
@@ -94,33 +42,12 @@ fn compared_of(frames: bool) -> Compared {
     }
 }
 
-// The switch of a file, with its flow entries.
-fn described(
-    rt: &HostRuntime,
-    contents: Contents,
-    ports: &[u32],
-) -> Result<FileSwitch, AllocError> {
-    match contents {
-        Contents::Tables { tables, .. } => Ok(FileSwitch {
-            switch: switch_of_config(rt.alloc(), &tables.config, ports)?,
-            tables,
-        }),
-        Contents::Events(switch) => Ok(FileSwitch {
-            tables: FileTables {
-                config: switch.config()?,
-                origins: Vec::new(rt.alloc()),
-            },
-            switch,
-        }),
-    }
-}
-
 // What is found between two switches.
 fn found_between(
     rt: &HostRuntime,
     asked: &Diff,
-    first: &FileSwitch,
-    second: &FileSwitch,
+    first: &FileSwitch<Lookups>,
+    second: &FileSwitch<Lookups>,
     missing: &[u32],
 ) -> Result<DiffVerdict, Ended> {
     let mut writer = WriterSink::new(rt.stdout());
@@ -140,19 +67,16 @@ fn found_between(
 fn found_in_files(
     rt: &HostRuntime,
     asked: &Diff,
-    first: Contents,
-    second: Contents,
+    first: Contents<Lookups>,
+    second: Contents<Lookups>,
 ) -> Result<DiffVerdict, Ended> {
     let alloc = rt.alloc();
-    let Ok(mut list) = ports_between(alloc, &asked.ports, &first, &second) else {
+    let Ok(list) = both_ports(alloc, &asked.ports, &first, &second) else {
         return Err(Ended::NoMemory);
     };
-    if is_run(&first) && is_run(&second) {
-        list.missing.clear();
-    }
     let (Ok(first), Ok(second)) = (
-        described(rt, first, &list.ports),
-        described(rt, second, &list.ports),
+        file_switch(alloc, first, &list.ports),
+        file_switch(alloc, second, &list.ports),
     ) else {
         return Err(Ended::NoMemory);
     };

@@ -4,27 +4,18 @@ use crate::hinting::Seen;
 use crate::importing::{NotImported, say_no_import};
 use crate::lookups::Lookups;
 use of_command_line::{FileKind, SwitchFile};
-use of_files::{
-    Content, FileTables, content_of, missing_ports, named_ports, play_file, ports_for, read_table,
-    read_text,
-};
-use of_import::Mode;
+use of_files::{Content, Contents, Described, NoContents, describe, read_contents};
+use of_import::ImportError;
 use of_ports::find_port;
 use of_replay::streams::ReaderSource;
-use of_replay::{Ended, READ_SIZE, ended_by, read_file, switch_of_config, zeros};
+use of_replay::{Ended, READ_SIZE, ended_by, read_file, zeros};
 use of_sockets::StandardInput;
 use of_switch::Switch;
 use of_text::cut;
 use of_wire::front_of;
-use std::alloc::{AllocError, Global};
+use std::alloc::Global;
 use std::fs::File;
 use std::io::{self, Read};
-
-/// A file of ovs-ofctl is read without leaving anything out.
-const WHOLE: Mode = Mode {
-    skip: false,
-    renumber: false,
-};
 
 /// A file that is open, or standard input.
 #[derive(Drop)]
@@ -117,28 +108,20 @@ pub fn bytes_of(rt: &HostRuntime, path: &str) -> Result<Vec<u8>, NoFile> {
     }
 }
 
-/// What a file is read as.
-#[derive(Drop)]
-pub enum Contents {
-    /// Groups and flows, and the ports that these name.
-    Tables { tables: FileTables, named: Vec<u32> },
-    /// The switch after the rows of an event file.
-    Events(Switch<Lookups>),
-}
-
 /// A file that was read, for what is still to be said about its lines.
 #[derive(Drop)]
 pub struct FileRead {
     pub bytes: Vec<u8>,
-    pub contents: Contents,
+    pub contents: Contents<Lookups>,
 }
 
-fn content_as(kind: FileKind, bytes: &[u8]) -> Content {
+// What a file is said to be.
+fn content_said(kind: FileKind) -> Option<Content> {
     match kind {
-        FileKind::Guessed => content_of(bytes),
-        FileKind::Flows => Content::FlowText,
-        FileKind::Events => Content::EventFile,
-        FileKind::Ovs => Content::OvsTable,
+        FileKind::Guessed => None,
+        FileKind::Flows => Some(Content::FlowText),
+        FileKind::Events => Some(Content::EventFile),
+        FileKind::Ovs => Some(Content::OvsTable),
     }
 }
 
@@ -151,43 +134,13 @@ fn say_guess(rt: &HostRuntime, kind: FileKind) {
     }
 }
 
-fn with_named(alloc: Global, tables: FileTables) -> Result<Contents, Ended> {
-    match named_ports(alloc, &tables.config) {
-        Ok(named) => Ok(Contents::Tables { tables, named }),
-        Err(_) => Err(Ended::NoMemory),
-    }
-}
-
-fn contents_of_text(rt: &HostRuntime, bytes: &[u8]) -> Result<Contents, Ended> {
-    with_named(rt.alloc(), read_text(rt.alloc(), bytes)?)
-}
-
-fn contents_of_events(
-    rt: &HostRuntime,
-    bytes: &[u8],
-    lines: Option<u64>,
-) -> Result<Contents, Ended> {
-    Ok(Contents::Events(play_file(rt.alloc(), bytes, lines)?))
-}
-
-// What ovs-ofctl prints; if it is none, standard error has said why.
-fn contents_of_table(
-    rt: &HostRuntime,
-    path: &str,
-    kind: FileKind,
-    named: bool,
-    bytes: &[u8],
-) -> Result<Result<Contents, Ended>, NoFile> {
-    let error = match read_table(rt.alloc(), bytes, WHOLE) {
-        Ok(tables) => return Ok(with_named(rt.alloc(), tables)),
-        Err(error) => error,
-    };
-    say_name(rt, path, named);
-    match say_no_import(rt, bytes, &error) {
-        NotImported::Ended(ended) => Err(NoFile::ended(rt.alloc(), ended)),
+// What ovs-ofctl prints was refused: standard error says why, if memory suffices.
+fn refused_table(rt: &HostRuntime, kind: FileKind, bytes: &[u8], error: &ImportError) -> NoFile {
+    match say_no_import(rt, bytes, error) {
+        NotImported::Ended(ended) => NoFile::ended(rt.alloc(), ended),
         NotImported::Faults => {
             say_guess(rt, kind);
-            Err(NoFile::Faults(import_fault(rt.alloc(), &error).unwrap_or(None)))
+            NoFile::Faults(import_fault(rt.alloc(), error).unwrap_or(None))
         }
     }
 }
@@ -199,25 +152,9 @@ fn say_name(rt: &HostRuntime, path: &str, named: bool) {
     }
 }
 
-// What bytes are read as, of an event file those of so many first lines.
-fn contents_in(
-    rt: &HostRuntime,
-    path: &str,
-    kind: FileKind,
-    lines: Option<u64>,
-    named: bool,
-    bytes: &[u8],
-) -> Result<Result<Contents, Ended>, NoFile> {
-    match content_as(kind, bytes) {
-        Content::FlowText => Ok(contents_of_text(rt, bytes)),
-        Content::EventFile => Ok(contents_of_events(rt, bytes, lines)),
-        Content::OvsTable => contents_of_table(rt, path, kind, named, bytes),
-    }
-}
-
 /// What a file is read as that an option or its content says; of an event file only so many first lines, if they are given. If it is `named`,
 /// standard error has its name before what is wrong with it.
-pub fn read_contents(
+pub fn read_file_contents(
     rt: &HostRuntime,
     path: &str,
     kind: FileKind,
@@ -231,86 +168,20 @@ pub fn read_contents(
             return Err(why);
         }
     };
-    match contents_in(rt, path, kind, lines, named, &bytes)? {
+    match read_contents(rt.alloc(), &bytes, content_said(kind), lines) {
         Ok(contents) => Ok(FileRead { bytes, contents }),
-        Err(ended) => {
+        Err(NoContents::Ended(ended)) => {
             say_name(rt, path, named);
             Err(NoFile::Ended {
                 seen: Seen::whole(bytes),
                 ended,
             })
         }
-    }
-}
-
-/// The ports that a file names: those of its groups and flows, or those that the switch of an event file has.
-pub fn push_named(ports: &mut Vec<u32>, contents: &Contents) -> Result<(), AllocError> {
-    match contents {
-        Contents::Tables { named, .. } => ports.extend_from_slice(named),
-        Contents::Events(switch) => {
-            for port in switch.datapath().ports.as_slice() {
-                ports.push(port.number)?;
-            }
-            Ok(())
+        Err(NoContents::NotImported(error)) => {
+            say_name(rt, path, named);
+            Err(refused_table(rt, kind, &bytes, &error))
         }
     }
-}
-
-/// The ports of a switch, and those that are named and that it does not have.
-#[derive(Drop)]
-pub struct PortList {
-    pub ports: Vec<u32>,
-    pub missing: Vec<u32>,
-}
-
-/// The ports that are given; else ports 1 to 4 and those that are named.
-pub fn port_list(
-    alloc: Global,
-    given: &Option<Vec<u32>>,
-    named: &[u32],
-) -> Result<PortList, AllocError> {
-    let ports = match given {
-        Some(ports) => ports.to_vec(alloc)?,
-        None => ports_for(alloc, named)?,
-    };
-    let missing = missing_ports(alloc, named, &ports)?;
-    Ok(PortList { ports, missing })
-}
-
-/// The switch of what was read: with these ports, unless an event file says its own.
-pub fn switch_of(
-    rt: &HostRuntime,
-    contents: Contents,
-    ports: &[u32],
-) -> Result<Switch<Lookups>, AllocError> {
-    match contents {
-        Contents::Tables { tables, .. } => switch_of_config(rt.alloc(), &tables.config, ports),
-        Contents::Events(switch) => Ok(switch),
-    }
-}
-
-/// A switch, and the ports that its file names and that it does not have.
-#[derive(Drop)]
-pub struct Described {
-    pub switch: Switch<Lookups>,
-    pub missing: Vec<u32>,
-}
-
-// The switch of one file.
-fn describe(
-    rt: &HostRuntime,
-    contents: Contents,
-    given: &Option<Vec<u32>>,
-) -> Result<Described, AllocError> {
-    let mut named = Vec::new(rt.alloc());
-    push_named(&mut named, &contents)?;
-    let PortList { ports, missing } = port_list(rt.alloc(), given, &named)?;
-    let missing = match &contents {
-        Contents::Tables { .. } => missing,
-        Contents::Events(_) => Vec::new(rt.alloc()),
-    };
-    let switch = switch_of(rt, contents, &ports)?;
-    Ok(Described { switch, missing })
 }
 
 /// The switch of a file; of an event file after so many first lines, if they are given.
@@ -319,9 +190,9 @@ pub fn read_switch(
     of: &SwitchFile,
     lines: Option<u64>,
     named: bool,
-) -> Result<Described, NoFile> {
-    let FileRead { contents, .. } = read_contents(rt, of.path.as_str(), of.kind, lines, named)?;
-    match describe(rt, contents, &of.ports) {
+) -> Result<Described<Lookups>, NoFile> {
+    let read = read_file_contents(rt, of.path.as_str(), of.kind, lines, named)?;
+    match describe(rt.alloc(), read.contents, &of.ports) {
         Ok(described) => Ok(described),
         Err(_) => Err(NoFile::ended(rt.alloc(), Ended::NoMemory)),
     }

@@ -1,10 +1,11 @@
 //! Paths of the frames of a switch.
-use crate::files::{Described, NoFile, has_port, read_switch, say_missing};
+use crate::files::{NoFile, has_port, read_switch, say_missing};
 use crate::lookups::Lookups;
 use of_command_line::{Leading, PathsAsked};
-use of_frame_words::NoFrame;
+use of_files::Described;
+use of_frame_words::{NoFrame, read_conditions};
 use of_paths::Merging;
-use of_paths_report::{Destination, PathsForm, PathsVerdict, asked_conditions, write_paths};
+use of_paths_report::{Asked, Destination, PathsForm, PathsVerdict, write_paths};
 use of_replay::Ended;
 use of_replay::streams::WriterSink;
 use of_switch::Switch;
@@ -84,9 +85,9 @@ fn unfinished(rt: &HostRuntime, ended: Ended) -> NoPaths {
 fn paths_within(
     rt: &HostRuntime,
     asked: &PathsAsked,
-    described: &Described,
+    described: &Described<Lookups>,
 ) -> Result<PathsVerdict, NoPaths> {
-    let within = match asked_conditions(rt.alloc(), asked.port, asked.within.as_bytes()) {
+    let within = match read_conditions(rt.alloc(), asked.within.as_bytes()) {
         Ok(within) => within,
         Err(why) => return Err(without_match(rt, &why)),
     };
@@ -94,19 +95,19 @@ fn paths_within(
         Ok(missing) => missing,
         Err(ended) => return Err(unfinished(rt, ended)),
     };
-    let (alloc, to, steps) = (rt.alloc(), asked_place(asked.to), asked.steps as usize);
-    let (merging, form) = (merging_of(asked.each), form_of(asked.json));
-    let mut out = WriterSink::new(rt.stdout());
-    match write_paths(
-        alloc,
-        &described.switch,
-        &within,
-        merging,
-        to,
-        steps,
-        form,
-        &mut out,
-    ) {
+    let of_frames = Asked {
+        port: asked.port,
+        within,
+        merging: merging_of(asked.each),
+        to: asked_place(asked.to),
+        steps: asked.steps as usize,
+    };
+    let (alloc, form, mut out) = (
+        rt.alloc(),
+        form_of(asked.json),
+        WriterSink::new(rt.stdout()),
+    );
+    match write_paths(alloc, &described.switch, &of_frames, form, &mut out) {
         Ok(PathsVerdict::Complete) if missing => Ok(PathsVerdict::Undecided),
         Ok(verdict) => Ok(verdict),
         Err(ended) => Err(unfinished(rt, ended)),

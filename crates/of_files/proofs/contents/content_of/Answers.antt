@@ -1,7 +1,7 @@
-use Rattle.std.proofs.Common.{◌≡◌, ℕ, true, false, List, sym, ap, ◌∙◌, arith}
-use Rattle.of_text.specs.Lines.{lines_of, before, is_passed}
+use Rattle.std.proofs.Common.{◌≡◌, true, false, sym, ap, ◌∙◌}
+use Rattle.of_text.specs.Lines.{before, is_passed}
 use Rattle.of_text.proofs.LineLemmas.{some_bytes, no_bytes}
-use Rattle.of_files.specs.Contents.{content_by, content_of, first_counted}
+use Rattle.of_files.specs.Contents.{content_by, content_of}
 use Rattle.of_files.proofs.LineLemmas.{counted_here, passed_here, none_counted}
 use Rattle.of_files.proofs.contents.content_of.Goals as goal
 

@@ -1,6 +1,6 @@
-use Rattle.std.proofs.Common.{sym, ◌∙◌, refl, arith}
+use Rattle.std.proofs.Common.{sym, ◌∙◌, arith}
 use Rattle.of_text.proofs.LineLemmas.{some_bytes, no_bytes}
-use Rattle.of_files.proofs.PlayLemmas.{play_begins, play_more, play_bad, play_stops, play_ends}
+use Rattle.of_files.proofs.PlayLemmas.{play_more, play_bad, play_ends}
 use Rattle.of_files.proofs.playing.play_file.Goals as goal
 
 pub loop-rest-preserved : goal.loop-rest-preserved

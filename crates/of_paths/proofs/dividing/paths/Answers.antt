@@ -12,7 +12,7 @@ loop-left-init g c =
     let first = c.in_ok-first_case.field-0 in
     let is = c.in_ok-first_case.ensures in
     rw (first_of_none c.new-cases.result.items c.push.new.self.items first c.new-cases.ensures.items c.in_ok-push.ensures.items)
-    (running_begins c.args.merging w c.args.within.now c.args.steps first _ c.new.ensures.items c.new-2.ensures.items (record { runs = is.holds; none = is.none; matched = is.within; all = is.all }))
+    (running_begins c.args.merging w c.args.within.now c.args.steps first _ c.new.ensures.items c.new-2.ensures.items (record { runs = is.holds; begins = is.begins; matched = is.within; all = is.all }))
 
 pub returns-in_default : goal.returns-in_default
 returns-in_default g c =

@@ -3,7 +3,7 @@ use Rattle.of_datapath.specs.Datapath.{world_of}
 use Rattle.of_datapath.specs.Numbers.{forwarding_of}
 use Rattle.of_symbolic_run.proofs.GroupedLemmas.{if_ok}
 use Rattle.of_paths.specs.Reasons.{IsReason}
-use Rattle.of_paths.proofs.SoFarLemmas.{always_ok, last_is_undecided, on_appended, put_cases, put_ended, put_undecided, reversed_cases, reversed_later}
+use Rattle.of_paths.proofs.SoFarLemmas.{always_ok, last_is_undecided, on_appended, put_cases, put_ended, put_undecided, reversed_cases}
 use Rattle.of_paths.proofs.TakenLemmas.{step_ended, step_taken, step_unknown}
 use Rattle.of_paths.proofs.dividing.put_next.Goals as goal
 
@@ -14,7 +14,7 @@ returns-in-Cases-clause-taken g c =
     on_appended c.append.result c.append.new.self.items c.args.cases.now.items more _ c.append.ensures.items
     (λ is within taken old next left.
     let own = rw c.in-Cases.is at next in
-    rw is (step_taken w within taken c.args.cases.now.items old left more (reversed_cases w old c.in-Cases.more.items more c.reverse.ensures.items own.0) (reversed_later old.state c.in-Cases.more.items more c.reverse.ensures.items own.1)))
+    rw (is, c.reverse.ensures.items) (step_taken w within taken c.args.cases.now.items old left c.in-Cases.more.items own.0 own.1))
 
 pub returns-in-Cases-clause-so_far : goal.returns-in-Cases-clause-so_far
 returns-in-Cases-clause-so_far g c =
@@ -35,7 +35,7 @@ returns-in-Ended-clause-so_far g c =
     let w = world_of (forwarding_of c.args.datapath.now) in
     if_ok c.put_path.result _ _
     (λ puts within taken old most next left so_far.
-    (let own = rw c.in-Ended.is at next in put_ended c.args.merging w within c.args.steps c.args.cases.now.items old c.args.found.now so_far taken c.in-Ended.path _ most left own.0 own.1 own.2 puts))
+    (let own = rw c.in-Ended.is at next in put_ended c.args.merging w within c.args.steps c.args.cases.now.items old c.args.found.now so_far taken c.in-Ended.path _ most left own.0 own.1 own.2 own.3 own.4 puts))
     c.put_path.ensures
 
 pub returns-in_ok-push-in-Undecided-clause-taken : goal.returns-in_ok-push-in-Undecided-clause-taken

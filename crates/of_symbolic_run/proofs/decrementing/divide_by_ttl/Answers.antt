@@ -2,7 +2,7 @@ use Rattle.std.proofs.Common.{List, subst}
 use Rattle.of_symbolic_run.specs.declared.dividing.Case.{Case}
 use Rattle.of_symbolic_run.specs.Decrementing.{AddsExpired}
 use Rattle.of_symbolic_run.specs.TimesToLive.{expires}
-use Rattle.of_symbolic_run.proofs.DecrementLemmas.{divided, divided_later}
+use Rattle.of_symbolic_run.proofs.DecrementLemmas.{divided, divided_next}
 use Rattle.of_symbolic_run.proofs.decrementing.divide_by_ttl.Goals as goal
 
 pub returns-clause-cases : goal.returns-clause-cases
@@ -11,14 +11,14 @@ returns-clause-cases c w =
     let state = c.args.state.now in
     let limit = c.ttl_limit-limit.result in
     let mid = c.push_expired.new.cases.items in
-    divided w frames state limit c.ttl_limit-limit.ensures (record { frames = c.in_ok-outliving.field-0; state = c.in_ok-decremented.field-0 }) c.in_ok-outliving.ensures c.in_ok-decremented.ensures.follows mid c.push.new.self.items c.in_ok-push.ensures.items
+    divided w frames state limit c.ttl_limit-limit.ensures (record { frames = c.in_ok-outliving.field-0; state = c.in_ok-decremented.field-0 }) c.in_ok-outliving.ensures c.in_ok-decremented.ensures mid c.push.new.self.items c.in_ok-push.ensures.items
     (subst (λ (l : List Case). AddsExpired (expires limit) frames state l mid) c.new-cases.ensures.items c.in_ok-push_expired.ensures)
 
-pub returns-clause-later : goal.returns-clause-later
-returns-clause-later c =
+pub returns-clause-next : goal.returns-clause-next
+returns-clause-next c w =
     let frames = c.args.frames.now in
     let state = c.args.state.now in
     let limit = c.ttl_limit-limit.result in
     let mid = c.push_expired.new.cases.items in
-    divided_later state (expires limit) frames (record { frames = c.in_ok-outliving.field-0; state = c.in_ok-decremented.field-0 }) mid c.push.new.self.items c.in_ok-decremented.ensures.later c.in_ok-push.ensures.items
+    divided_next w frames state (expires limit) c.requires.first (record { frames = c.in_ok-outliving.field-0; state = c.in_ok-decremented.field-0 }) c.in_ok-decremented.ensures mid c.push.new.self.items c.in_ok-push.ensures.items
     (subst (λ (l : List Case). AddsExpired (expires limit) frames state l mid) c.new-cases.ensures.items c.in_ok-push_expired.ensures)

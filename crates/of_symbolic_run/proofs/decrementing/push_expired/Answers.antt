@@ -10,7 +10,6 @@ returns-in_ok-push-in-Some c =
       c.in_ok-push-in-Some.ensures.items,
       record {
         frames_are = subst (AreFramesOrNone (expires c.args.limit) c.args.frames.now) c.in-Some.is c.in_ok-expiring.ensures;
-        state_is = c.in_ok-state-in-Some.ensures.follows;
-        later = c.in_ok-state-in-Some.ensures.later;
+        state_is = c.in_ok-state-in-Some.ensures;
       },
     )

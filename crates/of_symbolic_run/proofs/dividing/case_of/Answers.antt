@@ -13,4 +13,4 @@ invariant_of-frames c = record {
 }
 
 pub returns : goal.returns
-returns c = case_is c.args.table (flows_listed c.args.listed.now) c.args.frames.now c.args.state.now c.args.branch _ (found_flow c.entry_named.result) c.requires.own.1 refl refl refl c.entry_named.ensures c.in_ok-state.ensures.entered c.in_ok-state.ensures.later
+returns c = case_is c.args.table (flows_listed c.args.listed.now) c.args.frames.now c.args.state.now c.args.branch _ (found_flow c.entry_named.result) c.requires.own.1 refl refl refl c.entry_named.ensures c.in_ok-state.ensures

@@ -1,17 +1,13 @@
 use Rattle.std.proofs.Common.{◌++◌, ◌∙◌, List, refl, ap}
 use Rattle.of_symbolic_run.specs.declared.state.SymbolicTask.{SymbolicTask}
 use Rattle.of_symbolic_run.specs.Groups.{bucket_lists}
-use Rattle.of_symbolic_run.proofs.GroupLemmas.{group_ran}
-use Rattle.of_symbolic_run.proofs.LaterLemmas.{one_line_more}
+use Rattle.of_symbolic_run.proofs.GroupLemmas.{group_next}
 use Rattle.of_symbolic_run.proofs.grouping.run_group.Goals as goal
 
-pub returns-clause-at : goal.returns-clause-at
-returns-clause-at c =
+pub returns : goal.returns
+returns c =
     let rest = c.remove-first.new.self.items in
     let first : SymbolicTask = c.remove-first.result in
     let next : SymbolicTask = record { packet = first.packet; work = c.remove.new.self } in
-    group_ran c.args.group (bucket_lists c.args.buckets) c.args.state.now _ first next rest c.in_ok-tasks.tasks.items c.requires.first c.remove-first.ensures.value c.remove-first.ensures.items refl c.remove.ensures.items c.in_ok-tasks.ensures
+    group_next c.args.group (bucket_lists c.args.buckets) c.args.state.now _ first next rest c.in_ok-tasks.tasks.items c.requires.first c.remove-first.ensures.value c.remove-first.ensures.items refl c.remove.ensures.items c.in_ok-tasks.ensures
     (c.in_ok-append.ensures.items ∙ ap (λ (l : List SymbolicTask). l ++ rest) c.in_ok-push-2.ensures.items) refl c.in_ok-push.ensures.items
-
-pub returns-clause-later : goal.returns-clause-later
-returns-clause-later c = one_line_more c.args.state.now.steps.items _ _ c.in_ok-push.ensures.items

@@ -13,7 +13,7 @@ invariant_of-frames c = record {
 }
 
 pub returns-clause-first : goal.returns-clause-first
-returns-clause-first c = case_is c.args.table (flows_listed c.args.listed.now) c.args.frames.now c.args.first.now c.args.branch _ (found_flow c.entry_named.result) c.requires.own.1 refl refl refl c.entry_named.ensures c.in_ok-first.ensures.entered c.in_ok-first.ensures.later
+returns-clause-first c = case_is c.args.table (flows_listed c.args.listed.now) c.args.frames.now c.args.first.now c.args.branch _ (found_flow c.entry_named.result) c.requires.own.1 refl refl refl c.entry_named.ensures c.in_ok-first.ensures
 
 pub returns-clause-second : goal.returns-clause-second
-returns-clause-second c = case_is c.args.table (flows_listed c.args.listed.now) c.args.frames.now c.args.second.now c.args.branch _ (found_flow c.entry_named-2.result) c.requires.own.1 refl refl refl c.entry_named-2.ensures c.in_ok-second.ensures.entered c.in_ok-second.ensures.later
+returns-clause-second c = case_is c.args.table (flows_listed c.args.listed.now) c.args.frames.now c.args.second.now c.args.branch _ (found_flow c.entry_named-2.result) c.requires.own.1 refl refl refl c.entry_named-2.ensures c.in_ok-second.ensures

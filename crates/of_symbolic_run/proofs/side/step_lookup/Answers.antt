@@ -10,8 +10,9 @@ pub returns-in-Some : goal.returns-in-Some
 returns-in-Some g c =
     let f = forwarding_of c.args.datapath.now in
     let some = rw c.in-Some.is at c.in_ok-cases.ensures.some in
-    let later = rw c.in-Some.is at c.in_ok-cases.ensures.later in
-    (some (world_of f) (has_table f c.args.table _ c.entries-entries.ensures.flows), later)
+    let next = rw c.in-Some.is at c.in_ok-cases.ensures.next in
+    let is = has_table f c.args.table _ c.entries-entries.ensures.flows in
+    (some (world_of f) is, next (world_of f) is)
 
 pub returns-in-None : goal.returns-in-None
 returns-in-None g c =
