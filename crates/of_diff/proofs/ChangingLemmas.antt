@@ -1,11 +1,11 @@
 -- Frames that match no changed entry of a table, if both switches do the same after it.
-use Rattle.std.proofs.Common.{◌≡◌, ℕ, zero, suc, ◌+◌, ◌-◌, ◌<◌, ◌≤◌, ◌⊎◌, inl, inr, Bool, true, false, List, [], ◌∷◌, ◌++◌, length, drop, map, Option, Some, None, Result, Ok, Err, IfOk, IfSome, refl, sym, ap, subst, ◌∙◌, arith}
+use Rattle.std.proofs.Common.{◌≡◌, ℕ, zero, suc, ◌+◌, ◌-◌, ◌<◌, ◌≤◌, ◌⊎◌, inl, inr, Bool, true, false, List, [], ◌∷◌, ◌++◌, length, drop, map, Option, Some, None, Result, Ok, Err, IfOk, IfSome, append_assoc, refl, sym, ap, subst, ◌∙◌, arith}
 use Rattle.std.specs.Prelude.{slice_get, slice_index_or}
 use Rattle.std.specs.Option.{option_map}
 use Rattle.std.specs.Global.{Vec}
 use Rattle.std.specs.List.{Contains, list_all}
 use Rattle.std.proofs.lemmas.Bool.Decides.{nat_tests}
-use Rattle.std.proofs.lemmas.List.{append-nil}
+use Rattle.std.proofs.lemmas.List.{append-nil, length_push}
 use Rattle.std.proofs.lemmas.List.Elements.{Contains-append_cases, Contains-append_left, Contains-append_right, Contains-push, Contains-push_cases}
 use Rattle.std.proofs.lemmas.Option.{slice_get_within}
 use Rattle.of_layers.specs.declared.field.Field.{Field}
@@ -32,6 +32,7 @@ use Rattle.of_symbolic_run.specs.Received.{IsReceivedAt, items_at}
 use Rattle.of_symbolic_run.specs.FrameSets.{AreFramesMatching, AreFramesWithout, InFrames}
 use Rattle.of_symbolic_run.specs.declared.advance.Advance.TheVariants as advances
 use Rattle.of_symbolic_run.specs.States.{answer_to_tasks, items_for, packet_for, task_for, work_for}
+use Rattle.of_symbolic_run.proofs.CopyLemmas.{same_answer}
 use Rattle.of_symbolic_run.proofs.FirstLemmas.{is_lookup}
 use Rattle.of_diff.specs.declared.agreement.Agreement.{Agreement}
 use Rattle.of_alike.specs.Agreeing.{AllFrom, AreNoTable, TaskFrom}
@@ -40,15 +41,15 @@ use Rattle.of_diff.specs.declared.pair.Pair.{Pair}
 use Rattle.of_diff.specs.Changing.{AddsPairs, AddsSet, AreAtTableBefore, AreMarkedAskedIn, AreMatchedSets, ArePairsOf, FirstSetIsOfPorts, IsAgreement, IsAskedIn, MatchedBySome, entries_in}
 use Rattle.of_diff.specs.Differences.{InSets, IsTreatedAlike}
 use Rattle.of_alike.specs.Emitting.{LeaveAlike}
-use Rattle.of_diff.specs.Pairs.{ArePairs, AreStatesOfRuns, InPairs}
-use Rattle.of_diff.specs.Reasons.{steps_of_both}
+use Rattle.of_diff.specs.NextPairs.{AreNextPairs, ArePairsApart, IsNextPair, pairs_of_parts}
+use Rattle.of_diff.specs.Pairs.{ArePairs, AreStatesOfRuns, InPairs, IsByFirst}
 use Rattle.of_alike.specs.SamePorts.{SamePorts}
 use Rattle.of_alike.specs.SameTables.{AreChanged, AreSameHits, EntrySays, IsUnmarkedHit, SayTheSame}
 use Rattle.of_alike.proofs.Agreeing.{all_both, works_from}
 use Rattle.of_alike.proofs.AgreeingRuns.{all_from, rests_agree}
 use Rattle.of_diff.proofs.CutLemmas.{rests_alike}
 use Rattle.of_alike.proofs.EmissionLemmas.{receives_at}
-use Rattle.of_diff.proofs.PairLemmas.{copy_at, first_later, same_tasks}
+use Rattle.of_diff.proofs.PairLemmas.{apart_by_first, copy_at, each_by_first, has_pair, of_case, same_tasks}
 use Rattle.of_alike.proofs.HitLemmas.{IsWinner, unchanged_hits, winner_is}
 
 -- ---- some list of conditions matches, or none does
@@ -117,7 +118,18 @@ NoneBefore asked n fields = (k : ℕ) (m : Vec MatchField) → k < n → slice_i
 pub record AreSetsSoFar (frames rest : FrameSet) (asked : List (Vec MatchField)) (n : ℕ) (sets : List FrameSet) : Type 0 where
   pub within : (s : FrameSet) → Contains sets s → (frame : List ℕ) (port : ℕ) → InFrames s frame port → InFrames frames frame port
   pub left : (frame : List ℕ) (port : ℕ) → InFrames rest frame port → InFrames frames frame port
+  pub inside : n ≤ length asked
+  pub few : length sets ≤ n
   pub all : (frame : List ℕ) (port : ℕ) → IsFrame frame → InFrames frames frame port → InSets sets frame port ⊎ (InFrames rest frame port × NoneBefore asked n (received_fields frame port))
+
+pub sets_begin : (frames : FrameSet) (asked : List (Vec MatchField)) (sets : List FrameSet) → sets ≡ [] → AreSetsSoFar frames frames asked 0 sets
+sets_begin frames asked sets none = record {
+  within = λ s c. absurd (let d = subst (λ (l : List FrameSet). Contains l s) none c in let lt = d.1 in omega (arith, lt));
+  left = λ frame port inside. inside;
+  inside = omega arith;
+  few = (let e : length sets ≡ 0 = ap length none in omega (arith, e));
+  all = λ frame port is_frame inside. inr (inside, λ k m lt. absurd (omega (arith, lt)));
+}
 
 pub sets_more : (frames rest those rest' : FrameSet) (asked : List (Vec MatchField)) (n : ℕ) (m : Vec MatchField) (sets sets' : List FrameSet) → n < length asked → m ≡ slice_index_or asked n m → AreFramesMatching m.items rest those → AreFramesWithout m.items rest rest' → AddsSet sets those sets' →
     AreSetsSoFar frames rest asked n sets → AreSetsSoFar frames rest' asked (n + 1) sets'
@@ -127,6 +139,11 @@ sets_more frames rest those rest' asked n m sets sets' lt is matching without ad
     | inr same ↦ h.left frame port (matching.within frame port (subst (λ (x : FrameSet). InFrames x frame port) (sym same) inside)).0
   ];
   left = λ frame port inside. h.left frame port (without.within frame port inside).0;
+  inside = omega (arith, lt);
+  few = elim adds as (λ x. length sets' ≤ n + 1) [
+    | inl one ↦ (let e : length sets' ≡ length sets + 1 = ap length one ∙ length_push sets those in omega (arith, e, h.few))
+    | inr none ↦ (let e : length sets' ≡ length sets = ap length none.0 in omega (arith, e, h.few))
+  ];
   all = λ frame port is_frame inside. elim (h.all frame port is_frame inside) as (λ x. InSets sets' frame port ⊎ (InFrames rest' frame port × NoneBefore asked (n + 1) (received_fields frame port))) [
     | inl s ↦ inl (s.0, kept s.0 s.1 adds, s.2)
     | inr r ↦ by_test frame port is_frame r.0 r.1 (matches_map m.items (received_fields frame port)) refl
@@ -158,6 +175,7 @@ sets_more frames rest those rest' asked n m sets sets' lt is matching without ad
 pub sets_end : (frames rest : FrameSet) (asked : List (Vec MatchField)) (n : ℕ) (sets : List FrameSet) → length asked ≤ n → AreSetsSoFar frames rest asked n sets → AreMatchedSets frames asked sets
 sets_end frames rest asked n sets le h = record {
   within = h.within;
+  few = omega (arith, h.few, h.inside);
   all = λ frame port is inside some. elim (h.all frame port is inside) as (λ x. InSets sets frame port) [
     | inl s ↦ s
     | inr r ↦ absurd (let no = r.1 some.1.0 some.0 (let lt = some.1.1 in omega (arith, lt, le)) some.1.2 in let yes = some.2 in cc)
@@ -166,12 +184,20 @@ sets_end frames rest asked n sets le h = record {
 
 -- ---- pairs of sets
 
+parts_more : (parts : List (List Pair)) (more : List Pair) → pairs_of_parts (parts ++ more ∷ []) ≡ pairs_of_parts parts ++ more
+parts_more [] more = append-nil more
+parts_more (part ∷ parts) more = ap (λ (l : List Pair). part ++ l) (parts_more parts more) ∙ sym (append_assoc part (pairs_of_parts parts) more)
+
 module _ (w v : TheWorld) (old : Pair) where
   pub no_pairs_of : (sets : List FrameSet) (pairs : List Pair) → sets ≡ [] → pairs ≡ [] → ArePairsOf w v old sets pairs
   no_pairs_of sets pairs none empty = record {
     hold = λ h within p c. absurd (let d = subst (λ (l : List Pair). Contains l p) empty c in let lt = d.1 in omega (arith, lt));
     all = λ s c. absurd (let d = subst (λ (l : List FrameSet). Contains l s) none c in let lt = d.1 in omega (arith, lt));
-    later = λ p c. absurd (let d = subst (λ (l : List Pair). Contains l p) empty c in let lt = d.1 in omega (arith, lt));
+    next = λ p c. absurd (let d = subst (λ (l : List Pair). Contains l p) empty c in let lt = d.1 in omega (arith, lt));
+    parts = [];
+    parts_are = empty;
+    apart = λ part c. absurd (let lt = c.1 in omega (arith, lt));
+    few = omega arith;
   }
 
   pub pairs_of_more : (sets sets' : List FrameSet) (frames : FrameSet) (pairs pairs' : List Pair) → sets' ≡ sets ++ frames ∷ [] → AddsPairs w frames old.first old.second pairs pairs' → ArePairsOf w v old sets pairs → ArePairsOf w v old sets' pairs'
@@ -179,21 +205,28 @@ module _ (w v : TheWorld) (old : Pair) where
     hold = λ states within p c. elim (Contains-append_cases pairs adds.more p (subst (λ (l : List Pair). Contains l p) adds.added c)) as (λ x. AreStatesOfRuns w v p) [
       | inl before ↦ h.hold states (λ s there. within s (rw is (Contains-append_left sets (frames ∷ []) s there))) p before
       | inr one ↦ (λ frame port is_frame inside.
-          let e = adds.by.each p one in
-          let mine : InFrames e.0.frames frame port = rw (sym e.2) inside in
-          let at = states frame port is_frame (within frames (rw is (Contains-push sets frames)) frame port (adds.are.within e.0 e.1 frame port mine)) in
-          (rw e.3 (adds.are.at e.0 e.1 frame port is_frame mine at.0), copy_at v frame port old.second p.second e.4 at.1))
+          let e = of_case (IsByFirst old.second) adds.cases adds.more adds.by p one in
+          let mine : InFrames e.c.frames frame port = rw (sym e.own.0) inside in
+          let at = states frame port is_frame (within frames (rw is (Contains-push sets frames)) frame port (adds.are.within e.c e.there frame port mine)) in
+          (rw e.own.1 (adds.are.at e.c e.there frame port is_frame mine at.0), copy_at v frame port old.second p.second e.own.2 at.1))
     ];
     all = λ s there frame port is_frame inside. elim (Contains-push_cases sets frames s (subst (λ (l : List FrameSet). Contains l s) is there)) as (λ x. InPairs pairs' frame port) [
       | inl before ↦ (let p = h.all s before frame port is_frame inside in (p.0, subst (λ (l : List Pair). Contains l p.0) (sym adds.added) (Contains-append_left pairs adds.more p.0 p.1), p.2))
       | inr same ↦ (let c = adds.are.all frame port is_frame (subst (λ (x : FrameSet). InFrames x frame port) (sym same) inside) in
-          let p = adds.by.all c.0 c.1 in
-          (p.0, subst (λ (l : List Pair). Contains l p.0) (sym adds.added) (Contains-append_right pairs adds.more p.0 p.1), subst (λ (f : FrameSet). InFrames f frame port) (sym p.2) c.2))
+          let o = has_pair (IsByFirst old.second) adds.cases adds.more adds.by c.0 c.1 in
+          (o.p, subst (λ (l : List Pair). Contains l o.p) (sym adds.added) (Contains-append_right pairs adds.more o.p o.there), subst (λ (f : FrameSet). InFrames f frame port) (sym o.own.0) c.2))
     ];
-    later = λ p c. elim (Contains-append_cases pairs adds.more p (subst (λ (l : List Pair). Contains l p) adds.added c)) as (λ x. steps_of_both old < steps_of_both p) [
-      | inl before ↦ h.later p before
-      | inr one ↦ first_later old adds.cases adds.more adds.later adds.by p one
+    next = λ p c. elim (Contains-append_cases pairs adds.more p (subst (λ (l : List Pair). Contains l p) adds.added c)) as (λ x. IsNextPair w v old p) [
+      | inl before ↦ h.next p before
+      | inr one ↦ each_by_first w v old adds.cases adds.more adds.next adds.by p one
     ];
+    parts = h.parts ++ adds.more ∷ [];
+    parts_are = adds.added ∙ ap (λ (l : List Pair). l ++ adds.more) h.parts_are ∙ sym (parts_more h.parts adds.more);
+    apart = λ part c. elim (Contains-push_cases h.parts adds.more part c) as (λ x. ArePairsApart part) [
+      | inl before ↦ h.apart part before
+      | inr same ↦ subst ArePairsApart same (apart_by_first w v old adds.cases adds.more adds.next adds.by)
+    ];
+    few = (let one : length (h.parts ++ adds.more ∷ []) ≡ length h.parts + 1 = length_push h.parts adds.more in let two : length sets' ≡ length sets + 1 = ap length is ∙ length_push sets frames in omega (arith, one, two, h.few));
   }
 
 -- ---- a winner that is not marked
@@ -335,6 +368,26 @@ module _ (c : Compared) (f g : Forwarding) (sound : IsSound (world_of f)) (sound
       | inr none ↦ inr (unmatched_alike states frame port received within none)
     ];
   }
+
+-- so many sets as entries of both tables
+pub changed_next : (f g : Forwarding) (n : ℕ) (pair : Pair) → AreAtTableBefore n pair.first pair.second → (sets : List FrameSet) (pairs : List Pair) → ArePairsOf (world_of f) (world_of g) pair sets pairs → length sets ≤ length (entries_in f (n - 1)) + length (entries_in g (n - 1)) →
+    AreNextPairs (world_of f) (world_of g) pair pairs
+changed_next f g n pair here sets pairs of few = record {
+  each = of.next;
+  parts = of.parts;
+  all = of.parts_are;
+  apart = of.apart;
+  few = inr (record {
+    table = n - 1;
+    first = here.lookup;
+    second = same_answer pair.first.tasks.items pair.second.tasks.items here.same ∙ here.lookup;
+    entries_first = entries_in f (n - 1);
+    entries_second = entries_in g (n - 1);
+    of_first = record { winner = λ fields. refl; flow = λ place. refl };
+    of_second = record { winner = λ fields. refl; flow = λ place. refl };
+    enough = omega (arith, of.few, few);
+  });
+}
 
 -- ---- the first packet
 

@@ -17,8 +17,9 @@ use Rattle.of_diff.specs.Comparing.{AreDifferences}
 use Rattle.of_diff.specs.Differences.{InDifferences, InUndecided, IsDifference, IsTreatedAlike}
 use Rattle.of_alike.specs.SamePorts.{SamePorts}
 use Rattle.of_diff.specs.declared.difference.Why.TheVariants.{Steps}
+use Rattle.of_diff.specs.NextPairs.{AreNextPairs}
 use Rattle.of_diff.specs.Pairs.{ArePairs, AreStatesOfRuns, InPairs, PutsDifference}
-use Rattle.of_diff.specs.Reasons.{AreLaterPairs, ArePairSteps, ArePairsAfter, IsFirstPair, IsPairStep, IsReasonOfPair, IsUndecidedSet}
+use Rattle.of_diff.specs.Reasons.{ArePairSteps, ArePairsAfter, IsFirstPair, IsPairStep, IsReasonOfPair, IsUndecidedSet}
 use Rattle.of_diff.specs.SoFar.{IsSoFar}
 
 pub on_appended : {X Y E : Type 0} (r : Result Y E) (new old more : List X) (Q : Type 0) → new ≡ (if is_ok r then old ++ more else old) → (new ≡ old ++ more → Q) → OnOk r Q
@@ -175,8 +176,8 @@ module _ (c : Compared) (w v : TheWorld) (steps : ℕ) where
   }
 
   module _ (taken : ℕ) (pairs : List Pair) (pair : Pair) (left : ArePairsAfter c w v steps taken (pairs ++ pair ∷ [])) where
-    pub step_taken : (more : List Pair) → ArePairs c w v pair more → AreLaterPairs pair more → ArePairsAfter c w v steps (taken + 1) (pairs ++ more)
-    step_taken more are later = one_more taken (pairs ++ pair ∷ []) (pairs ++ more) left (IsPairStep.moved pairs pair more refl refl are later)
+    pub step_taken : (more : List Pair) → ArePairs c w v pair more → AreNextPairs w v pair more → ArePairsAfter c w v steps (taken + 1) (pairs ++ more)
+    step_taken more are next = one_more taken (pairs ++ pair ∷ []) (pairs ++ more) left (IsPairStep.moved pairs pair more refl refl are next)
 
     pub step_alike : ((frame : List ℕ) (port : ℕ) → IsReceivedAt w frame port → InFrames pair.frames frame port → IsTreatedAlike c w v frame port) → ArePairsAfter c w v steps (taken + 1) pairs
     step_alike alike = one_more taken (pairs ++ pair ∷ []) pairs left (IsPairStep.alike pair refl alike)

@@ -1,5 +1,5 @@
 -- A lookup in tables that say the same.
-use Rattle.std.proofs.Common.{◌≡◌, ◌<◌, ℕ, zero, suc, eqb, cond, Bool, true, false, List, [], ◌∷◌, map, Option, Some, None, refl, sym, ap, subst, inl, arith}
+use Rattle.std.proofs.Common.{◌≡◌, ℕ, zero, suc, eqb, cond, Bool, true, false, List, [], ◌∷◌, ◌++◌, map, Option, Some, None, refl, sym, ap, subst, ◌∙◌, inl, arith}
 use Rattle.std.specs.Prelude.{slice_get}
 use Rattle.std.specs.Option.{option_map}
 use Rattle.std.specs.List.{Contains}
@@ -7,25 +7,32 @@ use Rattle.std.proofs.lemmas.Bool.{eqb-true}
 use Rattle.std.proofs.lemmas.Bool.Decides.{nat_tests}
 use Rattle.of_table.specs.declared.flow.Flow.{Flow}
 use Rattle.of_table.specs.Table.{FlowEntry, flow_at}
+use Rattle.of_machine.specs.declared.data.Item.{Item}
+use Rattle.of_machine.specs.declared.data.Packet.{Packet}
+use Rattle.of_machine.specs.declared.data.Step.{Step}
+use Rattle.of_machine.specs.Rows.{Row, Task, entry_row, lookup_row}
 use Rattle.of_machine.specs.TheWorld.{TheWorld}
 use Rattle.of_machine.specs.Sound.{IsSound}
 use Rattle.of_datapath.specs.Datapath.{Forwarding, world_of}
 use Rattle.of_symbolic_run.specs.declared.dividing.Case.{Case}
+use Rattle.of_symbolic_run.specs.declared.advance.Advance.TheVariants as advances
 use Rattle.of_symbolic_run.specs.declared.joint.JointCase.{JointCase}
+use Rattle.of_symbolic_run.specs.declared.state.SymbolicState.{SymbolicState}
 use Rattle.of_symbolic_run.specs.Cases.{AreCases, IsTableOf}
 use Rattle.of_symbolic_run.specs.FrameSets.{InFrames}
-use Rattle.of_symbolic_run.specs.Later.{AreOneLater}
-use Rattle.of_symbolic_run.specs.States.{IsAt}
+use Rattle.of_symbolic_run.specs.NextStates.{AreNextStates, IsNextState, chosen_row}
+use Rattle.of_symbolic_run.specs.States.{IsAt, answer_to_tasks, answer_to_works, items_for, packet_for, task_for}
 use Rattle.of_symbolic_run.specs.JointCases.{first_case, first_cases, second_case, second_cases}
 use Rattle.of_alike.specs.declared.alike.Compared.{Compared}
 use Rattle.of_diff.specs.declared.pair.Pair.{Pair}
 use Rattle.of_alike.specs.Agreeing.{AgreeFrom, AreSameFlows}
 use Rattle.of_diff.specs.Changing.{entries_in}
+use Rattle.of_diff.specs.NextPairs.{AreNextPairs, ArePairsApart, IsNextPair}
 use Rattle.of_diff.specs.Pairs.{ArePairs, pair_of_case}
-use Rattle.of_diff.specs.Reasons.{AreLaterPairs, steps_of_both}
 use Rattle.of_alike.specs.SameTables.{EntrySays, SameTables, says_of}
 use Rattle.of_alike.proofs.HitLemmas.{same_at, same_winner}
 use Rattle.of_alike.proofs.SameRunLemmas.{at_one, at_other}
+use Rattle.of_diff.proofs.PairLemmas.{in_one_part}
 
 -- ---- entries that say the same
 
@@ -123,10 +130,79 @@ joint_are_pairs c f g table sound same old cases first second =
           inl (pair_of_case i.x, in_image pair_of_case cases i.x i.there, subst (λ (q : Case). InFrames q.frames frame port) (sym i.is) a.2);
     }
 
-pub joint_later : (old : Pair) (cases : List JointCase) → AreOneLater old.first (first_cases cases) → AreOneLater old.second (second_cases cases) → AreLaterPairs old (map pair_of_case cases)
-joint_later old cases first second p there =
-    let i = image_of pair_of_case cases p there in
-    let one = first (first_case i.x) (in_image first_case cases i.x i.there) in
-    let two = second (second_case i.x) (in_image second_case cases i.x i.there) in
-    let both : steps_of_both old < steps_of_both (pair_of_case i.x) = omega (arith, one, two) in
-    subst (λ (q : Pair). steps_of_both old < steps_of_both q) i.is both
+-- ---- the next states of both
+
+-- the case at a place
+record IsImageAt {X Y : Type 0} (h : X → Y) (xs : List X) (k : ℕ) (y : Y) : Type 0 where
+  x : X
+  there : slice_get xs k ≡ Some x
+  is : h x ≡ y
+
+image_at : {X Y : Type 0} (h : X → Y) (xs : List X) (k : ℕ) (y : Y) → slice_get (map h xs) k ≡ Some y → IsImageAt h xs k y
+image_at h [] k y at = absurd cc
+image_at h (x ∷ xs) zero y at = let same : h x ≡ y = cc in record { x = x; there = refl; is = same }
+image_at h (x ∷ xs) (suc k) y at = let i = image_at h xs k y at in record { x = i.x; there = i.there; is = i.is }
+
+at_image : {X Y : Type 0} (h : X → Y) (xs : List X) (k : ℕ) (x : X) → slice_get xs k ≡ Some x → slice_get (map h xs) k ≡ Some (h x)
+at_image h [] k x at = absurd cc
+at_image h (y ∷ xs) zero x at = let same : y ≡ x = cc in ap (λ z. Some (h z)) same
+at_image h (y ∷ xs) (suc k) x at = at_image h xs k x at
+
+-- an entry that says the same leads to the same state
+record AreSameEntryRows (r s : Row) : Type 0 where
+  left : r.left ≡ s.left
+  items : r.items ≡ s.items
+  line : r.line ≡ s.line
+
+entry_rows : (p : Packet) (t n : ℕ) (a b : Option Flow) → AreSameFlows a b → AreSameEntryRows (entry_row p t n a) (entry_row p t n b)
+entry_rows p t n None None same = record { left = refl; items = refl; line = refl }
+entry_rows p t n None (Some g) same = absurd same
+entry_rows p t n (Some f) None same = absurd same
+entry_rows p t n (Some f) (Some g) same = record { left = rw (same.priority, same.fields, same.cookie, same.instructions) refl; items = refl; line = refl }
+
+lookup_rows : (w v : TheWorld) (p : Packet) (t : ℕ) (found : Option ℕ) → AgreeFrom 0 w v → AreSameEntryRows (lookup_row w p t found) (lookup_row v p t found)
+lookup_rows w v p t None agree = record { left = refl; items = refl; line = refl }
+lookup_rows w v p t (Some n) agree = entry_rows p t n (w.flow t n) (v.flow t n) (agree.flow t n (omega arith))
+
+next_in_other : (w v : TheWorld) (table : ℕ) (old new : SymbolicState) → AgreeFrom 0 w v → w.ports ≡ v.ports → answer_to_tasks old.tasks.items ≡ advances.Lookup table → IsNextState v old new → IsNextState w old new
+next_in_other w v table old new agree ports answer h = record {
+  found = h.found;
+  expires = h.expires;
+  follows = record {
+    t = h.follows.t;
+    rest = h.follows.rest;
+    first = h.follows.first;
+    tasks = λ frame port. h.follows.tasks frame port ∙ ap (λ (l : List Task). l ++ map (task_for frame port) h.follows.rest) (sym (rows frame port).left);
+    items = λ frame port. rw ports (h.follows.items frame port) ∙ ap (λ (l : List Item). items_for w.ports old.emitted.items frame port ++ l) (sym (rows frame port).items);
+    lines = λ frame port. h.follows.lines frame port ∙ ap (λ (s : Step). old.steps.items ++ s ∷ []) (sym (rows frame port).line);
+  };
+}
+  where
+    kind : answer_to_works h.follows.t.work.items ≡ advances.Lookup table
+    kind = ap answer_to_tasks (sym h.follows.first) ∙ answer
+
+    rows : (frame : List ℕ) (port : ℕ) → AreSameEntryRows (chosen_row w h.found h.expires frame port h.follows.t) (chosen_row v h.found h.expires frame port h.follows.t)
+    rows frame port = rw kind (lookup_rows w v (packet_for h.follows.t.packet frame port) table h.found agree)
+
+pub joint_next : (f g : Forwarding) (table : ℕ) → SameTables (entries_in f table) (entries_in g table) → (old : Pair) (cases : List JointCase) → answer_to_tasks old.second.tasks.items ≡ advances.Lookup table →
+    ((w : TheWorld) → IsTableOf w table (entries_in f table) → AreNextStates w old.first (first_cases cases)) → ((w : TheWorld) → IsTableOf w table (entries_in f table) → AreNextStates w old.second (second_cases cases)) → AreNextPairs (world_of f) (world_of g) old (map pair_of_case cases)
+joint_next f g table same old cases answer first second = in_one_part (world_of f) (world_of g) old (map pair_of_case cases) each apart
+  where
+    one : AreNextStates (world_of f) old.first (first_cases cases)
+    one = first (world_of f) (record { winner = λ fields. refl; flow = λ place. refl })
+
+    each : (p : Pair) → Contains (map pair_of_case cases) p → IsNextPair (world_of f) (world_of g) old p
+    each p there =
+        let v = world_of g in
+        let other = with_entries table (entries_in f table) v in
+        let two = second other (has_entries f g table same) in
+        let i = image_of pair_of_case cases p there in
+        let left = one.each (first_case i.x) (in_image first_case cases i.x i.there) in
+        let right = next_in_other v other table old.second i.x.second (agrees f g table same) (ports_are f g table same) answer (two.each (second_case i.x) (in_image second_case cases i.x i.there)) in
+        subst (IsNextPair (world_of f) v old) i.is (IsNextPair.both left right)
+
+    apart : ArePairsApart (map pair_of_case cases)
+    apart i j p q at_i at_j level both =
+        let x = image_at pair_of_case cases i p at_i in
+        let y = image_at pair_of_case cases j q at_j in
+        one.apart i j (first_case x.x) (first_case y.x) (at_image first_case cases i x.x x.there) (at_image first_case cases j y.x y.there) (ap (λ (z : Pair). z.first.steps.items) x.is ∙ level ∙ ap (λ (z : Pair). z.first.steps.items) (sym y.is))

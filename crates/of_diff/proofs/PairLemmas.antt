@@ -1,20 +1,22 @@
 -- Pairs of states after a step of one of the two runs.
-use Rattle.std.proofs.Common.{arith, ◌≡◌, ◌<◌, ℕ, ◌⊎◌, List, [], ◌∷◌, ◌++◌, length, refl, sym, ap, ◌∙◌, subst, inl, inr}
-use Rattle.std.specs.Prelude.{map}
+use Rattle.std.proofs.Common.{arith, ◌≡◌, ℕ, zero, suc, ◌⊎◌, List, [], ◌∷◌, ◌++◌, Some, refl, sym, ap, ◌∙◌, subst, inl, inr}
+use Rattle.std.specs.Prelude.{map, slice_get}
 use Rattle.std.specs.List.{Contains}
-use Rattle.std.proofs.lemmas.List.Elements.{Contains-append_left, Contains-push, Contains-push_cases}
+use Rattle.std.proofs.lemmas.List.{append-nil}
+use Rattle.std.proofs.lemmas.List.Elements.{Contains-push, Contains-push_cases}
 use Rattle.of_machine.specs.TheWorld.{TheWorld}
 use Rattle.of_symbolic_run.specs.declared.dividing.Case.{Case}
 use Rattle.of_symbolic_run.specs.declared.state.SymbolicState.{SymbolicState}
 use Rattle.of_symbolic_run.specs.declared.state.SymbolicTask.{SymbolicTask}
 use Rattle.of_symbolic_run.specs.Cases.{AreCases}
 use Rattle.of_symbolic_run.specs.FrameSets.{InFrames}
-use Rattle.of_symbolic_run.specs.Later.{AreOneLater, IsOneLater}
+use Rattle.of_symbolic_run.specs.NextStates.{AreNextStates, IsNextState}
 use Rattle.of_symbolic_run.specs.States.{AreTaskCopies, IsAt, IsStateCopy, task_for}
+use Rattle.of_symbolic_run.proofs.NextLemmas.{some_same}
 use Rattle.of_alike.specs.declared.alike.Compared.{Compared}
 use Rattle.of_diff.specs.declared.pair.Pair.{Pair}
-use Rattle.of_diff.specs.Pairs.{AreByFirst, AreBySecond, ArePairs, AreStatesOfRuns}
-use Rattle.of_diff.specs.Reasons.{AreLaterPairs, steps_of_both}
+use Rattle.of_diff.specs.NextPairs.{AreNextPairs, ArePairsApart, IsNextPair, pairs_of_parts}
+use Rattle.of_diff.specs.Pairs.{AreByFirst, AreBySecond, AreLinedUp, ArePairs, AreStatesOfRuns, IsByFirst, IsBySecond}
 
 pub same_tasks : (frame : List ℕ) (port : ℕ) (ts cs : List SymbolicTask) → AreTaskCopies ts cs → map (task_for frame port) cs ≡ map (task_for frame port) ts
 same_tasks frame port [] [] h = refl
@@ -30,31 +32,53 @@ copy_at w frame port s c h at = record { steps = at.steps; tasks = at.tasks ∙ 
 none_contained : {A : Type 0} (x : A) → Contains {X = A} [] x → ⊥
 none_contained x h = absurd (omega (arith, h.1))
 
-pub first_more : (cases : List Case) (second : SymbolicState) (pairs : List Pair) (c : Case) (p : Pair) → p.frames ≡ c.frames → p.first ≡ c.state → IsStateCopy second p.second → AreByFirst cases second pairs →
-    AreByFirst (cases ++ c ∷ []) second (pairs ++ p ∷ [])
-first_more cases second pairs c p frames state copy h = record {
-  each = λ q at. elim (Contains-push_cases pairs p q at) as (λ x. (d : Case) × Contains (cases ++ c ∷ []) d × (q.frames ≡ d.frames) × (q.first ≡ d.state) × IsStateCopy second q.second) [
-    | inl before ↦ (let e = h.each q before in (e.0, Contains-append_left cases (c ∷ []) e.0 e.1, e.2, e.3, e.4))
-    | inr same ↦ (c, Contains-push cases c, ap (λ (x : Pair). x.frames) (sym same) ∙ frames, ap (λ (x : Pair). x.first) (sym same) ∙ state, subst (λ (x : Pair). IsStateCopy second x.second) same copy)
-  ];
-  all = λ d at. elim (Contains-push_cases cases c d at) as (λ x. (q : Pair) × Contains (pairs ++ p ∷ []) q × (q.frames ≡ d.frames)) [
-    | inl before ↦ (let a = h.all d before in (a.0, Contains-append_left pairs (p ∷ []) a.0 a.1, a.2))
-    | inr same ↦ (p, Contains-push pairs p, frames ∙ ap (λ (x : Case). x.frames) same)
-  ];
-}
+-- a pair of a case, and a case of a pair
+module _ (of : Case → Pair → Type 0) where
+  pub more_lined_up : (cases : List Case) (pairs : List Pair) (c : Case) (p : Pair) → AreLinedUp of cases pairs → of c p → AreLinedUp of (cases ++ c ∷ []) (pairs ++ p ∷ [])
+  more_lined_up [] [] c p are one = (one, tt)
+  more_lined_up [] (q ∷ pairs) c p are one = absurd are
+  more_lined_up (d ∷ cases) [] c p are one = absurd are
+  more_lined_up (d ∷ cases) (q ∷ pairs) c p are one = (are.0, more_lined_up cases pairs c p are.1 one)
 
-pub second_more : (first : SymbolicState) (cases : List Case) (pairs : List Pair) (c : Case) (p : Pair) → p.frames ≡ c.frames → p.second ≡ c.state → IsStateCopy first p.first → AreBySecond first cases pairs →
-    AreBySecond first (cases ++ c ∷ []) (pairs ++ p ∷ [])
-second_more first cases pairs c p frames state copy h = record {
-  each = λ q at. elim (Contains-push_cases pairs p q at) as (λ x. (d : Case) × Contains (cases ++ c ∷ []) d × (q.frames ≡ d.frames) × (q.second ≡ d.state) × IsStateCopy first q.first) [
-    | inl before ↦ (let e = h.each q before in (e.0, Contains-append_left cases (c ∷ []) e.0 e.1, e.2, e.3, e.4))
-    | inr same ↦ (c, Contains-push cases c, ap (λ (x : Pair). x.frames) (sym same) ∙ frames, ap (λ (x : Pair). x.second) (sym same) ∙ state, subst (λ (x : Pair). IsStateCopy first x.first) same copy)
-  ];
-  all = λ d at. elim (Contains-push_cases cases c d at) as (λ x. (q : Pair) × Contains (pairs ++ p ∷ []) q × (q.frames ≡ d.frames)) [
-    | inl before ↦ (let a = h.all d before in (a.0, Contains-append_left pairs (p ∷ []) a.0 a.1, a.2))
-    | inr same ↦ (p, Contains-push pairs p, frames ∙ ap (λ (x : Case). x.frames) same)
-  ];
-}
+  pub record IsOfCase (cases : List Case) (p : Pair) : Type 0 where
+    pub c : Case
+    pub there : Contains cases c
+    pub own : of c p
+
+  pub of_case : (cases : List Case) (pairs : List Pair) → AreLinedUp of cases pairs → (p : Pair) → Contains pairs p → IsOfCase cases p
+  of_case [] [] are p at = absurd (none_contained p at)
+  of_case [] (q ∷ pairs) are p at = absurd are
+  of_case (d ∷ cases) [] are p at = absurd are
+  of_case (d ∷ cases) (q ∷ pairs) are p (zero, lt, at) = record { c = d; there = (0, omega arith, refl); own = subst (of d) at are.0 }
+  of_case (d ∷ cases) (q ∷ pairs) are p (suc k, lt, at) =
+      let o = of_case cases pairs are.1 p (k, omega (arith, lt), at) in
+      record { c = o.c; there = (suc o.there.0, (let l = o.there.1 in omega (arith, l)), o.there.2); own = o.own }
+
+  pub record HasPair (pairs : List Pair) (c : Case) : Type 0 where
+    pub p : Pair
+    pub there : Contains pairs p
+    pub own : of c p
+
+  pub has_pair : (cases : List Case) (pairs : List Pair) → AreLinedUp of cases pairs → (c : Case) → Contains cases c → HasPair pairs c
+  has_pair [] [] are c at = absurd (none_contained c at)
+  has_pair [] (q ∷ pairs) are c at = absurd are
+  has_pair (d ∷ cases) [] are c at = absurd are
+  has_pair (d ∷ cases) (q ∷ pairs) are c (zero, lt, at) = record { p = q; there = (0, omega arith, refl); own = subst (λ (x : Case). of x q) at are.0 }
+  has_pair (d ∷ cases) (q ∷ pairs) are c (suc k, lt, at) =
+      let o = has_pair cases pairs are.1 c (k, omega (arith, lt), at) in
+      record { p = o.p; there = (suc o.there.0, (let l = o.there.1 in omega (arith, l)), o.there.2); own = o.own }
+
+  pub record IsAtCase (cases : List Case) (k : ℕ) (p : Pair) : Type 0 where
+    pub c : Case
+    pub there : slice_get cases k ≡ Some c
+    pub own : of c p
+
+  pub at_case : (cases : List Case) (pairs : List Pair) → AreLinedUp of cases pairs → (k : ℕ) (p : Pair) → slice_get pairs k ≡ Some p → IsAtCase cases k p
+  at_case [] [] are k p at = absurd cc
+  at_case [] (q ∷ pairs) are k p at = absurd are
+  at_case (d ∷ cases) [] are k p at = absurd are
+  at_case (d ∷ cases) (q ∷ pairs) are zero p at = record { c = d; there = refl; own = subst (of d) (some_same q p at) are.0 }
+  at_case (d ∷ cases) (q ∷ pairs) are (suc k) p at = let o = at_case cases pairs are.1 k p at in record { c = o.c; there = o.there; own = o.own }
 
 -- ---- what comes of a pair
 
@@ -81,50 +105,89 @@ module _ (c : Compared) (w v : TheWorld) where
   pub first_divided : (old : Pair) (cases : List Case) (pairs : List Pair) → AreCases w old.frames old.first cases → AreByFirst cases old.second pairs → ArePairs c w v old pairs
   first_divided old cases pairs are by = record {
     hold = λ h p there frame port is within.
-        let e = by.each p there in
-        let inside : InFrames e.0.frames frame port = rw (sym e.2) within in
-        let at = h frame port is (are.within e.0 e.1 frame port inside) in
-        (rw e.3 (are.at e.0 e.1 frame port is inside at.0), copy_at v frame port old.second p.second e.4 at.1);
+        let e = of_case (IsByFirst old.second) cases pairs by p there in
+        let inside : InFrames e.c.frames frame port = rw (sym e.own.0) within in
+        let at = h frame port is (are.within e.c e.there frame port inside) in
+        (rw e.own.1 (are.at e.c e.there frame port is inside at.0), copy_at v frame port old.second p.second e.own.2 at.1);
     all = λ h frame port received within.
         let a = are.all frame port received.frame_is within in
-        let b = by.all a.0 a.1 in
-        inl (b.0, b.1, rw b.2 a.2);
+        let b = has_pair (IsByFirst old.second) cases pairs by a.0 a.1 in
+        inl (b.p, b.there, rw b.own.0 a.2);
   }
 
   pub second_divided : (old : Pair) (cases : List Case) (pairs : List Pair) → AreCases v old.frames old.second cases → AreBySecond old.first cases pairs → ArePairs c w v old pairs
   second_divided old cases pairs are by = record {
     hold = λ h p there frame port is within.
-        let e = by.each p there in
-        let inside : InFrames e.0.frames frame port = rw (sym e.2) within in
-        let at = h frame port is (are.within e.0 e.1 frame port inside) in
-        (copy_at w frame port old.first p.first e.4 at.0, rw e.3 (are.at e.0 e.1 frame port is inside at.1));
+        let e = of_case (IsBySecond old.first) cases pairs by p there in
+        let inside : InFrames e.c.frames frame port = rw (sym e.own.0) within in
+        let at = h frame port is (are.within e.c e.there frame port inside) in
+        (copy_at w frame port old.first p.first e.own.2 at.0, rw e.own.1 (are.at e.c e.there frame port is inside at.1));
     all = λ h frame port received within.
         let a = are.all frame port received.frame_is within in
-        let b = by.all a.0 a.1 in
-        inl (b.0, b.1, rw b.2 a.2);
+        let b = has_pair (IsBySecond old.first) cases pairs by a.0 a.1 in
+        inl (b.p, b.there, rw b.own.0 a.2);
   }
 
--- ---- later pairs
+-- ---- next pairs
 
-pub later_by_first : (old new : Pair) → IsOneLater old.first new.first → new.second.steps.items ≡ old.second.steps.items → steps_of_both old < steps_of_both new
-later_by_first old new later same = let as_many : length new.second.steps.items ≡ length old.second.steps.items = ap length same in omega (arith, later, as_many)
+copy_itself : (ts : List SymbolicTask) → AreTaskCopies ts ts
+copy_itself [] = tt
+copy_itself (t ∷ ts) = ((refl, refl), copy_itself ts)
 
-pub later_by_second : (old new : Pair) → new.first.steps.items ≡ old.first.steps.items → IsOneLater old.second new.second → steps_of_both old < steps_of_both new
-later_by_second old new same later = let as_many : length new.first.steps.items ≡ length old.first.steps.items = ap length same in omega (arith, later, as_many)
+pub state_itself : (s : SymbolicState) → IsStateCopy s s
+state_itself s = (copy_itself s.tasks.items, refl, refl)
 
-pub one_later : (old new : Pair) → steps_of_both old < steps_of_both new → AreLaterPairs old (new ∷ [])
-one_later old new later p there = by_place (Contains-push_cases [] new p there)
-  where
-    by_place : Contains [] p ⊎ (new ≡ p) → steps_of_both old < steps_of_both p
-    by_place (inl before) = absurd (none_contained p before)
-    by_place (inr same) = subst (λ (q : Pair). steps_of_both old < steps_of_both q) same later
+no_parts : (pairs : List Pair) → pairs ≡ pairs_of_parts (pairs ∷ [])
+no_parts pairs = sym (append-nil pairs)
 
-pub first_later : (old : Pair) (cases : List Case) (pairs : List Pair) → AreOneLater old.first cases → AreByFirst cases old.second pairs → AreLaterPairs old pairs
-first_later old cases pairs later by p there =
-    let e = by.each p there in
-    later_by_first old p (subst (λ (s : SymbolicState). IsOneLater old.first s) (sym e.3) (later e.0 e.1)) e.4.2
+one_part : (P : List Pair → Type 0) (pairs part : List Pair) → P pairs → Contains (pairs ∷ []) part → P part
+one_part P pairs part h (zero, lt, at) = subst P at h
+one_part P pairs part h (suc k, lt, at) = absurd (omega (arith, lt))
 
-pub second_later : (old : Pair) (cases : List Case) (pairs : List Pair) → AreOneLater old.second cases → AreBySecond old.first cases pairs → AreLaterPairs old pairs
-second_later old cases pairs later by p there =
-    let e = by.each p there in
-    later_by_second old p e.4.2 (subst (λ (s : SymbolicState). IsOneLater old.second s) (sym e.3) (later e.0 e.1))
+same_place : {X : Type 0} (x : X) (i j : ℕ) (a b : X) → slice_get (x ∷ []) i ≡ Some a → slice_get (x ∷ []) j ≡ Some b → i ≡ j
+same_place x zero zero a b at_i at_j = refl
+same_place x zero (suc j) a b at_i at_j = absurd cc
+same_place x (suc i) j a b at_i at_j = absurd cc
+
+module _ (w v : TheWorld) (old : Pair) where
+  -- no two took the same steps
+  pub in_one_part : (pairs : List Pair) → ((p : Pair) → Contains pairs p → IsNextPair w v old p) → ArePairsApart pairs → AreNextPairs w v old pairs
+  in_one_part pairs each apart = record { each = each; parts = pairs ∷ []; all = no_parts pairs; apart = λ part there. one_part ArePairsApart pairs part apart there; few = inl (omega arith) }
+
+  pub one_next : (new : Pair) → IsNextPair w v old new → AreNextPairs w v old (new ∷ [])
+  one_next new next = in_one_part (new ∷ []) each apart
+    where
+      each : (p : Pair) → Contains (new ∷ []) p → IsNextPair w v old p
+      each p (zero, lt, at) = subst (IsNextPair w v old) at next
+      each p (suc k, lt, at) = absurd (omega (arith, lt))
+
+      apart : ArePairsApart (new ∷ [])
+      apart i j p q at_i at_j first second = same_place new i j p q at_i at_j
+
+  pub each_by_first : (cases : List Case) (pairs : List Pair) → AreNextStates w old.first cases → AreByFirst cases old.second pairs → (p : Pair) → Contains pairs p → IsNextPair w v old p
+  each_by_first cases pairs next by p there =
+      let o = of_case (IsByFirst old.second) cases pairs by p there in
+      IsNextPair.first (subst (λ (s : SymbolicState). IsNextState w old.first s) (sym o.own.1) (next.each o.c o.there)) o.own.2
+
+  pub apart_by_first : (cases : List Case) (pairs : List Pair) → AreNextStates w old.first cases → AreByFirst cases old.second pairs → ArePairsApart pairs
+  apart_by_first cases pairs next by i j p q at_i at_j first second =
+      let x = at_case (IsByFirst old.second) cases pairs by i p at_i in
+      let y = at_case (IsByFirst old.second) cases pairs by j q at_j in
+      next.apart i j x.c y.c x.there y.there (ap (λ (s : SymbolicState). s.steps.items) (sym x.own.1) ∙ first ∙ ap (λ (s : SymbolicState). s.steps.items) y.own.1)
+
+  pub first_next : (cases : List Case) (pairs : List Pair) → AreNextStates w old.first cases → AreByFirst cases old.second pairs → AreNextPairs w v old pairs
+  first_next cases pairs next by = in_one_part pairs (each_by_first cases pairs next by) (apart_by_first cases pairs next by)
+
+  pub second_next : (cases : List Case) (pairs : List Pair) → AreNextStates v old.second cases → AreBySecond old.first cases pairs → AreNextPairs w v old pairs
+  second_next cases pairs next by = in_one_part pairs each apart
+    where
+      each : (p : Pair) → Contains pairs p → IsNextPair w v old p
+      each p there =
+          let o = of_case (IsBySecond old.first) cases pairs by p there in
+          IsNextPair.second o.own.2 (subst (λ (s : SymbolicState). IsNextState v old.second s) (sym o.own.1) (next.each o.c o.there))
+
+      apart : ArePairsApart pairs
+      apart i j p q at_i at_j first second =
+          let x = at_case (IsBySecond old.first) cases pairs by i p at_i in
+          let y = at_case (IsBySecond old.first) cases pairs by j q at_j in
+          next.apart i j x.c y.c x.there y.there (ap (λ (s : SymbolicState). s.steps.items) (sym x.own.1) ∙ second ∙ ap (λ (s : SymbolicState). s.steps.items) y.own.1)

@@ -1,5 +1,5 @@
 -- For contracts inside this crate: frames that match one of the changed entries of a table, and what both switches do with the others (OpenFlow 1.3.5, 5.3).
-use Rattle.std.specs.Prelude.{◌≡◌, ℕ, ◌<◌, ◌≤◌, ◌-◌, ◌++◌, ◌⊎◌, List, [], ◌∷◌, Option, Some, ⊤, true, slice_get, drop, Bool}
+use Rattle.std.specs.Prelude.{◌≡◌, ℕ, ◌<◌, ◌≤◌, ◌-◌, ◌++◌, ◌⊎◌, List, [], ◌∷◌, Option, Some, ⊤, true, length, slice_get, drop, Bool}
 use Rattle.std.specs.Global.{Vec}
 use Rattle.std.specs.List.{Contains}
 use Rattle.of_layers.specs.declared.field.Field.{Field}
@@ -20,13 +20,13 @@ use Rattle.of_symbolic_run.specs.declared.state.SymbolicState.{SymbolicState}
 use Rattle.of_symbolic_run.specs.declared.state.SymbolicTask.{SymbolicTask}
 use Rattle.of_symbolic_run.specs.Cases.{AreCases}
 use Rattle.of_symbolic_run.specs.FrameSets.{InFrames}
-use Rattle.of_symbolic_run.specs.Later.{AreOneLater}
+use Rattle.of_symbolic_run.specs.NextStates.{AreNextStates}
 use Rattle.of_symbolic_run.specs.States.{AreTaskCopies, answer_to_tasks}
 use Rattle.of_symbolic_run.specs.declared.advance.Advance.TheVariants.{Lookup}
 use Rattle.of_diff.specs.declared.agreement.Agreement.{Agreement}
 use Rattle.of_alike.specs.Agreeing.{AgreeFrom, AreNoTable, StayFrom}
+use Rattle.of_diff.specs.NextPairs.{ArePairsApart, IsNextPair, pairs_of_parts}
 use Rattle.of_diff.specs.Pairs.{AreByFirst, AreStatesOfRuns, InPairs}
-use Rattle.of_diff.specs.Reasons.{AreLaterPairs}
 use Rattle.of_alike.specs.SameTables.{AreChanged}
 use Rattle.of_diff.specs.declared.pair.Pair.{Pair}
 
@@ -55,11 +55,12 @@ AreMarkedAskedIn asked l metadata flows marks = (i : ℕ) (e : FlowEntry) → sl
 
 -- ---- frames
 
--- each frame that conditions match is in one of these sets, and none has other frames
+-- each frame that conditions match is in one of these sets, and none has other frames; there are no more sets than lists of conditions
 pub record AreMatchedSets (frames : FrameSet) (asked : List (Vec MatchField)) (sets : List FrameSet) : Type 0 where
   pub within : (s : FrameSet) → Contains sets s → (frame : List ℕ) (port : ℕ) → InFrames s frame port → InFrames frames frame port
   pub all : (frame : List ℕ) (port : ℕ) → IsFrame frame → InFrames frames frame port → MatchedBySome asked (received_fields frame port) →
       (s : FrameSet) × Contains sets s × InFrames s frame port
+  pub few : length sets ≤ length asked
 
 -- one set more, unless it has no regions
 abbrev pub AddsSet : List FrameSet → FrameSet → List FrameSet → Type 0
@@ -87,13 +88,17 @@ pub record AddsPairs (w : TheWorld) (frames : FrameSet) (first second : Symbolic
   pub cases : List Case
   pub more : List Pair
   pub are : AreCases w frames first cases
-  pub later : AreOneLater first cases
+  pub next : AreNextStates w first cases
   pub by : AreByFirst cases second more
   pub added : new ≡ old ++ more
 
--- each frame of these sets is in one of the pairs, whose states are those of its frames
+-- each frame of these sets is in one of the pairs, whose states are those of its frames; those of a set took different steps
 pub record ArePairsOf (w v : TheWorld) (old : Pair) (sets : List FrameSet) (pairs : List Pair) : Type 0 where
   pub hold : AreStatesOfRuns w v old → ((s : FrameSet) → Contains sets s → (frame : List ℕ) (port : ℕ) → InFrames s frame port → InFrames old.frames frame port) →
       (p : Pair) → Contains pairs p → AreStatesOfRuns w v p
   pub all : (s : FrameSet) → Contains sets s → (frame : List ℕ) (port : ℕ) → IsFrame frame → InFrames s frame port → InPairs pairs frame port
-  pub later : AreLaterPairs old pairs
+  pub next : (p : Pair) → Contains pairs p → IsNextPair w v old p
+  pub parts : List (List Pair)
+  pub parts_are : pairs ≡ pairs_of_parts parts
+  pub apart : (part : List Pair) → Contains parts part → ArePairsApart part
+  pub few : length parts ≤ length sets

@@ -1,5 +1,6 @@
 pub mod Differences
 pub mod Pairs
+pub mod NextPairs
 pub mod Reasons
 pub mod Comparing
 pub mod SoFar

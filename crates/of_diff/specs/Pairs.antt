@@ -1,5 +1,5 @@
 -- For contracts inside this crate: the states of both runs for some frames.
-use Rattle.std.specs.Prelude.{◌≡◌, ℕ, ◌⊎◌, List}
+use Rattle.std.specs.Prelude.{◌≡◌, ℕ, ◌⊎◌, List, [], ◌∷◌, ⊤}
 use Rattle.std.specs.List.{Contains}
 use Rattle.of_rewrite.specs.Frames.{IsFrame}
 use Rattle.of_machine.specs.TheWorld.{TheWorld}
@@ -22,15 +22,26 @@ AreStatesOfRuns w v p = (frame : List ℕ) (port : ℕ) → IsFrame frame → In
 abbrev pub InPairs : List Pair → List ℕ → ℕ → Type 0
 InPairs pairs frame port = (p : Pair) × Contains pairs p × InFrames p.frames frame port
 
+-- one pair for each case, in order
+abbrev pub AreLinedUp : (Case → Pair → Type 0) → List Case → List Pair → Type 0
+AreLinedUp of [] [] = ⊤
+AreLinedUp of [] (p ∷ pairs) = ⊥
+AreLinedUp of (c ∷ cases) [] = ⊥
+AreLinedUp of (c ∷ cases) (p ∷ pairs) = of c p × AreLinedUp of cases pairs
+
 -- the cases of the first run, each with the state of the second
-pub record AreByFirst (cases : List Case) (second : SymbolicState) (pairs : List Pair) : Type 0 where
-  pub each : (p : Pair) → Contains pairs p → (c : Case) × Contains cases c × (p.frames ≡ c.frames) × (p.first ≡ c.state) × IsStateCopy second p.second
-  pub all : (c : Case) → Contains cases c → (p : Pair) × Contains pairs p × (p.frames ≡ c.frames)
+abbrev pub IsByFirst : SymbolicState → Case → Pair → Type 0
+IsByFirst second c p = (p.frames ≡ c.frames) × (p.first ≡ c.state) × IsStateCopy second p.second
+
+abbrev pub AreByFirst : List Case → SymbolicState → List Pair → Type 0
+AreByFirst cases second pairs = AreLinedUp (IsByFirst second) cases pairs
 
 -- and those of the second, each with the state of the first
-pub record AreBySecond (first : SymbolicState) (cases : List Case) (pairs : List Pair) : Type 0 where
-  pub each : (p : Pair) → Contains pairs p → (c : Case) × Contains cases c × (p.frames ≡ c.frames) × (p.second ≡ c.state) × IsStateCopy first p.first
-  pub all : (c : Case) → Contains cases c → (p : Pair) × Contains pairs p × (p.frames ≡ c.frames)
+abbrev pub IsBySecond : SymbolicState → Case → Pair → Type 0
+IsBySecond first c p = (p.frames ≡ c.frames) × (p.second ≡ c.state) × IsStateCopy first p.first
+
+abbrev pub AreBySecond : SymbolicState → List Case → List Pair → Type 0
+AreBySecond first cases pairs = AreLinedUp (IsBySecond first) cases pairs
 
 -- each frame of a pair is in one of these, whose states are those of its frames, or is treated alike
 pub record ArePairs (c : Compared) (w v : TheWorld) (old : Pair) (pairs : List Pair) : Type 0 where

@@ -1,14 +1,16 @@
 -- WHY FRAMES ARE UNDECIDED: the runs of all frames on both switches take steps together, and a set of frames may be left (OpenFlow 1.3.5, 5.1).
-use Rattle.std.specs.Prelude.{◌≡◌, ◌≢◌, ◌<◌, ◌≤◌, ◌+◌, ◌⊎◌, ◌++◌, ℕ, zero, suc, List, [], ◌∷◌, length}
+use Rattle.std.specs.Prelude.{◌≡◌, ◌≢◌, ◌≤◌, ◌⊎◌, ◌++◌, ℕ, zero, suc, List, [], ◌∷◌}
 use Rattle.std.specs.List.{Contains}
 use Rattle.of_machine.specs.TheWorld.{TheWorld}
 use Rattle.of_symbolic_run.specs.declared.frame_set.FrameSet.{FrameSet}
 use Rattle.of_symbolic_run.specs.FrameSets.{InFrames}
+use Rattle.of_symbolic_run.specs.NextStates.{IsFirstState}
 use Rattle.of_symbolic_run.specs.Received.{IsReceivedAt}
 use Rattle.of_symbolic_run.specs.Sides.{IsUnknownLookup}
 use Rattle.of_symbolic_run.specs.Unfound.{FindsNone}
 use Rattle.of_alike.specs.Agreeing.{AgreeFrom, GoOnAlike}
 use Rattle.of_diff.specs.Differences.{IsDifference, IsTreatedAlike}
+use Rattle.of_diff.specs.NextPairs.{AreNextPairs}
 use Rattle.of_diff.specs.Pairs.{ArePairs, AreStatesOfRuns}
 use Rattle.of_alike.specs.declared.alike.Compared.{Compared}
 use Rattle.of_diff.specs.declared.difference.Difference.{Difference}
@@ -49,24 +51,17 @@ IsReasonOfPair c w v steps taken p why.OtherActions = AreSettled w v p × IsTrie
 
 -- ---- steps of all runs together
 
--- the beginning: one set of all frames that are received, with states that took no step
+-- the beginning: one set of all frames that are received, with the first state of both runs
 pub record IsFirstPair (w v : TheWorld) (p : Pair) : Type 0 where
   pub runs : AreStatesOfRuns w v p
-  pub first : p.first.steps.items ≡ []
-  pub second : p.second.steps.items ≡ []
+  pub first : IsFirstState p.first
+  pub second : IsFirstState p.second
   pub all : (frame : List ℕ) (port : ℕ) → IsReceivedAt w frame port → InFrames p.frames frame port
 
-abbrev pub steps_of_both : Pair → ℕ
-steps_of_both p = length p.first.steps.items + length p.second.steps.items
-
--- in each pair one of the two runs took one more step, or both did
-abbrev pub AreLaterPairs : Pair → List Pair → Type 0
-AreLaterPairs old pairs = (p : Pair) → Contains pairs p → steps_of_both old < steps_of_both p
-
--- ONE STEP: a run of the last pair takes a step, or both do, which may divide its frames, and frames that are treated alike may be left out; or the pair is
--- done with: all its frames are treated alike, or one of them shows a difference, or they are undecided for a reason
+-- ONE STEP: a run of the last pair takes a step, or both do, which may divide its frames: the next pairs take its place, and frames that are treated alike
+-- may be left out. Or the pair is done with: all its frames are treated alike, or one of them shows a difference, or they are undecided for a reason
 pub data IsPairStep (c : Compared) (w v : TheWorld) (steps : ℕ) (old new : List Pair) : Type 0 where
-  moved : (others : List Pair) (p : Pair) (pairs : List Pair) → old ≡ others ++ p ∷ [] → new ≡ others ++ pairs → ArePairs c w v p pairs → AreLaterPairs p pairs → IsPairStep c w v steps old new
+  moved : (others : List Pair) (p : Pair) (pairs : List Pair) → old ≡ others ++ p ∷ [] → new ≡ others ++ pairs → ArePairs c w v p pairs → AreNextPairs w v p pairs → IsPairStep c w v steps old new
   alike : (p : Pair) → old ≡ new ++ p ∷ [] → ((frame : List ℕ) (port : ℕ) → IsReceivedAt w frame port → InFrames p.frames frame port → IsTreatedAlike c w v frame port) → IsPairStep c w v steps old new
   differs : (p : Pair) (d : Difference) → old ≡ new ++ p ∷ [] → IsDifference c w v d → d.sets.items ≡ p.frames ∷ [] → IsPairStep c w v steps old new
   undecided : (p : Pair) (u : Undecided) → old ≡ new ++ p ∷ [] → u.frames ≡ p.frames → ((taken : ℕ) → IsReasonOfPair c w v steps taken p u.why) → IsPairStep c w v steps old new

@@ -5,8 +5,9 @@ use Rattle.of_machine.specs.TheWorld.{TheWorld}
 use Rattle.of_symbolic_run.specs.FrameSets.{InFrames}
 use Rattle.of_symbolic_run.specs.Received.{IsReceivedAt}
 use Rattle.of_diff.specs.Differences.{InDifferences, InUndecided, IsDifference, IsTreatedAlike}
+use Rattle.of_diff.specs.NextPairs.{AreNextPairs}
 use Rattle.of_diff.specs.Pairs.{ArePairs, AreStatesOfRuns, InPairs}
-use Rattle.of_diff.specs.Reasons.{AreLaterPairs, IsReasonOfPair, IsUndecidedSet}
+use Rattle.of_diff.specs.Reasons.{IsReasonOfPair, IsUndecidedSet}
 use Rattle.of_alike.specs.declared.alike.Compared.{Compared}
 use Rattle.of_diff.specs.declared.difference.Difference.{Difference}
 use Rattle.of_diff.specs.declared.difference.Differences.{Differences}
@@ -17,7 +18,7 @@ use Rattle.of_diff.specs.declared.pair.Next.TheVariants as next
 
 -- what comes of a pair
 abbrev pub NextIs : Compared → TheWorld → TheWorld → ℕ → Pair → Next → Type 0
-NextIs c w v steps old (next.Pairs pairs) = ArePairs c w v old pairs.items × AreLaterPairs old pairs.items
+NextIs c w v steps old (next.Pairs pairs) = ArePairs c w v old pairs.items × AreNextPairs w v old pairs.items
 NextIs c w v steps old next.Alike = AreStatesOfRuns w v old → (frame : List ℕ) (port : ℕ) → IsReceivedAt w frame port → InFrames old.frames frame port → IsTreatedAlike c w v frame port
 NextIs c w v steps old (next.Differs d) = IsDifference c w v d × (d.sets.items ≡ old.frames ∷ [])
 NextIs c w v steps old (next.Undecided u) = (u.frames ≡ old.frames) × ((taken : ℕ) → IsReasonOfPair c w v steps taken old u.why)

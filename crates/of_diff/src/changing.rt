@@ -1,5 +1,5 @@
 //! A lookup in a table of which some entries changed, if both switches do the same after it.
-ghost use Rattle.std.specs.Prelude.{◌≡◌, ◌<◌, ◌≤◌, ◌-◌, IfOk, IfSome, IsTrue, OnOk, List, true};
+ghost use Rattle.std.specs.Prelude.{◌≡◌, ◌<◌, ◌≤◌, ◌+◌, ◌-◌, IfOk, IfSome, IsTrue, OnOk, List, length, true};
 ghost use Rattle.std.specs.Global.{Vec as AVec};
 ghost use Rattle.std.specs.List.{Contains};
 ghost use Rattle.of_actions.specs.declared.action.Action.{Action};
@@ -17,8 +17,8 @@ ghost use Rattle.of_table.specs.Entries.{entry_of, flows_of};
 ghost use Rattle.of_alike.specs.declared.alike.Compared.{Compared};
 ghost use Rattle.of_diff.specs.Changing.{AddsPairs, AddsSet, AreAtTableBefore, AreMarkedAskedIn, AreMatchedSets, ArePairsOf, IsAgreement, IsAskedIn, entries_in};
 ghost use Rattle.of_alike.specs.Emitting.{LeaveAlike};
+ghost use Rattle.of_diff.specs.NextPairs.{AreNextPairs};
 ghost use Rattle.of_diff.specs.Pairs.{ArePairs};
-ghost use Rattle.of_diff.specs.Reasons.{AreLaterPairs};
 ghost use Rattle.of_alike.specs.SamePorts.{SamePorts};
 
 use crate::agreement::Agreement;
@@ -43,6 +43,7 @@ fn push_asked(
         IsAskedIn asked.new.items l metadata (entry_of entry.now)) }
     ensures more { OnOk result ((m : AVec AMatchField) → Contains asked.old.items m → Contains asked.new.items m) }
     ensures conditions { OnOk result (AreListsOfConditions asked.old.items → AreListsOfConditions asked.new.items) }
+    ensures few { OnOk result (length asked.new.items ≤ length asked.old.items + 1) }
 {
     pulled_matches_are_of_frames();
     match pull(alloc, overlay, metadata, &entry.flow.fields)? {
@@ -68,6 +69,7 @@ fn push_marked(
         mark ≡ true → IsAskedIn asked.new.items l metadata (entry_of entry.now)) }
     ensures more { OnOk result ((m : AVec AMatchField) → Contains asked.old.items m → Contains asked.new.items m) }
     ensures conditions { OnOk result (AreListsOfConditions asked.old.items → AreListsOfConditions asked.new.items) }
+    ensures few { OnOk result (length asked.new.items ≤ length asked.old.items + 1) }
 {
     if !mark {
         return Ok(true);
@@ -89,6 +91,7 @@ fn push_all_asked(
         AreMarkedAskedIn asked.new.items l metadata (flows_of entries.entry) marks.now) }
     ensures more { OnOk result ((m : AVec AMatchField) → Contains asked.old.items m → Contains asked.new.items m) }
     ensures conditions { OnOk result (AreListsOfConditions asked.old.items → AreListsOfConditions asked.new.items) }
+    ensures few { IfOk result (λ known. known ≡ true → length asked.new.items ≤ length asked.old.items + length (flows_of entries.entry)) }
 {
     let mut left = marks.iter();
     for entry in entries {
@@ -189,6 +192,8 @@ fn changed_conditions<L: Lookup>(
     ensures second { IfOk result (λ found. IfSome found (λ asked. AreMarkedAskedIn asked.items packet.now.rewrites packet.now.metadata
         (entries_in (forwarding_of second.now) (agreement.now.from - 1)) agreement.now.changed.b.items)) }
     ensures conditions { IfOk result (λ found. IfSome found (λ asked. AreListsOfConditions asked.items)) }
+    ensures few { IfOk result (λ found. IfSome found (λ asked. length asked.items ≤
+        length (entries_in (forwarding_of first.now) (agreement.now.from - 1)) + length (entries_in (forwarding_of second.now) (agreement.now.from - 1)))) }
 {
     let table = agreement.from - 1;
     packet.rewrites.known();
@@ -236,7 +241,8 @@ pub fn changed_pairs<'a, L: Lookup>(
     ensures pairs { IfOk result (λ found. IfSome found (λ pairs. (c : Compared) →
         LeaveAlike c (world_of (forwarding_of first.now)).ports pair.now.frames pair.now.first.emitted.items pair.now.second.emitted.items →
         ArePairs c (world_of (forwarding_of first.now)) (world_of (forwarding_of second.now)) pair.now pairs.items)) }
-    ensures later { IfOk result (λ found. IfSome found (λ pairs. AreLaterPairs pair.now pairs.items)) }
+    ensures next { IfOk result (λ found. IfSome found (λ pairs.
+        AreNextPairs (world_of (forwarding_of first.now)) (world_of (forwarding_of second.now)) pair.now pairs.items)) }
 {
     first.known_world();
     second.known_world();

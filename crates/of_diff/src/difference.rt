@@ -17,7 +17,7 @@ pub struct Difference {
     /// Sets of frames, never none: one has the frame that was run. In each set something else leaves at the same place for some frame, and the runs of
     /// all sets emitted the same until they were done or went on alike. Other frames of a set may be treated alike.
     pub sets: Vec<FrameSet>,
-    /// What the runs of these sets emitted.
+    /// What the runs of these sets emitted. No clause says so: it only decides which sets become one difference.
     pub emitted: EmittedByBoth,
     /// The frame that was run, and the port at which it is received.
     pub frame: Vec<u8>,

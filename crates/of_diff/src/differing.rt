@@ -4,6 +4,7 @@ ghost use Rattle.of_datapath.specs.Datapath.{world_of};
 ghost use Rattle.of_datapath.specs.Numbers.{forwarding_of};
 ghost use Rattle.of_machine.specs.TheWorld.{TheWorld};
 ghost use Rattle.of_symbolic_run.specs.FrameSets.{InFrames};
+ghost use Rattle.of_symbolic_run.specs.NextStates.{IsFirstState};
 ghost use Rattle.of_alike.specs.declared.alike.Compared.{Compared as WhatIsCompared};
 ghost use Rattle.of_diff.specs.declared.pair.Pair.{Pair as ThePair};
 ghost use Rattle.of_diff.specs.Comparing.{AreDifferences};
@@ -68,8 +69,8 @@ fn give_up<'a>(pairs: Vec<Pair<'a>>, so_far: &mut Differences) -> Result<(), All
 // The pair before any step.
 fn first_pair<'a, L: Lookup>(alloc: Global, datapath: &Datapath<L>) -> Result<Pair<'a>, AllocError>
     ensures holds { IfOk result (λ pair. (w v : TheWorld) → AreStatesOfRuns w v pair) }
-    ensures first { IfOk result (λ pair. pair.first.steps.items ≡ []) }
-    ensures second { IfOk result (λ pair. pair.second.steps.items ≡ []) }
+    ensures first { IfOk result (λ pair. IsFirstState pair.first) }
+    ensures second { IfOk result (λ pair. IsFirstState pair.second) }
     ensures all { IfOk result (λ pair. (frame : List ℕ) (port : ℕ) →
         IsReceivedAt (world_of (forwarding_of datapath.now)) frame port → InFrames pair.frames frame port) }
 {

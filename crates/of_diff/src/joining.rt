@@ -4,8 +4,8 @@ ghost use Rattle.of_datapath.specs.Datapath.{world_of};
 ghost use Rattle.of_datapath.specs.Numbers.{forwarding_of};
 ghost use Rattle.of_alike.specs.declared.alike.Compared.{Compared};
 ghost use Rattle.of_diff.specs.Changing.{entries_in};
+ghost use Rattle.of_diff.specs.NextPairs.{AreNextPairs};
 ghost use Rattle.of_diff.specs.Pairs.{ArePairs, pair_of_case};
-ghost use Rattle.of_diff.specs.Reasons.{AreLaterPairs};
 ghost use Rattle.of_alike.specs.SamePorts.{SamePorts};
 ghost use Rattle.of_alike.specs.SameTables.{SameTables};
 ghost use Rattle.of_symbolic_run.specs.States.{AreTaskCopies, answer_to_tasks};
@@ -47,7 +47,8 @@ pub fn joint_pairs<'a, L: Lookup>(
     requires entries { SameTables (entries_in (forwarding_of first.now) table) (entries_in (forwarding_of second.now) table) }
     ensures pairs { IfOk result (λ found. IfSome found (λ pairs. (c : Compared) →
         ArePairs c (world_of (forwarding_of first.now)) (world_of (forwarding_of second.now)) pair.now pairs.items)) }
-    ensures later { IfOk result (λ found. IfSome found (λ pairs. AreLaterPairs pair.now pairs.items)) }
+    ensures next { IfOk result (λ found. IfSome found (λ pairs.
+        AreNextPairs (world_of (forwarding_of first.now)) (world_of (forwarding_of second.now)) pair.now pairs.items)) }
 {
     second.known_world();
     let entries = first.entries(table);

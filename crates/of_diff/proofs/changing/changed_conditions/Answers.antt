@@ -1,4 +1,4 @@
-use Rattle.std.proofs.Common.{ap, ◌∙◌, List, subst, arith}
+use Rattle.std.proofs.Common.{ap, ◌∙◌, List, length, subst, arith}
 use Rattle.std.specs.Prelude.{slice_get, Bool}
 use Rattle.std.specs.Global.{Vec}
 use Rattle.std.specs.List.{Contains}
@@ -19,3 +19,9 @@ returns-clause-second g c = λ i e at mark.
 pub returns-clause-conditions : goal.returns-clause-conditions
 returns-clause-conditions g c =
     c.in_ok-push_all_asked-2.ensures.conditions (c.in_ok-push_all_asked.ensures.conditions (λ m there. absurd (let none = subst (λ (l : List (Vec MatchField)). Contains l m) c.new-asked.ensures.items there in let lt = none.1 in omega (arith, lt))))
+
+pub returns-clause-few : goal.returns-clause-few
+returns-clause-few g c =
+    let one = c.in_ok-push_all_asked.ensures.few c.if-not-branch.false in
+    let two = c.in_ok-push_all_asked-2.ensures.few c.if-not-branch-2.false in
+    omega (arith, one, two, ap length c.entries-entries.ensures.flows, ap length c.entries-entries-2.ensures.flows, ap length c.new-asked.ensures.items)

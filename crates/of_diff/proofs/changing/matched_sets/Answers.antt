@@ -1,7 +1,7 @@
 use Rattle.std.proofs.Common.{List, subst, sym}
 use Rattle.of_oxm.specs.declared.match_field.MatchField.{MatchField}
 use Rattle.of_symbolic_run.specs.FrameSets.{AreFramesMatching}
-use Rattle.of_diff.proofs.ChangingLemmas.{sets_end, sets_more}
+use Rattle.of_diff.proofs.ChangingLemmas.{sets_begin, sets_end, sets_more}
 use Rattle.of_diff.proofs.changing.matched_sets.Goals as goal
 
 pub matching-requires : goal.matching-requires
@@ -9,6 +9,9 @@ matching-requires c = rw c.deref.ensures.value (c.requires c.fields-item.result 
 
 pub without-requires : goal.without-requires
 without-requires c = c.requires c.fields-item.result (c.loop-fields.fields-index, c.loop-fields-test.true, sym c.fields-item.is)
+
+pub loop-fields-init : goal.loop-fields-init
+loop-fields-init c = sets_begin c.args.frames c.args.asked.now c.new-sets.result.items c.new-sets.ensures.items
 
 pub loop-fields-preserved : goal.loop-fields-preserved
 loop-fields-preserved c =

@@ -1,5 +1,6 @@
-use Rattle.std.proofs.Common.{List, ◌∷◌, Bool, subst, sym}
+use Rattle.std.proofs.Common.{List, ◌∷◌, Bool, ap, arith, length, subst, sym}
 use Rattle.std.specs.Slice.Iter.{iter_rest}
+use Rattle.std.proofs.lemmas.List.{length-map}
 use Rattle.of_table.specs.declared.entry.Entry.{Entry}
 use Rattle.of_table.specs.Entries.{entry_of, flows_of}
 use Rattle.of_diff.specs.Changing.{AreMarkedAskedIn}
@@ -14,6 +15,7 @@ loop-entry-init c = record {
       (subst (λ (ms : List Bool). AreMarkedAskedIn final a c.args.metadata (flows_of c.into_iter-entry-iterator.result) ms) c.iter-left.ensures.rest h);
   more = λ m there. there;
   conditions = λ h. h;
+  few = (let same = ap length c.into_iter-entry-iterator.ensures.into_iter_gives in omega (arith, same));
 }
 
 pub returns-in_default-clause-asked : goal.returns-in_default-clause-asked
@@ -39,9 +41,16 @@ loop-entry-preserved c =
           (one_asked final a c.args.metadata e flows mark marks (λ on. asked_more asked final a c.args.metadata e more (c.in_ok-push_marked.ensures.asked c.if-not-branch.false a over rewriting on)) h)));
       more = λ m there. c.in_ok-push_marked.ensures.more m (c.loop-entry.invariant.more m there);
       conditions = λ old. c.in_ok-push_marked.ensures.conditions (c.loop-entry.invariant.conditions old);
+      few = (let left = ap length c.in-Some.ensures.steps in omega (arith, c.loop-entry.invariant.few, c.in_ok-push_marked.ensures.few, left));
     }
 
 pub returns-clause-asked : goal.returns-clause-asked
 returns-clause-asked c = λ known a over rewriting.
     c.loop-entry.invariant.whole c.loop-entry.asked.items (λ m there. there) a over rewriting
     (subst (λ (es : List Entry). AreMarkedAskedIn c.loop-entry.asked.items a c.args.metadata (flows_of es) (iter_rest c.loop-entry.left)) (sym c.in-None.ensures.steps.0) (no_entries_asked c.loop-entry.asked.items a c.args.metadata (iter_rest c.loop-entry.left)))
+
+pub returns-in_default-clause-few : goal.returns-in_default-clause-few
+returns-in_default-clause-few c known = omega (arith, c.loop-entry.invariant.few, length-map c.args.entries entry_of)
+
+pub returns-clause-few : goal.returns-clause-few
+returns-clause-few c known = omega (arith, c.loop-entry.invariant.few, length-map c.args.entries entry_of)

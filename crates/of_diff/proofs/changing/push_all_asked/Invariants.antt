@@ -1,6 +1,6 @@
 use Rattle.std.specs.Global.{Vec}
 use Rattle.std.specs.Slice.Iter.{iter_rest}
-use Rattle.std.proofs.Common.{List}
+use Rattle.std.proofs.Common.{◌≤◌, ◌+◌, List, length}
 use Rattle.of_actions.specs.declared.action.Action.{Action}
 use Rattle.of_oxm.specs.declared.match_field.MatchField.{MatchField}
 use Rattle.of_symbolic.specs.Actions.{AreRewriting}
@@ -16,4 +16,5 @@ invariant-loop-entry l = record {
   whole : (final : List (Vec MatchField)) → HasAll l.asked.items final → (a : List Action) → IsOverlay l.overlay a → AreRewriting a → AreMarkedAskedIn final a l.metadata (flows_of l.entry-iterator) (iter_rest l.left) → AreMarkedAskedIn final a l.metadata (flows_of l.fn.entries) l.marks;
   more : HasAll l.fn.asked.items l.asked.items;
   conditions : AreListsOfConditions l.fn.asked.items → AreListsOfConditions l.asked.items;
+  few : length l.asked.items + length l.entry-iterator ≤ length l.fn.asked.items + length l.fn.entries;
 }

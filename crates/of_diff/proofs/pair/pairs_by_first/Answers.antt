@@ -1,6 +1,7 @@
 use Rattle.std.proofs.Common.{refl}
-use Rattle.of_diff.proofs.PairLemmas.{first_more}
+use Rattle.of_diff.specs.Pairs.{IsByFirst}
+use Rattle.of_diff.proofs.PairLemmas.{more_lined_up}
 use Rattle.of_diff.proofs.pair.pairs_by_first.Goals as goal
 
 pub loop-case-preserved : goal.loop-case-preserved
-loop-case-preserved c = rw c.in_ok-push.ensures.items (first_more c.loop-case.yielded c.args.second.now c.loop-case.pairs.items c.in-Some.case _ refl refl c.in_ok-copy.ensures.same c.loop-case.invariant)
+loop-case-preserved c = rw c.in_ok-push.ensures.items (more_lined_up (IsByFirst c.args.second.now) c.loop-case.yielded c.loop-case.pairs.items c.in-Some.case _ c.loop-case.invariant (refl, refl, c.in_ok-copy.ensures.same))

@@ -7,5 +7,5 @@ leave_alike-requires g c = rw c.port_list.ensures c.known_world.ensures.rising
 pub returns-in-Some : goal.returns-in-Some
 returns-in-Some g c = λ steps. (
   (rw c.in-Some.is at c.in_ok-pairs.ensures.pairs) c.args.compared (rw (c.port_list.ensures, c.deref.ensures.value, c.deref-then-are_at_table_before.ensures.value) at (c.if-leave_alike.ensures refl)),
-  rw c.in-Some.is at c.in_ok-pairs.ensures.later,
+  rw c.in-Some.is at c.in_ok-pairs.ensures.next,
 )
