@@ -36,9 +36,12 @@ missing_lines ports = flat_map missing_line ports
 
 -- ---- a miss_send_len that is not that of the other switch (7.3.2): if the packets to the controller are compared
 
+abbrev pub unless_equal : ℕ → ℕ → Option Limits
+unless_equal first second = if first == second then None else Some (record { first = first; second = second })
+
 abbrev pub other_limits : Compared → ℕ → ℕ → Option Limits
 other_limits Frames first second = None
-other_limits All first second = if first == second then None else Some (record { first = first; second = second })
+other_limits All first second = unless_equal first second
 
 unfoldable pub limits_words : Limits → List ℕ
 limits_words l =
@@ -147,9 +150,12 @@ abbrev pub are_same_with : List ℕ → Option Limits → Differences → Bool
 are_same_with missing limits ds = if is_reserved missing limits then false else are_same ds
 
 -- the switches treat all frames alike, as far as this is compared
+abbrev pub same_unless : Option Limits → List ℕ
+same_unless None = codes "same: all frames are treated alike"
+same_unless (Some limits) = codes "no difference, except perhaps in how much of a frame a PACKET_IN has"
+
 abbrev pub same_words : List ℕ → Option Limits → List ℕ
-same_words [] None = codes "same: all frames are treated alike"
-same_words [] (Some limits) = codes "no difference, except perhaps in how much of a frame a PACKET_IN has"
+same_words [] limits = same_unless limits
 same_words (port ∷ ports) limits = codes "no difference, as long as the switches do not have these ports"
 
 unfoldable pub diff_summary : List ℕ → Option Limits → Differences → List ℕ

@@ -1,6 +1,6 @@
 //! What may differ between two switches although no frame is treated differently.
 ghost use Rattle.std.specs.Prelude.{◌≡◌};
-ghost use Rattle.of_diff_report.specs.DiffWords.{is_reserved, other_limits};
+ghost use Rattle.of_diff_report.specs.DiffWords.{is_reserved, other_limits, unless_equal};
 
 use of_alike::Compared;
 
@@ -20,16 +20,23 @@ pub struct Reserved<'a> {
     pub limits: Option<Limits>,
 }
 
-impl Reserved<'_> {
-    /// Whether there is such a reason.
-    pub fn is_some(&self) -> bool
-        ensures { result ≡ is_reserved self.now.missing.now self.now.limits }
-    {
-        match self.limits {
-            Some(_) => true,
-            None => !self.missing.is_empty(),
-        }
+/// Whether there is such a reason.
+pub fn has_reason(of: &Reserved<'_>) -> bool
+    ensures { result ≡ is_reserved of.now.missing.now of.now.limits }
+{
+    match of.limits {
+        Some(_) => true,
+        None => !of.missing.is_empty(),
     }
+}
+
+fn limits_unless_equal(first: u16, second: u16) -> Option<Limits>
+    ensures { result ≡ unless_equal first second }
+{
+    if first == second {
+        return None;
+    }
+    Some(Limits { first, second })
 }
 
 /// The miss_send_len of two switches, if they differ and the packets to the controller are compared.
@@ -38,7 +45,6 @@ pub fn limits_between(compared: Compared, first: u16, second: u16) -> Option<Lim
 {
     match compared {
         Compared::Frames => None,
-        Compared::All if first == second => None,
-        Compared::All => Some(Limits { first, second }),
+        Compared::All => limits_unless_equal(first, second),
     }
 }

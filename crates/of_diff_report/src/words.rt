@@ -1,10 +1,10 @@
 //! What is found about two switches, in words.
 ghost use Rattle.std.specs.Prelude.{◌≡◌, ◌++◌, ◌∷◌, IfOk, OnOk, filter, length};
 ghost use Rattle.std.specs.List.{flat_map, list_all, list_any};
-ghost use Rattle.of_diff_report.specs.DiffWords.{are_same, are_same_with, count_why, diff_summary, diff_words, difference_count, difference_words, expired_line, expired_words, first_expired_words, is_expired_item, is_invalid_ttl, is_of_expired, is_why, limits_line, limits_words, missing_line, missing_lines, other_ports_words, same_words, sets_line, sets_words, switch_words, told_words, undecided_line, undecided_words, where_words, undecided_why};
+ghost use Rattle.of_diff_report.specs.DiffWords.{are_same, are_same_with, count_why, diff_summary, diff_words, difference_count, difference_words, expired_line, expired_words, first_expired_words, is_expired_item, is_invalid_ttl, is_of_expired, is_why, limits_line, limits_words, missing_line, missing_lines, other_ports_words, same_unless, same_words, sets_line, sets_words, switch_words, told_words, undecided_line, undecided_words, where_words, undecided_why};
 
 use crate::hits::{DiffSide, push_hit_lines};
-use crate::reserved::{Limits, Reserved};
+use crate::reserved::{Limits, Reserved, has_reason};
 use of_alike::Where;
 use of_build::push_hex;
 use of_changes::push_changed_side;
@@ -168,11 +168,17 @@ fn is_expired(item: &Item) -> bool
     }
 }
 
+fn some_expire(items: &[Item]) -> bool
+    ensures { result ≡ list_any is_expired_item items.now }
+{
+    items.iter().any(|item| is_expired(item))
+}
+
 // Whether the TTL of the frame expires at one of the switches.
 fn expires(difference: &Difference) -> bool
     ensures { result ≡ is_of_expired difference.now }
 {
-    difference.first.iter().any(is_expired) || difference.second.iter().any(is_expired)
+    some_expire(&difference.first) || some_expire(&difference.second)
 }
 
 // Appends a difference, unless it is one of those that are only counted.
@@ -270,7 +276,7 @@ fn count_expired(found: &[Difference]) -> usize
 fn all_expire(found: &[Difference]) -> bool
     ensures { result ≡ list_all is_of_expired found.now }
 {
-    found.iter().all(expires)
+    found.iter().all(|difference| expires(difference))
 }
 
 // Appends a line about the differences that are only counted, if there are such.
@@ -361,15 +367,23 @@ pub fn is_same(found: &Differences) -> bool
 pub fn is_same_with(of: &Reserved<'_>, found: &Differences) -> bool
     ensures { result ≡ are_same_with of.now.missing.now of.now.limits found.now }
 {
-    !of.is_some() && is_same(found)
+    !has_reason(of) && is_same(found)
+}
+
+fn sentence_of_limits(limits: Option<Limits>) -> &'static [u8]
+    ensures { result.now ≡ same_unless limits }
+{
+    match limits {
+        None => b"same: all frames are treated alike",
+        Some(_) => b"no difference, except perhaps in how much of a frame a PACKET_IN has",
+    }
 }
 
 fn same_sentence(of: &Reserved<'_>) -> &'static [u8]
     ensures { result.now ≡ same_words of.now.missing.now of.now.limits }
 {
-    match (of.missing, of.limits) {
-        ([], None) => b"same: all frames are treated alike",
-        ([], Some(_)) => b"no difference, except perhaps in how much of a frame a PACKET_IN has",
+    match of.missing {
+        [] => sentence_of_limits(of.limits),
         _ => b"no difference, as long as the switches do not have these ports",
     }
 }
