@@ -144,8 +144,8 @@ only in which entries are hit are one path; with --each, each set is a path of i
 
 An entry is named by its table and its number by age, from 0. With --port, only frames that come in by this port are divided, and
 with --match only those that match, in the words of a match of ovs-ofctl. With --to, only paths are printed whose frames leave by a
-port, go to the controller, or are dropped, and the frames of each ingress port are divided apart. With --json, the report is one
-JSON document, which names the entries that each set of frames hits.
+port for some ingress port, go to the controller, or are dropped. With --json, the report is one JSON document, which
+names the entries that each set of frames hits.
 
 Exit status: 0 each frame is in a path; 5 frames are undecided, or a port is named that the switch does not have; 2 the words of
 --match are not a match that a flow may have. If the file is at fault, the status is 1, 2 or 3, and the name of the file is before
