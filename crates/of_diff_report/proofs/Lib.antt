@@ -1,1 +1,2 @@
 mod VerdictLemmas
+mod AppendLemmas

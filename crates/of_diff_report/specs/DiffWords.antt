@@ -1,6 +1,6 @@
 -- THE REPORT OF `diff` IN WORDS: a line for each port that is named and missing, a block for each difference, a line for each reason why frames are
 -- undecided, and a summary. Differences of frames whose TTL expires are counted in one line, unless all are of such frames.
-use Rattle.std.specs.Prelude.{ℕ, ◌==◌, ◌||◌, Bool, true, false, not, List, [], ◌∷◌, ◌++◌, length, filter, codes, decimal, Option, Some, None, if◌then◌else◌}
+use Rattle.std.specs.Prelude.{ℕ, ◌+◌, ◌==◌, ◌||◌, Bool, true, false, not, List, [], ◌∷◌, ◌++◌, length, filter, codes, decimal, Option, Some, None, if◌then◌else◌}
 use Rattle.std.specs.List.{flat_map, list_all, list_any}
 use Rattle.hex.specs.Hex.{encode_lower}
 use Rattle.of_text.specs.Lines.{ended}
@@ -43,10 +43,17 @@ abbrev pub other_limits : Compared → ℕ → ℕ → Option Limits
 other_limits Frames first second = None
 other_limits All first second = unless_equal first second
 
+unfoldable pub first_limit_words : ℕ → List ℕ
+first_limit_words n = codes "miss_send_len is " ++ decimal n
+
+abbrev pub second_limit_words : ℕ → List ℕ
+second_limit_words n = codes " and " ++ decimal n
+
+unfoldable pub both_limits_words : Limits → List ℕ
+both_limits_words l = first_limit_words l.first ++ second_limit_words l.second
+
 unfoldable pub limits_words : Limits → List ℕ
-limits_words l =
-    codes "miss_send_len is " ++ decimal l.first ++ codes " and " ++ decimal l.second ++ codes ": how much of a frame whose TTL expires a PACKET_IN has is not compared"
-    ++ 10 ∷ []
+limits_words l = both_limits_words l ++ codes ": how much of a frame whose TTL expires a PACKET_IN has is not compared" ++ 10 ∷ []
 
 abbrev pub limits_line : Option Limits → List ℕ
 limits_line None = []
@@ -87,7 +94,7 @@ is_expired_item (Sent port frame) = false
 is_expired_item (PacketIn p) = is_invalid_ttl p.reason
 
 -- the TTL of its frame expires at one of the switches
-abbrev pub is_of_expired : Difference → Bool
+unfoldable pub is_of_expired : Difference → Bool
 is_of_expired d = list_any is_expired_item d.first.items || list_any is_expired_item d.second.items
 
 -- those of other frames have a block each; if there are no others, these have
@@ -97,17 +104,29 @@ told_words all a b f g d = if all || not (is_of_expired d) then difference_words
 abbrev pub difference_count : ℕ → List ℕ
 difference_count n = decimal n ++ (if n == 1 then codes " difference" else codes " differences")
 
+unfoldable pub such_port_words : ℕ → List ℕ
+such_port_words port = codes ", such as --port " ++ decimal port
+
+unfoldable pub such_as_words : Difference → List ℕ
+such_as_words d = such_port_words d.in_port ++ 32 ∷ encode_lower d.frame.items
+
+unfoldable pub expired_count_words : ℕ → List ℕ
+expired_count_words n = codes "of frames whose TTL expires: " ++ difference_count n
+
 unfoldable pub expired_words : ℕ → Difference → List ℕ
-expired_words n d =
-    codes "of frames whose TTL expires: " ++ difference_count n ++ codes ", such as --port " ++ decimal d.in_port ++ 32 ∷ encode_lower d.frame.items ++ 10 ∷ []
+expired_words n d = expired_count_words n ++ such_as_words d ++ 10 ∷ []
 
 -- so many, with the first one
 abbrev pub first_expired_words : ℕ → List Difference → List ℕ
 first_expired_words n [] = []
 first_expired_words n (d ∷ ds) = if is_of_expired d then expired_words n d else first_expired_words n ds
 
+abbrev pub expired_count : List Difference → ℕ
+expired_count [] = 0
+expired_count (d ∷ ds) = if is_of_expired d then expired_count ds + 1 else expired_count ds
+
 abbrev pub expired_line : List Difference → List ℕ
-expired_line found = if list_all is_of_expired found then [] else first_expired_words (length (filter is_of_expired found)) found
+expired_line found = if list_all is_of_expired found then [] else first_expired_words (expired_count found) found
 
 -- ---- why frames are undecided: for each reason how many sets of frames
 

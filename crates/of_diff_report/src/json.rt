@@ -41,7 +41,8 @@ fn push_both_changes(
 {
     let came = &difference.frame;
     push_changes_member(alloc, out, b"first_changes", came, &difference.first)?;
-    push_changes_member(alloc, out, b"second_changes", came, &difference.second)
+    push_changes_member(alloc, out, b"second_changes", came, &difference.second)?;
+    Ok(())
 }
 
 #[tactic(auto, unfolding(crate::specs::DiffJson::difference_members))]

@@ -1,7 +1,7 @@
 //! What is found about two switches, in words.
 ghost use Rattle.std.specs.Prelude.{◌≡◌, ◌++◌, ◌∷◌, IfOk, OnOk, filter, length};
 ghost use Rattle.std.specs.List.{flat_map, list_all, list_any};
-ghost use Rattle.of_diff_report.specs.DiffWords.{are_same, are_same_with, count_why, diff_summary, diff_words, difference_count, difference_words, expired_line, expired_words, first_expired_words, is_expired_item, is_invalid_ttl, is_of_expired, is_why, limits_line, limits_words, missing_line, missing_lines, other_ports_words, same_unless, same_words, sets_line, sets_words, switch_words, told_words, undecided_line, undecided_words, where_words, undecided_why};
+ghost use Rattle.of_diff_report.specs.DiffWords.{are_same, are_same_with, both_limits_words, first_limit_words, second_limit_words, such_port_words, expired_count_words, count_why, diff_summary, diff_words, difference_count, difference_words, expired_count, expired_line, expired_words, first_expired_words, such_as_words, is_expired_item, is_invalid_ttl, is_of_expired, is_why, limits_line, limits_words, missing_line, missing_lines, other_ports_words, same_unless, same_words, sets_line, sets_words, switch_words, told_words, undecided_line, undecided_words, where_words, undecided_why};
 
 use crate::hits::{DiffSide, push_hit_lines};
 use crate::reserved::{Limits, Reserved, has_reason};
@@ -37,14 +37,35 @@ fn push_missing(out: &mut Vec<u8>, missing: &[u32]) -> Result<(), AllocError>
     Ok(())
 }
 
+#[tactic(auto, unfolding(crate::specs::DiffWords::first_limit_words))]
+fn push_first_limit(out: &mut Vec<u8>, limit: u16) -> Result<(), AllocError>
+    ensures { OnOk result (out.new.items ≡ out.old.items ++ first_limit_words limit) }
+{
+    out.extend_from_slice(b"miss_send_len is ")?;
+    push_decimal(out, u128::from(limit))?;
+    Ok(())
+}
+
+fn push_second_limit(out: &mut Vec<u8>, limit: u16) -> Result<(), AllocError>
+    ensures { OnOk result (out.new.items ≡ out.old.items ++ second_limit_words limit) }
+{
+    out.extend_from_slice(b" and ")?;
+    push_decimal(out, u128::from(limit))
+}
+
+#[tactic(auto, unfolding(crate::specs::DiffWords::both_limits_words))]
+fn push_both_limits(out: &mut Vec<u8>, limits: Limits) -> Result<(), AllocError>
+    ensures { OnOk result (out.new.items ≡ out.old.items ++ both_limits_words limits) }
+{
+    push_first_limit(out, limits.first)?;
+    push_second_limit(out, limits.second)
+}
+
 #[tactic(auto, unfolding(crate::specs::DiffWords::limits_words))]
 fn push_limits(out: &mut Vec<u8>, limits: Limits) -> Result<(), AllocError>
     ensures { OnOk result (out.new.items ≡ out.old.items ++ limits_words limits) }
 {
-    out.extend_from_slice(b"miss_send_len is ")?;
-    push_decimal(out, u128::from(limits.first))?;
-    out.extend_from_slice(b" and ")?;
-    push_decimal(out, u128::from(limits.second))?;
+    push_both_limits(out, limits)?;
     out.extend_from_slice(
         b": how much of a frame whose TTL expires a PACKET_IN has is not compared",
     )?;
@@ -175,6 +196,7 @@ fn some_expire(items: &[Item]) -> bool
 }
 
 // Whether the TTL of the frame expires at one of the switches.
+#[tactic(auto, unfolding(crate::specs::DiffWords::is_of_expired))]
 fn expires(difference: &Difference) -> bool
     ensures { result ≡ is_of_expired difference.now }
 {
@@ -228,6 +250,33 @@ fn push_difference_count(out: &mut Vec<u8>, count: usize) -> Result<(), AllocErr
     }
 }
 
+#[tactic(auto, unfolding(crate::specs::DiffWords::such_port_words))]
+fn push_such_port(out: &mut Vec<u8>, port: u32) -> Result<(), AllocError>
+    ensures { OnOk result (out.new.items ≡ out.old.items ++ such_port_words port) }
+{
+    out.extend_from_slice(b", such as --port ")?;
+    push_decimal(out, u128::from(port))?;
+    Ok(())
+}
+
+#[tactic(auto, unfolding(crate::specs::DiffWords::such_as_words))]
+fn push_such_as(alloc: Global, out: &mut Vec<u8>, difference: &Difference) -> Result<(), AllocError>
+    ensures { OnOk result (out.new.items ≡ out.old.items ++ such_as_words difference.now) }
+{
+    push_such_port(out, difference.in_port)?;
+    out.push(b' ')?;
+    push_hex(alloc, out, &difference.frame)
+}
+
+#[tactic(auto, unfolding(crate::specs::DiffWords::expired_count_words))]
+fn push_expired_count(out: &mut Vec<u8>, count: usize) -> Result<(), AllocError>
+    ensures { OnOk result (out.new.items ≡ out.old.items ++ expired_count_words count) }
+{
+    out.extend_from_slice(b"of frames whose TTL expires: ")?;
+    push_difference_count(out, count)?;
+    Ok(())
+}
+
 #[tactic(auto, unfolding(crate::specs::DiffWords::expired_words))]
 fn push_expired(
     alloc: Global,
@@ -237,12 +286,8 @@ fn push_expired(
 ) -> Result<(), AllocError>
     ensures { OnOk result (out.new.items ≡ out.old.items ++ expired_words count difference.now) }
 {
-    out.extend_from_slice(b"of frames whose TTL expires: ")?;
-    push_difference_count(out, count)?;
-    out.extend_from_slice(b", such as --port ")?;
-    push_decimal(out, u128::from(difference.in_port))?;
-    out.push(b' ')?;
-    push_hex(alloc, out, &difference.frame)?;
+    push_expired_count(out, count)?;
+    push_such_as(alloc, out, difference)?;
     out.push(b'\n')?;
     Ok(())
 }
@@ -265,12 +310,15 @@ fn push_first_expired(
 }
 
 fn count_expired(found: &[Difference]) -> usize
-    ensures { result ≡ length (filter is_of_expired found.now) }
+    ensures { result ≡ expired_count found.now }
 {
-    found
-        .iter()
-        .filter(|difference| expires(difference))
-        .count()
+    let mut count = 0;
+    for difference in found {
+        if expires(difference) {
+            count += 1;
+        }
+    }
+    count
 }
 
 fn all_expire(found: &[Difference]) -> bool
