@@ -1,5 +1,5 @@
 //! The switch for programs in other languages: a static library of calls from bytes to bytes, for C and all that calls C
-//! (examples/ofswitch.h, docs/EMBED.md).
+//! (embed/ofswitch.h, docs/EMBED.md).
 //!
 //! Each call gives what the command of its name prints, as JSON where that command has it. The text goes into a buffer of the caller, as much of it
 //! as there is room for, and its length, a status and the line at fault into an [`Answer`]. No call keeps anything.
