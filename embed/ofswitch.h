@@ -6,7 +6,9 @@
 
    No pointer may be null, also beside a length of 0; `text` and `answer` overlap neither each other nor what goes in. The caller owns all that it
    passes, and the library keeps nothing between calls. It takes memory by malloc, realloc and free, and gives all of it back before a call ends.
-   Calls from several threads at once are allowed if these three are. No call reads or writes a file, a clock or a socket. */
+   Calls from several threads at once are allowed if these three are. They align a block to each power of two up to 16 that divides its size, as
+   those of the GNU C library do. No call may be made in a signal handler, or in the forked child of a process with threads. No call reads or writes a
+   file, a clock or a socket. */
 #ifndef OFSWITCH_H
 #define OFSWITCH_H
 
@@ -22,7 +24,7 @@ extern "C" {
 enum {
     OFSWITCH_DONE = 0,      /* all is well */
     OFSWITCH_BAD_FILE = 2,  /* the file is at fault */
-    OFSWITCH_NO_MEMORY = 3, /* memory ran out: the text is none, or of a run that of some first lines */
+    OFSWITCH_NO_MEMORY = 3, /* memory ran out: there is no text, or a part of it, as of a run that of some first lines */
     OFSWITCH_FOUND = 4,     /* `check` found something; `import` left something out */
     OFSWITCH_OPEN = 5       /* ports are named that the switch does not have */
 };
