@@ -5,13 +5,14 @@ use of_mask_groups::MaskGroups;
 use of_replay::memory::MemorySource;
 use of_replay::{Ended, Reading};
 use of_sockets::{
-    Ending, Heard, Pauses, Refusals, RefusedRow, begins_whole, ended_unopened, ending_of,
-    is_nobody, read_rows, reading_of, write_some,
+    Ending, Heard, Pauses, Refusals, RefusedRow, begins_whole, draw_seed, ended_unopened,
+    ending_of, is_nobody, read_rows, reading_of, write_some,
 };
-use of_switch::SwitchError;
+use of_switch::{Seed, SwitchError};
 use std::alloc::Global;
 use std::io::{self, ErrorKind, Write};
 use std::process::Abort;
+use std::random::RandomSource;
 use std::test::Fail;
 
 /// How the running switch looks entries up.
@@ -204,4 +205,32 @@ fn refused_rows_are_due_in_turn(rt: HostRuntime) -> Result<(), Fail> {
     let mut refusals = refusals(rt.alloc())?;
     are_due(&rt, &mut refusals, DUE);
     Ok(())
+}
+
+/// Gives the bytes 1, 2, 3 and so on, or fails.
+struct Counting {
+    fails: bool,
+}
+
+impl RandomSource for Counting {
+    fn fill_bytes(&self, buf: &mut [u8]) -> io::Result<()> {
+        if self.fails {
+            return Err(ErrorKind::Other.into());
+        }
+        let mut next = 1u8;
+        for byte in buf.iter_mut() {
+            *byte = next;
+            next = next.wrapping_add(1);
+        }
+        Ok(())
+    }
+}
+
+#[test]
+fn a_seed_has_all_bytes_of_the_source(rt: HostRuntime) {
+    let drawn = draw_seed(&Counting { fails: false }).ok();
+    let seed = drawn.map(|Seed(number)| number);
+    same(&rt, "the seed", &seed, &Some(0x0807_0605_0403_0201));
+    let failed = draw_seed(&Counting { fails: true });
+    same(&rt, "no seed", &failed.is_err(), &true);
 }

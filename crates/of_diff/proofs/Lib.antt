@@ -10,3 +10,4 @@ pub mod ChangingLemmas
 pub mod ReasonLemmas
 pub mod ToldLemmas
 pub mod RevealingLemmas
+pub mod SameLemmas

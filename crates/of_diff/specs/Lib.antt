@@ -6,3 +6,4 @@ pub mod Comparing
 pub mod SoFar
 pub mod Shown
 pub mod Changing
+pub mod SameSwitches

@@ -1,9 +1,10 @@
 //! From which table on two switches do the same.
-ghost use Rattle.std.specs.Prelude.{◌≤◌, IfOk, IfSome};
+ghost use Rattle.std.specs.Prelude.{◌≡◌, ◌↔◌, ◌≤◌, IfOk, IfSome, IsTrue, Some};
 ghost use Rattle.of_datapath.specs.Datapath.{world_of};
 ghost use Rattle.of_datapath.specs.Numbers.{forwarding_of};
 ghost use Rattle.of_alike.specs.Agreeing.{AgreeFrom};
 ghost use Rattle.of_diff.specs.Changing.{IsAgreement};
+ghost use Rattle.of_diff.specs.SameSwitches.{AgreeInAll, SayTheSame};
 ghost use Rattle.of_alike.specs.SamePorts.{SamePorts};
 
 use of_alike::{Changed, changed_entries, have_same_entries, have_same_groups};
@@ -17,6 +18,7 @@ fn agreeing_from<L: Lookup>(first: &Datapath<L>, second: &Datapath<L>) -> Option
     requires { SamePorts first.now.ports second.now.ports }
     ensures agree { IfSome result (λ n. AgreeFrom n (world_of (forwarding_of first.now)) (world_of (forwarding_of second.now))) }
     ensures last { IfSome result (λ n. n ≤ 16) }
+    ensures all { SayTheSame (forwarding_of first.now) (forwarding_of second.now) → result ≡ Some 0 }
 {
     if !have_same_groups(first.group_list(), second.group_list()) {
         return None;
@@ -46,7 +48,8 @@ pub fn agreement_of<L: Lookup>(
     second: &Datapath<L>,
 ) -> Result<Option<Agreement>, AllocError>
     requires { SamePorts first.now.ports second.now.ports }
-    ensures { IfOk result (λ found. IfSome found (IsAgreement (forwarding_of first.now) (forwarding_of second.now))) }
+    ensures agreement { IfOk result (λ found. IfSome found (IsAgreement (forwarding_of first.now) (forwarding_of second.now))) }
+    ensures all { IfOk result (λ found. SayTheSame (forwarding_of first.now) (forwarding_of second.now) → AgreeInAll found) }
 {
     let Some(from) = agreeing_from(first, second) else {
         return Ok(None);
@@ -57,4 +60,14 @@ pub fn agreement_of<L: Lookup>(
         changed_entries(alloc, first.entries(from - 1), second.entries(from - 1))?
     };
     Ok(Some(Agreement { from, changed }))
+}
+
+/// Whether all tables of the two do the same, and so do the groups.
+pub fn agree_in_all(agreement: &Option<Agreement>) -> bool
+    ensures { IsTrue result ↔ AgreeInAll agreement.now }
+{
+    match agreement {
+        Some(agreement) => agreement.from == 0,
+        None => false,
+    }
 }

@@ -9,12 +9,13 @@ ghost use Rattle.of_alike.specs.declared.alike.Compared.{Compared as WhatIsCompa
 ghost use Rattle.of_diff.specs.declared.pair.Pair.{Pair as ThePair};
 ghost use Rattle.of_diff.specs.Comparing.{AreDifferences};
 ghost use Rattle.of_diff.specs.Pairs.{AreStatesOfRuns};
+ghost use Rattle.of_diff.specs.SameSwitches.{IsNothing, SayTheSame};
 ghost use Rattle.of_diff.specs.Reasons.{ArePairsAfter};
 ghost use Rattle.of_alike.specs.SamePorts.{SamePorts};
 ghost use Rattle.of_diff.specs.SoFar.{IsSoFar, NextIs};
 ghost use Rattle.of_symbolic_run.specs.Received.{IsReceivedAt};
 
-use crate::agreement::agreement_of;
+use crate::agreement::{agree_in_all, agreement_of};
 use crate::difference::{Differences, Undecided, Why};
 use crate::gathering::put_difference;
 use crate::pair::{Next, Pair};
@@ -85,6 +86,7 @@ fn first_pair<'a, L: Lookup>(alloc: Global, datapath: &Datapath<L>) -> Result<Pa
 ///
 /// None if they do not have the same ports. The runs of all frames take at most so many steps together, and each search for a frame as many. A set of
 /// frames is undecided only for a reason: all these steps were taken, or it is not known what a lookup finds, or a search found no frame that differs.
+/// If the switches say the same, nothing differs, and nothing is undecided.
 pub fn differences<L: Lookup>(
     alloc: Global,
     first: &Datapath<L>,
@@ -95,6 +97,7 @@ pub fn differences<L: Lookup>(
     ensures some { IfOk result (λ found. IfSome found (
         AreDifferences compared (world_of (forwarding_of first.now)) (world_of (forwarding_of second.now)) steps)) }
     ensures none { IfOk result (λ found. IfNone found (SamePorts first.now.ports second.now.ports → ⊥)) }
+    ensures same { IfOk result (λ found. SayTheSame (forwarding_of first.now) (forwarding_of second.now) → IsNothing found) }
 {
     if !have_same_ports(first.port_list(), second.port_list()) {
         return Ok(None);
@@ -103,9 +106,14 @@ pub fn differences<L: Lookup>(
         found: Vec::new(alloc),
         undecided: Vec::new(alloc),
     };
+    let agreement = &agreement_of(alloc, first, second)?;
+    if agree_in_all(agreement) {
+        first.known_world();
+        second.known_world();
+        return Ok(Some(so_far));
+    }
     let mut pairs = Vec::new(alloc);
     pairs.push(first_pair(alloc, first)?)?;
-    let agreement = &agreement_of(alloc, first, second)?;
     let mut left = steps;
     while left > 0 {
         let Some(pair) = pairs.pop() else {

@@ -7,19 +7,17 @@ use Rattle.of_ports.specs.declared.port.Port.{Port}
 use Rattle.of_ports.specs.Ports.{is_live, may_receive, port_at}
 use Rattle.of_machine.specs.declared.data.Item.{Item}
 use Rattle.of_machine.specs.declared.data.Step.{Step}
-use Rattle.of_machine.specs.declared.data.Step.TheVariants.{Entry}
 use Rattle.of_machine.specs.Rows.{Lookup as LookUp, entering}
 use Rattle.of_machine.specs.Runs.{run_of}
 use Rattle.of_datapath.specs.Datapath.{Forwarding, world_of}
 use Rattle.of_datapath.specs.DryRun.{received_steps}
 use Rattle.of_text.specs.Lines.{ended}
 use Rattle.of_json.specs.LeavingWords.{side_words}
-use Rattle.of_trace.specs.Words.{flow_there, found_words, numbered_words, words_line}
+use Rattle.of_history.specs.Sights.{line_with, winner_at}
 
--- a step; an entry without its place in its table, which other entries shift as they come and go
-unfoldable pub fate_line : Forwarding → Step → List ℕ
-fate_line f (Entry table place) = numbered_words (codes "table") table ++ found_words (flow_there f table place)
-fate_line f other = words_line f other
+-- a step, with the entry that it found
+abbrev pub fate_line : Forwarding → Step → List ℕ
+fate_line f s = line_with (winner_at f s) s
 
 abbrev pub fate_lines : Forwarding → List Step → List ℕ
 fate_lines f steps = flat_map (λ s. ended (fate_line f s)) steps

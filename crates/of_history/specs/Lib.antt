@@ -1,3 +1,4 @@
+pub mod Sights
 pub mod Fates
 pub mod Expiring
 pub mod Selected

@@ -12,6 +12,7 @@ ghost use Rattle.of_history.specs.Selected.{entry_selected, further_step, instru
 
 use crate::expiring::{push_expiry, push_numbered};
 use crate::fate::push_winner_words;
+use crate::sight::Sight;
 use crate::view::View;
 use of_actions::{Action, Instruction};
 use of_classifier::Lookup;
@@ -237,8 +238,13 @@ impl<L: Lookup> View<L> for EntriesView {
 
     ghost expiring = { λ v moment. selected_entries v.filter v.fields (Some moment) };
 
-    fn look(&self, alloc: Global, switch: &Switch<L>) -> Result<Vec<u8>, AllocError> {
-        self.listed(alloc, switch, None)
+    fn look(
+        &self,
+        alloc: Global,
+        switch: &Switch<L>,
+        _last: &Sight,
+    ) -> Result<Option<Sight>, AllocError> {
+        Ok(Some(Sight::Plain(self.listed(alloc, switch, None)?)))
     }
 
     fn look_ahead(

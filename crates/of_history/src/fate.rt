@@ -1,13 +1,17 @@
 //! The fate of a frame.
-ghost use Rattle.std.specs.Prelude.{◌≡◌, ◌≤◌, ◌++◌, IfOk, IsTrue, OnOk, Some, length};
+ghost use Rattle.std.specs.Prelude.{◌≡◌, ◌≤◌, ◌++◌, [], IfNone, IfOk, IfSome, IsTrue, OnOk, Some, false, length, true};
+ghost use Rattle.std.specs.Option.{option_copied, option_map};
 ghost use Rattle.of_datapath.specs.DryRun.{received_steps};
 ghost use Rattle.of_tracing.specs.Encoded.{are_encoded, is_encoded};
-ghost use Rattle.of_trace.specs.Words.{flow_there, found_words};
+ghost use Rattle.of_trace.specs.Words.{found_words};
+ghost use Rattle.of_json.specs.LeavingWords.{side_words};
 ghost use Rattle.std.specs.List.{flat_map};
 ghost use Rattle.of_history.specs.Expiring.{step_expiry, way_expiring};
 ghost use Rattle.of_history.specs.Fates.{deaf_port, fate, fate_line, fate_lines, received_fate, received_items};
+ghost use Rattle.of_history.specs.Sights.{sight_text, winner_of, winner_words};
 
 use crate::expiring::push_step_expiry;
+use crate::sight::{Sight, WaySight, found_steps, is_of_way, winner_at};
 use crate::view::View;
 use of_classifier::Lookup;
 use of_headers::check_length;
@@ -19,7 +23,6 @@ use of_table::Flow;
 use of_text::push_number;
 use of_trace::push_words_line;
 use of_values::push_entry_words;
-use of_wire::limits::TABLES;
 use std::alloc::{AllocError, Global};
 
 /// The steps of the run of a received frame, and what it emits.
@@ -60,26 +63,17 @@ pub(crate) fn push_winner_words(out: &mut Vec<u8>, flow: &Flow) -> Result<(), Al
 }
 
 // Appends those of an entry, if there is one.
-#[tactic(auto, unfolding(of_trace::specs::Words::found_words))]
-fn push_winner<L: Lookup>(
-    out: &mut Vec<u8>,
-    switch: &Switch<L>,
-    table: u8,
-    place: usize,
-) -> Result<(), AllocError>
-    ensures { OnOk result (out.new.items ≡ out.old.items ++ found_words (flow_there switch.now.core.forwarding table place)) }
+fn push_winner(out: &mut Vec<u8>, flow: Option<&Flow>) -> Result<(), AllocError>
+    ensures { OnOk result (out.new.items ≡ out.old.items ++ winner_words (option_map winner_of (option_copied flow.entry))) }
 {
-    if table >= TABLES {
-        return Ok(());
+    match flow {
+        None => Ok(()),
+        Some(flow) => push_winner_words(out, flow),
     }
-    let Some(entry) = switch.datapath().entry(table, place) else {
-        return Ok(());
-    };
-    push_winner_words(out, &entry.flow)
 }
 
 // Appends a step in words, an entry without its place in its table.
-#[tactic(auto, unfolding(of_trace::specs::Words::numbered_words, crate::specs::Fates::fate_line))]
+#[tactic(auto, unfolding(of_trace::specs::Words::numbered_words, of_trace::specs::Words::words_line, crate::specs::Sights::line_with))]
 fn push_fate_line<L: Lookup>(
     out: &mut Vec<u8>,
     switch: &Switch<L>,
@@ -89,10 +83,10 @@ fn push_fate_line<L: Lookup>(
     ensures { OnOk result (out.new.items ≡ out.old.items ++ fate_line switch.now.core.forwarding step) }
 {
     match step {
-        Step::Entry { table, number } => {
+        Step::Entry { table, .. } => {
             out.extend_from_slice(b"table")?;
             push_number(out, u64::from(table))?;
-            push_winner(out, switch, table, number)
+            push_winner(out, winner_at(switch, step))
         }
         _ => push_words_line(out, switch, step),
     }
@@ -114,22 +108,45 @@ fn push_fate_lines<L: Lookup>(
     Ok(())
 }
 
-// Appends the fate of a frame that is received.
-#[tactic(auto, unfolding(crate::specs::Fates::received_fate))]
-fn push_received_fate<L: Lookup>(
+// What is seen of the run of a frame.
+#[tactic(auto, unfolding(crate::specs::Sights::way_words))]
+fn way_sight<L: Lookup>(
     alloc: Global,
-    out: &mut Vec<u8>,
+    switch: &Switch<L>,
+    run: FrameRun,
+) -> Result<Sight, AllocError>
+    ensures { IfOk result (λ sight. sight_text sight ≡ fate_lines switch.now.core.forwarding run.steps.items ++ side_words [] run.items.items) }
+{
+    let steps = found_steps(alloc, switch, &run.steps)?;
+    let mut text = Vec::new(alloc);
+    push_fate_lines(&mut text, switch, &run.steps)?;
+    push_side(alloc, &mut text, b"", &run.items)?;
+    Ok(Sight::OfWay(WaySight {
+        text,
+        steps,
+        items: run.items,
+    }))
+}
+
+// What is seen of a frame that is received. None if it is known to be what was seen last.
+#[tactic(auto, unfolding(crate::specs::Fates::received_fate))]
+fn received_sight<L: Lookup>(
+    alloc: Global,
     switch: &Switch<L>,
     port: u32,
     frame: &[u8],
-) -> Result<(), AllocError>
+    last: &Sight,
+) -> Result<Option<Sight>, AllocError>
     requires long { 14 ≤ length frame.now }
     requires most { length frame.now ≤ 9216 }
-    ensures { OnOk result (out.new.items ≡ out.old.items ++ received_fate port frame.now switch.now.core.forwarding) }
+    ensures other { IfOk result (λ sight. IfSome sight (λ s. sight_text s ≡ received_fate port frame.now switch.now.core.forwarding)) }
+    ensures same { IfOk result (λ sight. IfNone sight (sight_text last.now ≡ received_fate port frame.now switch.now.core.forwarding)) }
 {
     let run = run_frame(alloc, switch, port, frame)?;
-    push_fate_lines(out, switch, &run.steps)?;
-    push_side(alloc, out, b"", &run.items)
+    if is_of_way(last, switch, &run.steps, &run.items) {
+        return Ok(None);
+    }
+    Ok(Some(way_sight(alloc, switch, run)?))
 }
 
 // Appends why a port receives nothing.
@@ -144,27 +161,32 @@ fn push_deaf_port(out: &mut Vec<u8>, port: &Port) -> Result<(), AllocError>
     }
 }
 
-// Appends the fate of a frame at a port.
+// Appends why a frame is not received at a port; false if it is received.
 #[tactic(auto, unfolding(crate::specs::Fates::fate, crate::specs::Fates::fate_at, crate::specs::Fates::fate_unless_fault))]
-fn push_fate<L: Lookup>(
-    alloc: Global,
+fn push_unreceived<L: Lookup>(
     out: &mut Vec<u8>,
     switch: &Switch<L>,
     port: u32,
     frame: &[u8],
-) -> Result<(), AllocError>
-    ensures { OnOk result (out.new.items ≡ out.old.items ++ fate port frame.now switch.now.core.forwarding) }
+) -> Result<bool, AllocError>
+    ensures refused { IfOk result (λ refused. refused ≡ true → out.new.items ≡ out.old.items ++ fate port frame.now switch.now.core.forwarding) }
+    ensures received { IfOk result (λ refused. refused ≡ false → fate port frame.now switch.now.core.forwarding ≡ received_fate port frame.now switch.now.core.forwarding) }
+    ensures long { IfOk result (λ refused. refused ≡ false → 14 ≤ length frame.now) }
+    ensures most { IfOk result (λ refused. refused ≡ false → length frame.now ≤ 9216) }
 {
     let Some(there) = find_port(switch.datapath().ports.as_slice(), port) else {
-        return out.extend_from_slice(b"not received: there is no such port\n");
+        out.extend_from_slice(b"not received: there is no such port\n")?;
+        return Ok(true);
     };
     if !there.may_receive() {
-        return push_deaf_port(out, there);
+        push_deaf_port(out, there)?;
+        return Ok(true);
     }
     if check_length(frame).is_err() {
-        return out.extend_from_slice(b"not received: a frame has 14 to 9216 bytes\n");
+        out.extend_from_slice(b"not received: a frame has 14 to 9216 bytes\n")?;
+        return Ok(true);
     }
-    push_received_fate(alloc, out, switch, port, frame)
+    Ok(false)
 }
 
 /// Watches the fate of a frame that would be received at a port (OpenFlow 1.3.5, 5.1): its steps and what leaves, in words; or why it is
@@ -199,10 +221,17 @@ impl<L: Lookup> View<L> for FrameView {
 
     ghost expiring = { λ v. way_expiring v.port v.frame.items };
 
-    fn look(&self, alloc: Global, switch: &Switch<L>) -> Result<Vec<u8>, AllocError> {
+    fn look(
+        &self,
+        alloc: Global,
+        switch: &Switch<L>,
+        last: &Sight,
+    ) -> Result<Option<Sight>, AllocError> {
         let mut out = Vec::new(alloc);
-        push_fate(alloc, &mut out, switch, self.port, &self.frame)?;
-        Ok(out)
+        if push_unreceived(&mut out, switch, self.port, &self.frame)? {
+            return Ok(Some(Sight::Plain(out)));
+        }
+        received_sight(alloc, switch, self.port, &self.frame, last)
     }
 
     #[tactic(auto, unfolding(crate::specs::Expiring::way_expiring))]

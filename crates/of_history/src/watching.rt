@@ -10,10 +10,12 @@ ghost use Rattle.of_replay.specs.Rows.{with_bytes};
 ghost use Rattle.of_replay.specs.RowTexts.{row_happened, told};
 ghost use Rattle.of_history.specs.Turns.{HandlesFirst, all_message_turns, event_turns, first_handled, turn_of};
 ghost use Rattle.of_history.specs.Causes.{Row as ARow, by_row as caused_by};
+ghost use Rattle.of_history.specs.Sights.{sight_text};
 ghost use Rattle.of_history.specs.Changes.{bad_from, told_change, history_of, row_cause, row_expiring, turns_told};
 
 use crate::cause::{By, Cause, by_row};
 use crate::reason::reason_of;
+use crate::sight::Sight;
 use crate::telling::ChangeTeller;
 use crate::view::View;
 use of_classifier::Lookup;
@@ -45,25 +47,38 @@ struct Watching<L: Lookup, V: View<L> + Drop, T: ChangeTeller + Drop> {
     view: V,
     teller: T,
     // the view of the switch
-    seen: Vec<u8>,
+    seen: Sight,
     // what was said of its changes
     out: Vec<u8>,
 }
 
 impl<L: Lookup, V: View<L> + Drop, T: ChangeTeller + Drop> Watching<L, V, T> {
+    // Says what changed, if something did.
+    fn tell(&mut self, cause: &Cause<'_>, seen: &Sight) -> Result<(), AllocError>
+        ensures said { OnOk result (self.new.out.items ≡ self.old.out.items
+            ++ told_change T.text cause.now (sight_text self.old.seen) (sight_text seen.now)) }
+        ensures kept { (self.new.switch ≡ self.old.switch) × (self.new.view ≡ self.old.view) × (self.new.seen ≡ self.old.seen) }
+    {
+        let (old, new) = (self.seen.text(), seen.text());
+        if is(old, new) {
+            return Ok(());
+        }
+        let reason = reason_of(self.alloc, cause, old, new)?;
+        self.teller
+            .tell(self.alloc, &mut self.out, cause, reason, old, new)
+    }
+
     // Looks at the switch after a turn, and says what that changed.
     fn look_again(&mut self, cause: &Cause<'_>) -> Result<(), AllocError>
         ensures said { OnOk result (self.new.out.items ≡ self.old.out.items
-            ++ told_change T.text cause.now self.old.seen.items self.new.seen.items) }
-        ensures seen { OnOk result (self.new.seen.items ≡ V.seen self.old.view self.old.switch.core.forwarding) }
+            ++ told_change T.text cause.now (sight_text self.old.seen) (sight_text self.new.seen)) }
+        ensures seen { OnOk result (sight_text self.new.seen ≡ V.seen self.old.view self.old.switch.core.forwarding) }
         ensures kept { (self.new.switch ≡ self.old.switch) × (self.new.view ≡ self.old.view) }
     {
-        let seen = self.view.look(self.alloc, &self.switch)?;
-        if is(&self.seen, &seen) {
+        let Some(seen) = self.view.look(self.alloc, &self.switch, &self.seen)? else {
             return Ok(());
-        }
-        let reason = reason_of(self.alloc, cause, &self.seen, &seen)?;
-        self.teller.tell(self.alloc, &mut self.out, cause, reason, &self.seen, &seen)?;
+        };
+        self.tell(cause, &seen)?;
         self.seen = seen;
         Ok(())
     }
@@ -81,11 +96,11 @@ impl<L: Lookup, V: View<L> + Drop, T: ChangeTeller + Drop> Watching<L, V, T> {
 
     // Handles all messages that are there, and says what each of them changed.
     fn tell_messages(&mut self, number: u64, line: &[u8]) -> Result<(), SwitchError>
-        requires { self.old.seen.items ≡ V.seen self.old.view self.old.switch.core.forwarding }
+        requires { sight_text self.old.seen ≡ V.seen self.old.view self.old.switch.core.forwarding }
         ensures said { OnOk result (self.new.out.items ≡ self.old.out.items
             ++ turns_told T.text (V.seen self.old.view) (row_cause number line.now ARow) 1 self.old.switch (all_message_turns self.old.switch)) }
         ensures switch { OnOk result (self.new.switch ≡ (drained self.old.switch).state) }
-        ensures seen { OnOk result (self.new.seen.items ≡ V.seen self.old.view self.new.switch.core.forwarding) }
+        ensures seen { OnOk result (sight_text self.new.seen ≡ V.seen self.old.view self.new.switch.core.forwarding) }
         ensures view { self.new.view ≡ self.old.view }
         ensures err { IfErr result (λ e. e ≡ NoMemory) }
     {
@@ -107,11 +122,11 @@ impl<L: Lookup, V: View<L> + Drop, T: ChangeTeller + Drop> Watching<L, V, T> {
 
     // A row of the controller's bytes.
     fn tell_chunk(&mut self, number: u64, line: &[u8], chunk: &[u8]) -> Result<(), SwitchError>
-        requires { self.old.seen.items ≡ V.seen self.old.view self.old.switch.core.forwarding }
+        requires { sight_text self.old.seen ≡ V.seen self.old.view self.old.switch.core.forwarding }
         ensures said { OnOk result (self.new.out.items ≡ self.old.out.items
             ++ turns_told T.text (V.seen self.old.view) (row_cause number line.now ARow) 1 self.old.switch (event_turns (Chunk chunk.now) self.old.switch)) }
         ensures switch { OnOk result (self.new.switch ≡ (happened (Chunk chunk.now) self.old.switch).state) }
-        ensures seen { OnOk result (self.new.seen.items ≡ V.seen self.old.view self.new.switch.core.forwarding) }
+        ensures seen { OnOk result (sight_text self.new.seen ≡ V.seen self.old.view self.new.switch.core.forwarding) }
         ensures view { self.new.view ≡ self.old.view }
         ensures err { IfErr result (λ e. e ≡ NoMemory) }
     {
@@ -142,12 +157,12 @@ impl<L: Lookup, V: View<L> + Drop, T: ChangeTeller + Drop> Watching<L, V, T> {
 
     // A row that is one turn.
     fn tell_whole(&mut self, cause: &Cause<'_>, row: Row, bytes: &[u8]) -> Result<(), SwitchError>
-        requires { self.old.seen.items ≡ V.seen self.old.view self.old.switch.core.forwarding }
+        requires { sight_text self.old.seen ≡ V.seen self.old.view self.old.switch.core.forwarding }
         ensures said { (event : Event) → with_bytes bytes.now row ≡ Some event → OnOk result (self.new.out.items ≡ self.old.out.items
             ++ turns_told T.text (V.seen self.old.view) cause.now 1 self.old.switch
             (turn_of (happened event self.old.switch).report (happened event self.old.switch).state)) }
         ensures switch { OnOk result (self.new.switch ≡ (row_happened self.old.switch (with_bytes bytes.now row)).state) }
-        ensures seen { OnOk result (self.new.seen.items ≡ V.seen self.old.view self.new.switch.core.forwarding) }
+        ensures seen { OnOk result (sight_text self.new.seen ≡ V.seen self.old.view self.new.switch.core.forwarding) }
         ensures view { self.new.view ≡ self.old.view }
         ensures err { IfErr result (λ e. e ≡ NoMemory) }
     {
@@ -166,13 +181,13 @@ impl<L: Lookup, V: View<L> + Drop, T: ChangeTeller + Drop> Watching<L, V, T> {
         row: Row,
         bytes: &[u8],
     ) -> Result<(), SwitchError>
-        requires { self.old.seen.items ≡ V.seen self.old.view self.old.switch.core.forwarding }
+        requires { sight_text self.old.seen ≡ V.seen self.old.view self.old.switch.core.forwarding }
         ensures said { (event : Event) → with_bytes bytes.now row ≡ Some event → OnOk result (self.new.out.items ≡ self.old.out.items
             ++ turns_told T.text (V.seen self.old.view) (row_cause number line.now
             (caused_by (row_expiring (V.expiring self.old.view) self.old.switch (with_bytes bytes.now row)) (with_bytes bytes.now row)))
             1 self.old.switch (turn_of (happened event self.old.switch).report (happened event self.old.switch).state)) }
         ensures switch { OnOk result (self.new.switch ≡ (row_happened self.old.switch (with_bytes bytes.now row)).state) }
-        ensures seen { OnOk result (self.new.seen.items ≡ V.seen self.old.view self.new.switch.core.forwarding) }
+        ensures seen { OnOk result (sight_text self.new.seen ≡ V.seen self.old.view self.new.switch.core.forwarding) }
         ensures view { self.new.view ≡ self.old.view }
         ensures err { IfErr result (λ e. e ≡ NoMemory) }
     {
@@ -194,11 +209,11 @@ impl<L: Lookup, V: View<L> + Drop, T: ChangeTeller + Drop> Watching<L, V, T> {
         row: Row,
         bytes: &[u8],
     ) -> Result<(), SwitchError>
-        requires { self.old.seen.items ≡ V.seen self.old.view self.old.switch.core.forwarding }
+        requires { sight_text self.old.seen ≡ V.seen self.old.view self.old.switch.core.forwarding }
         ensures said { OnOk result (self.new.out.items ≡ self.old.out.items
             ++ history_of T.text (V.seen self.old.view) (V.expiring self.old.view) number self.old.switch line.now (with_bytes bytes.now row)) }
         ensures switch { OnOk result (self.new.switch ≡ (row_happened self.old.switch (with_bytes bytes.now row)).state) }
-        ensures seen { OnOk result (self.new.seen.items ≡ V.seen self.old.view self.new.switch.core.forwarding) }
+        ensures seen { OnOk result (sight_text self.new.seen ≡ V.seen self.old.view self.new.switch.core.forwarding) }
         ensures view { self.new.view ≡ self.old.view }
         ensures err { IfErr result (λ e. e ≡ NoMemory) }
     {
@@ -213,7 +228,7 @@ impl<L: Lookup, V: View<L> + Drop, T: ChangeTeller + Drop> Watching<L, V, T> {
 
     // Plays the rows of lines up to a bad one, whose number from 1 it returns.
     fn tell_lines(&mut self, file: &[u8]) -> Result<Option<u64>, SwitchError>
-        requires { self.old.seen.items ≡ V.seen self.old.view self.old.switch.core.forwarding }
+        requires { sight_text self.old.seen ≡ V.seen self.old.view self.old.switch.core.forwarding }
         ensures said { OnOk result (self.new.out.items ≡ self.old.out.items
             ++ told self.old.switch (history_of T.text (V.seen self.old.view) (V.expiring self.old.view)) (lines_of file.now)) }
         ensures bad { IfOk result (λ bad. bad ≡ bad_from 1 (lines_of file.now)) }
@@ -259,7 +274,8 @@ pub fn history<L: Lookup, V: View<L> + Drop, T: ChangeTeller + Drop>(
     ensures err { IfErr result (λ e. e ≡ NoMemory) }
 {
     let switch = Switch::<L>::new(alloc, dpid)?;
-    let seen = view.look(alloc, &switch)?;
+    let nothing = Sight::Plain(Vec::new(alloc));
+    let seen = view.look(alloc, &switch, &nothing)?.unwrap_or(nothing);
     let mut watching = Watching {
         alloc,
         switch,

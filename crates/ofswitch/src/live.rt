@@ -2,7 +2,7 @@
 use crate::beginning::begun_switch;
 use crate::files::bytes_of;
 use crate::lookups::Lookups;
-use crate::seed::draw_seed;
+use crate::seed::system_seed;
 use of_command_line::{Live as Asked, PortPeer};
 use of_live::{Live, live};
 use of_network::Peer;
@@ -124,7 +124,7 @@ pub fn live_rows(
     rows: Vec<Event>,
 ) -> Option<Ended> {
     let rt = teller.rt;
-    let seed = draw_seed(rt)?;
+    let seed = system_seed(rt)?;
     let Ok(ports) = watched_ports(teller, asked, &rows) else {
         return Some(Ended::NoMemory);
     };

@@ -2,7 +2,7 @@
 use crate::beginning::begun_switch;
 use crate::files::bytes_of;
 use crate::lookups::Lookups;
-use crate::seed::draw_seed;
+use crate::seed::system_seed;
 use of_command_line::Serve;
 use of_replay::Ended;
 use of_replay::streams::WriterSink;
@@ -60,7 +60,7 @@ pub fn serve_rows(
     rows: Vec<Event>,
 ) -> Option<Ended> {
     let rt = teller.rt;
-    let seed = draw_seed(rt)?;
+    let seed = system_seed(rt)?;
     let machine = Machine::new(rt);
     let has_failed = Cell::new(false);
     let Ok(course) = course_of(rt.alloc(), &rows, asked.log.is_some()) else {

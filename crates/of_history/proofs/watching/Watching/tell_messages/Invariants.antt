@@ -2,12 +2,13 @@ use Rattle.std.proofs.Common.{◌≡◌, ◌+◌, ◌≤◌, [], length}
 use Rattle.of_history.specs.Causes.{Row}
 use Rattle.of_history.specs.Changes.{row_cause}
 use Rattle.of_history.proofs.TurnLemmas.{Telling}
+use Rattle.of_history.specs.Sights.{sight_text}
 use Rattle.of_history.proofs.watching.Watching.tell_messages.Given as goal
 
 abbrev pub invariant-loop-message : goal.invariant-loop-message
 invariant-loop-message g l = record {
   view : l.self.view ≡ l.fn.self.view;
-  fresh : l.self.seen.items ≡ g.V.View.seen l.fn.self.view l.self.switch.core.forwarding;
+  fresh : sight_text l.self.seen ≡ g.V.View.seen l.fn.self.view l.self.switch.core.forwarding;
   few : l.turn + length l.self.switch.connection.pending ≤ l._most;
   telling : Telling g.T.ChangeTeller.text (g.V.View.seen l.fn.self.view) (row_cause l.number l.line Row) l.fn.self.switch l.self.switch l.turn l.fn.self.out.items l.self.out.items;
 }
