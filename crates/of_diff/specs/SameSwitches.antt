@@ -8,7 +8,7 @@ use Rattle.of_alike.specs.SameTables.{SameTables}
 use Rattle.of_diff.specs.declared.agreement.Agreement.{Agreement}
 use Rattle.of_diff.specs.declared.difference.Differences.{Differences}
 
-pub record SayTheSame (f g : Forwarding) : Type 0 where
+pub record AreSameSwitches (f g : Forwarding) : Type 0 where
   pub ports : SamePorts f.ports g.ports
   pub groups : SameGroups f.groups g.groups
   pub tables : (t : ℕ) → SameTables (table_at t f.tables).flows (table_at t g.tables).flows

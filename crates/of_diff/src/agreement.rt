@@ -4,7 +4,7 @@ ghost use Rattle.of_datapath.specs.Datapath.{world_of};
 ghost use Rattle.of_datapath.specs.Numbers.{forwarding_of};
 ghost use Rattle.of_alike.specs.Agreeing.{AgreeFrom};
 ghost use Rattle.of_diff.specs.Changing.{IsAgreement};
-ghost use Rattle.of_diff.specs.SameSwitches.{AgreeInAll, SayTheSame};
+ghost use Rattle.of_diff.specs.SameSwitches.{AgreeInAll, AreSameSwitches};
 ghost use Rattle.of_alike.specs.SamePorts.{SamePorts};
 
 use of_alike::{Changed, changed_entries, have_same_entries, have_same_groups};
@@ -18,7 +18,7 @@ fn agreeing_from<L: Lookup>(first: &Datapath<L>, second: &Datapath<L>) -> Option
     requires { SamePorts first.now.ports second.now.ports }
     ensures agree { IfSome result (λ n. AgreeFrom n (world_of (forwarding_of first.now)) (world_of (forwarding_of second.now))) }
     ensures last { IfSome result (λ n. n ≤ 16) }
-    ensures all { SayTheSame (forwarding_of first.now) (forwarding_of second.now) → result ≡ Some 0 }
+    ensures all { AreSameSwitches (forwarding_of first.now) (forwarding_of second.now) → result ≡ Some 0 }
 {
     if !have_same_groups(first.group_list(), second.group_list()) {
         return None;
@@ -49,7 +49,7 @@ pub fn agreement_of<L: Lookup>(
 ) -> Result<Option<Agreement>, AllocError>
     requires { SamePorts first.now.ports second.now.ports }
     ensures agreement { IfOk result (λ found. IfSome found (IsAgreement (forwarding_of first.now) (forwarding_of second.now))) }
-    ensures all { IfOk result (λ found. SayTheSame (forwarding_of first.now) (forwarding_of second.now) → AgreeInAll found) }
+    ensures all { IfOk result (λ found. AreSameSwitches (forwarding_of first.now) (forwarding_of second.now) → AgreeInAll found) }
 {
     let Some(from) = agreeing_from(first, second) else {
         return Ok(None);

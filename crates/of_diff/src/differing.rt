@@ -9,7 +9,7 @@ ghost use Rattle.of_alike.specs.declared.alike.Compared.{Compared as WhatIsCompa
 ghost use Rattle.of_diff.specs.declared.pair.Pair.{Pair as ThePair};
 ghost use Rattle.of_diff.specs.Comparing.{AreDifferences};
 ghost use Rattle.of_diff.specs.Pairs.{AreStatesOfRuns};
-ghost use Rattle.of_diff.specs.SameSwitches.{IsNothing, SayTheSame};
+ghost use Rattle.of_diff.specs.SameSwitches.{IsNothing, AreSameSwitches};
 ghost use Rattle.of_diff.specs.Reasons.{ArePairsAfter};
 ghost use Rattle.of_alike.specs.SamePorts.{SamePorts};
 ghost use Rattle.of_diff.specs.SoFar.{IsSoFar, NextIs};
@@ -97,7 +97,7 @@ pub fn differences<L: Lookup>(
     ensures some { IfOk result (λ found. IfSome found (
         AreDifferences compared (world_of (forwarding_of first.now)) (world_of (forwarding_of second.now)) steps)) }
     ensures none { IfOk result (λ found. IfNone found (SamePorts first.now.ports second.now.ports → ⊥)) }
-    ensures same { IfOk result (λ found. SayTheSame (forwarding_of first.now) (forwarding_of second.now) → IsNothing found) }
+    ensures same { IfOk result (λ found. AreSameSwitches (forwarding_of first.now) (forwarding_of second.now) → IsNothing found) }
 {
     if !have_same_ports(first.port_list(), second.port_list()) {
         return Ok(None);

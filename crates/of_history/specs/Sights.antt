@@ -19,11 +19,11 @@ use Rattle.of_history.specs.declared.sight.Winner.{Winner}
 
 -- ---- a step, with the priority and the match of the entry that it found
 
-abbrev pub winner_of : Flow → Winner
-winner_of f = record { priority = f.priority; fields = f.fields }
+abbrev pub entry_said : Flow → Winner
+entry_said f = record { priority = f.priority; fields = f.fields }
 
 abbrev pub winner_at : Forwarding → Step → Option Winner
-winner_at f (Entry table place) = option_map winner_of (flow_there f table place)
+winner_at f (Entry table place) = option_map entry_said (flow_there f table place)
 winner_at f other = None
 
 abbrev pub found_step : Forwarding → Step → FoundStep

@@ -8,7 +8,7 @@ ghost use Rattle.of_json.specs.LeavingWords.{side_words};
 ghost use Rattle.std.specs.List.{flat_map};
 ghost use Rattle.of_history.specs.Expiring.{step_expiry, way_expiring};
 ghost use Rattle.of_history.specs.Fates.{deaf_port, fate, fate_line, fate_lines, received_fate, received_items};
-ghost use Rattle.of_history.specs.Sights.{sight_text, winner_of, winner_words};
+ghost use Rattle.of_history.specs.Sights.{sight_text, entry_said, winner_words};
 
 use crate::expiring::push_step_expiry;
 use crate::sight::{Sight, WaySight, found_steps, is_of_way, winner_at};
@@ -64,7 +64,7 @@ pub(crate) fn push_winner_words(out: &mut Vec<u8>, flow: &Flow) -> Result<(), Al
 
 // Appends those of an entry, if there is one.
 fn push_winner(out: &mut Vec<u8>, flow: Option<&Flow>) -> Result<(), AllocError>
-    ensures { OnOk result (out.new.items ≡ out.old.items ++ winner_words (option_map winner_of (option_copied flow.entry))) }
+    ensures { OnOk result (out.new.items ≡ out.old.items ++ winner_words (option_map entry_said (option_copied flow.entry))) }
 {
     match flow {
         None => Ok(()),
@@ -170,7 +170,8 @@ fn push_unreceived<L: Lookup>(
     frame: &[u8],
 ) -> Result<bool, AllocError>
     ensures refused { IfOk result (λ refused. refused ≡ true → out.new.items ≡ out.old.items ++ fate port frame.now switch.now.core.forwarding) }
-    ensures received { IfOk result (λ refused. refused ≡ false → fate port frame.now switch.now.core.forwarding ≡ received_fate port frame.now switch.now.core.forwarding) }
+    ensures received { IfOk result (λ refused. refused ≡ false →
+        fate port frame.now switch.now.core.forwarding ≡ received_fate port frame.now switch.now.core.forwarding) }
     ensures long { IfOk result (λ refused. refused ≡ false → 14 ≤ length frame.now) }
     ensures most { IfOk result (λ refused. refused ≡ false → length frame.now ≤ 9216) }
 {

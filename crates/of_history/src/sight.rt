@@ -1,7 +1,7 @@
 //! What a view shows.
 ghost use Rattle.std.specs.Prelude.{◌≡◌, [], IfOk, Some, true, map};
 ghost use Rattle.std.specs.Option.{option_copied, option_map};
-ghost use Rattle.of_history.specs.Sights.{found_step, sight_text, way_words, winner_at as winner_at_step, winner_of};
+ghost use Rattle.of_history.specs.Sights.{found_step, sight_text, way_words, winner_at as winner_at_step, entry_said};
 
 use of_classifier::Lookup;
 use of_machine::{Item, Items, Step, ToController};
@@ -55,7 +55,7 @@ impl Sight {
 
 /// The flow of the entry that a step found.
 pub fn winner_at<L: Lookup>(switch: &Switch<L>, step: Step) -> Option<&Flow>
-    ensures { option_map winner_of (option_copied result) ≡ winner_at_step switch.now.core.forwarding step }
+    ensures { option_map entry_said (option_copied result) ≡ winner_at_step switch.now.core.forwarding step }
 {
     match step {
         Step::Entry { table, number } if table < TABLES => {
@@ -67,7 +67,7 @@ pub fn winner_at<L: Lookup>(switch: &Switch<L>, step: Step) -> Option<&Flow>
 }
 
 fn copied(flow: Option<&Flow>) -> Result<Option<Winner>, AllocError>
-    ensures { IfOk result (λ winner. winner ≡ option_map winner_of (option_copied flow.entry)) }
+    ensures { IfOk result (λ winner. winner ≡ option_map entry_said (option_copied flow.entry)) }
 {
     let Some(flow) = flow else {
         return Ok(None);
@@ -98,7 +98,7 @@ pub fn found_steps<L: Lookup>(
 }
 
 fn is_winner(winner: &Option<Winner>, flow: Option<&Flow>) -> bool
-    ensures { result ≡ true → winner.now ≡ option_map winner_of (option_copied flow.entry) }
+    ensures { result ≡ true → winner.now ≡ option_map entry_said (option_copied flow.entry) }
 {
     match (winner, flow) {
         (None, None) => true,

@@ -1,10 +1,10 @@
 //! The files of the command line, and the switches that they describe.
 use crate::faults::{Fault, import_fault};
-use crate::hinting::Seen;
 use crate::importing::{NotImported, say_no_import};
 use crate::lookups::Lookups;
 use of_command_line::{FileKind, SwitchFile};
 use of_files::{Content, Contents, Described, NoContents, describe, read_contents};
+use of_hints::Seen;
 use of_import::ImportError;
 use of_ports::find_port;
 use of_replay::streams::ReaderSource;

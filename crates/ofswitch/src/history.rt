@@ -1,9 +1,9 @@
 //! Histories of frames and of flow entries.
 use crate::files::{NoFile, bytes_of};
-use crate::hinting::Seen;
 use crate::lookups::Lookups;
 use of_command_line::{EntriesAsked, HistoryAsked, HistoryOf};
 use of_frame_words::{frame_words, match_of};
+use of_hints::Seen;
 use of_history::{
     EntriesView, EntryFilter, FrameView, InJson, InWords, LineByLine, LogHistory, history,
 };

@@ -1,7 +1,6 @@
 //! Tables of Open vSwitch as flow text.
 
-use crate::hinting::say_refusal;
-use of_hints::import_hint;
+use of_hints::{import_hint, say_refusal};
 use of_import::{ImportError, ImportText, LineFaults, LineRefusal, Mode, import_text, name_of};
 use of_import_report::{import_as_json, left_out};
 use of_replay::streams::WriterSink;

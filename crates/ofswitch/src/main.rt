@@ -9,7 +9,6 @@ mod diffing;
 mod faults;
 mod files;
 mod folding;
-mod hinting;
 mod history;
 mod importing;
 mod live;
@@ -31,7 +30,6 @@ use crate::history::{HistoryVerdict, recounted};
 use crate::lookups::Lookups;
 use crate::paths::{NoPaths, divided};
 use crate::tracing::{TraceVerdict, traced};
-use hinting::{Seen, Watched, say_hint, say_refusal, say_unread};
 use importing::{NotImported, imported, imported_as_json};
 use live::{are_peers, live_rows};
 use of_command_line::{
@@ -40,13 +38,13 @@ use of_command_line::{
 };
 use of_diff_report::DiffVerdict;
 use of_explain::{Answering, Explaining, ExplainingJson};
+use of_hints::{Seen, Watched, end, end_file};
 use of_import::Mode;
 use of_paths_report::PathsVerdict;
 use of_replay::streams::{ReaderSource, WriterSink};
 use of_replay::{Ended, Plain, RowPrinter, Sink, Source, asm, dis, print_file, status};
 use of_sockets::{Teller, ended_unopened, read_rows};
 use of_switch::Event;
-use of_text::TextFault;
 use say::{Unsaid, said};
 use serving::serve_rows;
 use std::io::{self, Read};
@@ -368,16 +366,6 @@ fn end_serving(teller: &Teller<'_>, ended: Option<Ended>) -> ExitCode {
     }
 }
 
-// How a run over a file ended, and what is wrong with the line that it ended at.
-fn end_file(rt: &HostRuntime, path: &str, seen: &Seen, ended: &Ended) -> ExitCode {
-    let code = end(rt, ended);
-    say_hint(rt, seen, ended);
-    if *ended == Ended::ReadFault {
-        say_unread(rt, path);
-    }
-    code
-}
-
 // A file that does not open: why not is said in the system's words.
 fn end_unopened(rt: &HostRuntime, path: &str, error: &io::Error) -> ExitCode {
     let ended = ended_unopened(error.kind());
@@ -453,15 +441,4 @@ fn explain<S: Source, W: Sink + Drop>(
         play(rt, dpid, reads, &Explaining, reader, &mut folded)
     };
     folded.end(ended)
-}
-
-// Why the run ended, on standard error where it is a fault, and the status.
-fn end(rt: &HostRuntime, ended: &Ended) -> ExitCode {
-    if *ended != Ended::Done {
-        let _ = eprintln!(rt; "{ended}");
-    }
-    if let Ended::Text(TextFault::Refused { code, .. }) = ended {
-        say_refusal(rt, *code);
-    }
-    ExitCode::from(status(ended))
 }

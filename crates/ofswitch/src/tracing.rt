@@ -1,9 +1,9 @@
 //! Traces of frames.
 use crate::files::{NoFile, bytes_of, has_port, read_switch, say_missing};
-use crate::hinting::Seen;
 use crate::lookups::Lookups;
 use of_command_line::{Asked, FileKind, Trace};
 use of_files::Described;
+use of_hints::Seen;
 use of_replay::Ended;
 use of_replay::streams::{ReaderSource, WriterSink};
 use of_trace::{Form, Output, trace_file, write_trace};

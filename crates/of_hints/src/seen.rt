@@ -1,10 +1,6 @@
-//! What is wrong with the line that a run ended at, on standard error.
-use of_hints::{event_row_hint, flow_line_hint, refusal_sentence};
-use of_replay::Ended;
-use of_text::TextFault;
-use of_wire::{Code, front_of};
+//! Lines that were read, for what is still to be said about them.
+use of_wire::front_of;
 use std::alloc::{AllocError, Global};
-use std::fs::File;
 use std::io::{self, Read};
 
 /// Lines that were read, of which one may be at fault.
@@ -36,7 +32,7 @@ impl Seen {
     }
 
     // The line of that number, counted from 1.
-    fn line(&self, number: u64) -> Option<&[u8]> {
+    pub(crate) fn line(&self, number: u64) -> Option<&[u8]> {
         if self.lost {
             return None;
         }
@@ -93,57 +89,5 @@ impl<R: Read + Drop> Read for Watched<R> {
             self.seen.lost = true;
         }
         Ok(count)
-    }
-}
-
-fn say_row_hint(rt: &HostRuntime, line: &[u8]) {
-    let hint = event_row_hint(line);
-    let _ = eprintln!(rt; "{hint}");
-}
-
-fn say_flow_hint(rt: &HostRuntime, line: &[u8]) {
-    let hint = flow_line_hint(line);
-    let _ = eprintln!(rt; "{hint}");
-}
-
-/// Says what is wrong with the line that a run ended at, if it ended at one.
-pub fn say_hint(rt: &HostRuntime, seen: &Seen, ended: &Ended) {
-    match ended {
-        Ended::BadRow(number) => {
-            if let Some(line) = seen.line(*number) {
-                say_row_hint(rt, line);
-            }
-        }
-        Ended::Text(TextFault::Syntax(number)) => {
-            if let Some(line) = seen.line(*number as u64) {
-                say_flow_hint(rt, line);
-            }
-        }
-        _ => {}
-    }
-}
-
-/// Says the name of an error, and what it means for a line.
-pub fn say_refusal(rt: &HostRuntime, code: Code) {
-    if let Some(name) = code.name() {
-        let name = std::str::from_utf8(name).unwrap_or("?");
-        let _ = eprintln!(rt; "{name}");
-    }
-    if let Some(sentence) = refusal_sentence(code) {
-        let _ = eprintln!(rt; "{sentence}");
-    }
-}
-
-/// Says why a file that opens does not give its bytes, as a folder does not.
-pub fn say_unread(rt: &HostRuntime, path: &str) {
-    if path == "-" {
-        return;
-    }
-    let Ok(mut file) = File::open(rt, path) else {
-        return;
-    };
-    let mut byte = [0; 1];
-    if let Err(error) = file.read(&mut byte) {
-        let _ = eprintln!(rt; "cannot read {path}: {error}");
     }
 }
