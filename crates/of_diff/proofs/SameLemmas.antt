@@ -1,9 +1,11 @@
 -- Switches that do the same from table 0 on treat each frame alike.
-use Rattle.std.proofs.Common.{ℕ, List, [], refl, arith}
+use Rattle.std.proofs.Common.{◌≡◌, ℕ, List, [], Option, Some, None, ◌⊎◌, inl, inr, refl, subst, arith}
+use Rattle.std.specs.Prelude.{IfSome}
 use Rattle.std.specs.List.{Contains}
 use Rattle.of_machine.specs.declared.data.Item.{Item}
 use Rattle.of_machine.specs.TheWorld.{TheWorld}
 use Rattle.of_machine.specs.Rows.{entering}
+use Rattle.of_machine.specs.Runs.{after}
 use Rattle.of_machine.specs.Sound.{IsSound}
 use Rattle.of_symbolic_run.specs.Received.{items_at}
 use Rattle.of_alike.specs.declared.alike.Compared.{Compared}
@@ -11,8 +13,12 @@ use Rattle.of_alike.specs.Agreeing.{AgreeFrom}
 use Rattle.of_alike.specs.Alike.{LeavesAlike}
 use Rattle.of_alike.specs.SamePorts.{SamePorts}
 use Rattle.of_alike.proofs.AgreeingRuns.{rests_agree}
+use Rattle.of_datapath.specs.Datapath.{Forwarding, world_of}
+use Rattle.of_diff.specs.Changing.{IsAgreement}
 use Rattle.of_diff.specs.Comparing.{AreDifferences}
 use Rattle.of_diff.specs.Differences.{IsTreatedAlike}
+use Rattle.of_diff.specs.SameSwitches.{AgreeInAll}
+use Rattle.of_diff.specs.declared.agreement.Agreement.{Agreement}
 use Rattle.of_diff.specs.declared.difference.Differences.{Differences}
 use Rattle.of_diff.proofs.CutLemmas.{rests_alike}
 
@@ -21,6 +27,7 @@ module _ (c : Compared) (w v : TheWorld) (sound : IsSound w) (sound' : IsSound v
   nothing_sent = record { sent = λ q. refl; told = λ e. refl }
 
   all_alike : (frame : List ℕ) (port : ℕ) → IsTreatedAlike c w v frame port
+  unfolding after
   all_alike frame port =
       rests_alike c [] [] (items_at w frame port) (items_at v frame port) nothing_sent
       (rests_agree 0 w v sound sound' agree (entering frame port) refl 0 0 refl (record { set = tt; work = (omega arith, tt) }, tt))
@@ -35,3 +42,7 @@ module _ (c : Compared) (w v : TheWorld) (sound : IsSound w) (sound' : IsSound v
     where
       nothing : {X : Type 0} (x : X) → Contains {X = X} [] x → ⊥
       nothing x h = absurd (omega (arith, h.1))
+
+pub agree_from_first : (f g : Forwarding) (a : Option Agreement) → IfSome a (IsAgreement f g) → AgreeInAll a → AgreeFrom 0 (world_of f) (world_of g)
+agree_from_first f g None is all = absurd all
+agree_from_first f g (Some a) is all = subst (λ (n : ℕ). AgreeFrom n (world_of f) (world_of g)) all is.agree

@@ -4,7 +4,16 @@ use Rattle.of_datapath.specs.Datapath.{world_of}
 use Rattle.of_datapath.specs.Numbers.{forwarding_of}
 use Rattle.of_diff.specs.Reasons.{ArePairsAfter}
 use Rattle.of_diff.proofs.FindingLemmas.{all_taken, at_most, ends, first_of_none, no_length, running_begins, running_more}
+use Rattle.of_diff.proofs.SameLemmas.{agree_from_first, nothing_differs}
 use Rattle.of_diff.proofs.differing.differences.Goals as goal
+
+pub returns-then-agree_in_all-clause-some : goal.returns-then-agree_in_all-clause-some
+returns-then-agree_in_all-clause-some g c =
+    let f = forwarding_of c.args.first.now in
+    let s = forwarding_of c.args.second.now in
+    let agree = agree_from_first f s c.in_ok-agreement.field-0 c.in_ok-agreement.ensures.agreement (c.agree_in_all.ensures.0 c.if-agree_in_all.true) in
+    nothing_differs c.args.compared (world_of f) (world_of s) c.known_world.ensures c.known_world-then-agree_in_all.ensures agree c.args.steps _
+    (rw (sym c.port_list.ensures, sym c.port_list-2.ensures) (c.have_same_ports.ensures.0 c.if-not-have_same_ports.false)) c.new.ensures.items c.new-2.ensures.items
 
 pub loop-left-init : goal.loop-left-init
 loop-left-init g c =
@@ -22,7 +31,7 @@ returns-in_default-clause-some g c =
     (rw (sym c.port_list.ensures, sym c.port_list-2.ensures) (c.have_same_ports.ensures.0 c.if-not-have_same_ports.false)) (rw none at c.loop-left.invariant.so_far)
 
 pub step_pair-requires-clause-agreement : goal.step_pair-requires-clause-agreement
-step_pair-requires-clause-agreement g c = c.in_ok-agreement.ensures
+step_pair-requires-clause-agreement g c = c.in_ok-agreement.ensures.agreement
 
 pub loop-left-preserved : goal.loop-left-preserved
 loop-left-preserved g c =
