@@ -1,5 +1,5 @@
 -- SWITCHES THAT SAY THE SAME: the same ports, groups and entries, whose counters, times and flags treat no packet otherwise (OpenFlow 1.3.5, 5.2, 5.6 and 7.2.1).
-use Rattle.std.specs.Prelude.{◌≡◌, ℕ, List, [], Option, Some, None}
+use Rattle.std.specs.Prelude.{◌≡◌, ℕ, [], Option, Some, None}
 use Rattle.of_table.specs.Tables.{table_at}
 use Rattle.of_datapath.specs.Datapath.{Forwarding}
 use Rattle.of_alike.specs.SameGroups.{SameGroups}

@@ -4,3 +4,4 @@ pub mod TurnLemmas
 pub mod DifferingLemmas
 pub mod EntryLemmas
 pub mod ReasonLemmas
+pub mod WayLemmas

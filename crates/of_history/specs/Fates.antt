@@ -13,7 +13,7 @@ use Rattle.of_datapath.specs.Datapath.{Forwarding, world_of}
 use Rattle.of_datapath.specs.DryRun.{received_steps}
 use Rattle.of_text.specs.Lines.{ended}
 use Rattle.of_json.specs.LeavingWords.{side_words}
-use Rattle.of_history.specs.Sights.{line_with, winner_at}
+use Rattle.of_history.specs.Ways.{line_with, winner_at}
 
 -- a step, with the entry that it found
 abbrev pub fate_line : Forwarding → Step → List ℕ

@@ -1,3 +1,4 @@
+pub mod Ways
 pub mod Sights
 pub mod Fates
 pub mod Expiring

@@ -8,11 +8,13 @@ ghost use Rattle.of_json.specs.LeavingWords.{side_words};
 ghost use Rattle.std.specs.List.{flat_map};
 ghost use Rattle.of_history.specs.Expiring.{step_expiry, way_expiring};
 ghost use Rattle.of_history.specs.Fates.{deaf_port, fate, fate_line, fate_lines, received_fate, received_items};
-ghost use Rattle.of_history.specs.Sights.{sight_text, entry_said, winner_words};
+ghost use Rattle.of_history.specs.Sights.{sight_text};
+ghost use Rattle.of_history.specs.Ways.{entry_said, winner_words};
 
 use crate::expiring::push_step_expiry;
-use crate::sight::{Sight, WaySight, found_steps, is_of_way, winner_at};
+use crate::sight::{Sight, is_of_way};
 use crate::view::View;
+use crate::way::{WaySight, found_steps, winner_at};
 use of_classifier::Lookup;
 use of_headers::check_length;
 use of_json::push_side;
@@ -63,6 +65,7 @@ pub(crate) fn push_winner_words(out: &mut Vec<u8>, flow: &Flow) -> Result<(), Al
 }
 
 // Appends those of an entry, if there is one.
+#[tactic(auto, unfolding(of_trace::specs::Words::found_words))]
 fn push_winner(out: &mut Vec<u8>, flow: Option<&Flow>) -> Result<(), AllocError>
     ensures { OnOk result (out.new.items ≡ out.old.items ++ winner_words (option_map entry_said (option_copied flow.entry))) }
 {
@@ -73,7 +76,7 @@ fn push_winner(out: &mut Vec<u8>, flow: Option<&Flow>) -> Result<(), AllocError>
 }
 
 // Appends a step in words, an entry without its place in its table.
-#[tactic(auto, unfolding(of_trace::specs::Words::numbered_words, of_trace::specs::Words::words_line, crate::specs::Sights::line_with))]
+#[tactic(auto, unfolding(of_trace::specs::Words::numbered_words, of_trace::specs::Words::words_line, crate::specs::Ways::line_with))]
 fn push_fate_line<L: Lookup>(
     out: &mut Vec<u8>,
     switch: &Switch<L>,
@@ -109,7 +112,7 @@ fn push_fate_lines<L: Lookup>(
 }
 
 // What is seen of the run of a frame.
-#[tactic(auto, unfolding(crate::specs::Sights::way_words))]
+#[tactic(auto, unfolding(crate::specs::Ways::way_words))]
 fn way_sight<L: Lookup>(
     alloc: Global,
     switch: &Switch<L>,

@@ -14,6 +14,7 @@ mod sight;
 mod telling;
 mod view;
 mod watching;
+mod way;
 
 pub use cause::{By, Cause};
 pub use differing::LineByLine;
@@ -22,7 +23,8 @@ pub use fate::FrameView;
 pub use laws::fates_between;
 pub use objects::InJson;
 pub use reason::Reason;
-pub use sight::{FoundStep, Sight, WaySight, Winner};
+pub use sight::Sight;
 pub use telling::{ChangeTeller, InWords};
 pub use view::View;
 pub use watching::{LogHistory, history};
+pub use way::{FoundStep, WaySight, Winner};

@@ -1,0 +1,23 @@
+-- The words of a way.
+use Rattle.std.proofs.Common.{◌≡◌, ◌++◌, ℕ, List, [], ◌∷◌, refl, sym, ◌∙◌, ap, map}
+use Rattle.std.specs.List.{flat_map}
+use Rattle.of_machine.specs.declared.data.Item.{Item}
+use Rattle.of_machine.specs.declared.data.Step.{Step}
+use Rattle.of_datapath.specs.Datapath.{Forwarding}
+use Rattle.of_text.specs.Lines.{ended}
+use Rattle.of_json.specs.LeavingWords.{side_words}
+use Rattle.of_history.specs.declared.way.FoundStep.{FoundStep}
+use Rattle.of_history.specs.Fates.{fate_line, fate_lines}
+use Rattle.of_history.specs.Ways.{found_line, found_step, way_words}
+
+found_lines : (f : Forwarding) (steps : List Step) → flat_map found_line (map (found_step f) steps) ≡ fate_lines f steps
+found_lines f [] = refl
+found_lines f (s ∷ steps) = ap (λ l. ended (fate_line f s) ++ l) (found_lines f steps)
+
+-- lines and what is emitted, appended to nothing
+pub said_by_way : (f : Forwarding) (steps : List Step) (found : List FoundStep) (items : List Item) (none lines text : List ℕ) → none ≡ [] → found ≡ map (found_step f) steps →
+    lines ≡ none ++ fate_lines f steps → text ≡ lines ++ side_words [] items → text ≡ way_words found items
+unfolding way_words
+said_by_way f steps found items none lines text empty is said all =
+    let front : lines ≡ flat_map found_line found = said ∙ (ap (λ (l : List ℕ). l ++ fate_lines f steps) empty ∙ (sym (found_lines f steps) ∙ ap (λ (l : List FoundStep). flat_map found_line l) (sym is))) in
+    all ∙ ap (λ (l : List ℕ). l ++ side_words [] items) front
