@@ -174,7 +174,7 @@ Ports are numbers. With --port-names, names are read as well, as in_port=\"s1-et
   ofswitch import examples/ovs-router.txt
   ovs-ofctl -O OpenFlow13 --no-names dump-flows br0 | ofswitch import - > br0.flows
   ofswitch import --skip --renumber br-int.txt > br-int.flows
-  ovs-ofctl -O OpenFlow13 dump-ports-desc br0 > br0.ports
+  ovs-ofctl -O OpenFlow13 --no-names dump-ports-desc br0 > br0.ports
   ofswitch import --port-names br0.ports dump.txt
   ofswitch import --skip --json br-int.txt | jq '.flows[] | select(.counters.n_packets == \"0\") | .line'
   ofswitch check br0.flows";

@@ -76,7 +76,8 @@ fn add_protocol_words(
     partial: &mut PartialFlow,
     text: &[u8],
 ) -> Result<(), AllocError>
-    ensures { OnOk result (fold with_protocol_word (view_partial_flow partial.old) (words_before_actions (words_from 0 text.now)) ≡ view_partial_flow partial.new) }
+    ensures { OnOk result (fold with_protocol_word (view_partial_flow partial.old) (words_before_actions (words_from 0 text.now)) ≡
+        view_partial_flow partial.new) }
 {
     let mut rest = text;
     while !rest.is_empty() {
