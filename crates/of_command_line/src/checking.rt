@@ -1,6 +1,6 @@
 //! What `check` is asked for.
 
-use crate::command::{Argument, Kind};
+use crate::command::{Argument, Kind, PORT_NAMES};
 use crate::{
     Check, CheckOutput, NoRequest, SwitchFile, refused, steps_of, switch_file_of, text_of,
 };
@@ -42,7 +42,7 @@ nothing is found and a requirement is undecided; 0 if nothing is found.
   ofswitch check examples/office.txt --require examples/office.req";
 
 /// The arguments of `check`.
-pub(crate) const CHECK: [Argument; 11] = [
+pub(crate) const CHECK: [Argument; 12] = [
     Argument {
         name: "FILE",
         kind: Kind::Place,
@@ -93,6 +93,7 @@ pub(crate) const CHECK: [Argument; 11] = [
         kind: Kind::Optional("junit", "XML"),
         help: "With --require, also write the verdicts to this file, as JUnit writes test results",
     },
+    PORT_NAMES,
     Argument {
         name: "ports",
         kind: Kind::Optional("ports", "LIST"),

@@ -142,10 +142,10 @@ only in which entries are hit are one path; with --each, each set is a path of i
   undecided: 2 sets of frames: ...      why it is not known which steps frames take
   7 paths, 2 undecided
 
-An entry is named by its table and its number by age, from 0. With --port, only frames that come in by this port are divided, and
-with --match only those that match, in the words of a match of ovs-ofctl. With --to, only paths are printed whose frames leave by a
-port for some ingress port, go to the controller, or are dropped. With --json, the report is one JSON document, which
-names the entries that each set of frames hits.
+An entry is named by its table and its number by age, from 0. With --port, only frames that come in by this port are divided; without
+it, the frames of each ingress port are divided apart. With --match, only frames that match are divided, in the words of a match of
+ovs-ofctl. With --to, only paths are printed whose frames leave by that port, go to the controller, or are dropped. With --json, the
+report is one JSON document, which names the entries that each set of frames hits.
 
 Exit status: 0 each frame is in a path; 5 frames are undecided, or a port is named that the switch does not have; 2 the words of
 --match are not a match that a flow may have. If the file is at fault, the status is 1, 2 or 3, and the name of the file is before
@@ -169,9 +169,13 @@ names the line and the words, and nothing is printed, unless --skip leaves such 
 what was left out or changed; the first one is `# part of a table: N lines left out`. With --json it prints one JSON document
 about the import instead, or about the lines that are refused, and nothing on standard error.
 
+Ports are numbers. With --port-names, names are read as well, as in_port=\"s1-eth1\" or output:s1-eth1.
+
   ofswitch import examples/ovs-router.txt
   ovs-ofctl -O OpenFlow13 --no-names dump-flows br0 | ofswitch import - > br0.flows
   ofswitch import --skip --renumber br-int.txt > br-int.flows
+  ovs-ofctl -O OpenFlow13 --no-names dump-ports-desc br0 > br0.ports
+  ofswitch import --port-names br0.ports dump.txt
   ofswitch import --skip --json br-int.txt | jq '.flows[] | select(.counters.n_packets == \"0\") | .line'
   ofswitch check br0.flows";
 
@@ -274,6 +278,13 @@ pub(crate) enum Kind {
     Flag(&'static str),
 }
 
+// Of each command that reads what ovs-ofctl prints.
+pub(crate) const PORT_NAMES: Argument = Argument {
+    name: "port-names",
+    kind: Kind::Optional("port-names", "FILE"),
+    help: "Read names of ports in what ovs-ofctl prints as the numbers in FILE, which `ovs-ofctl dump-ports-desc` prints",
+};
+
 const REPLAY: [Argument; 6] = [
     Argument {
         name: "FILE",
@@ -315,7 +326,7 @@ const DISASSEMBLE: [Argument; 1] = [Argument {
     help: "The event file to run; - is standard input",
 }];
 
-const IMPORT: [Argument; 4] = [
+const IMPORT: [Argument; 5] = [
     Argument {
         name: "FILE",
         kind: Kind::Positional,
@@ -331,6 +342,7 @@ const IMPORT: [Argument; 4] = [
         kind: Kind::Flag("renumber"),
         help: "Give the tables that occur the numbers 0 to 15, in their order",
     },
+    PORT_NAMES,
     Argument {
         name: "json",
         kind: Kind::Flag("json"),
@@ -344,7 +356,7 @@ const SAY: [Argument; 1] = [Argument {
     help: "Messages in hexadecimal digits, or a file with such digits or with the bytes; - is standard input",
 }];
 
-const TRACE: [Argument; 13] = [
+const TRACE: [Argument; 14] = [
     Argument {
         name: "FILE",
         kind: Kind::Free,
@@ -405,6 +417,7 @@ const TRACE: [Argument; 13] = [
         kind: Kind::Flag("json"),
         help: "Print the trace as JSON (docs/JSON.md), without notes",
     },
+    PORT_NAMES,
     Argument {
         name: "ports",
         kind: Kind::Optional("ports", "LIST"),
@@ -412,7 +425,7 @@ const TRACE: [Argument; 13] = [
     },
 ];
 
-const DIFF: [Argument; 6] = [
+const DIFF: [Argument; 7] = [
     Argument {
         name: "A",
         kind: Kind::Positional,
@@ -433,6 +446,7 @@ const DIFF: [Argument; 6] = [
         kind: Kind::Flag("json"),
         help: "Print the differences as JSON (docs/JSON.md)",
     },
+    PORT_NAMES,
     Argument {
         name: "steps",
         kind: Kind::Optional("steps", "N"),
@@ -445,7 +459,7 @@ const DIFF: [Argument; 6] = [
     },
 ];
 
-const PATHS_ARGUMENTS: [Argument; 8] = [
+const PATHS_ARGUMENTS: [Argument; 9] = [
     Argument {
         name: "FILE",
         kind: Kind::Positional,
@@ -469,13 +483,14 @@ const PATHS_ARGUMENTS: [Argument; 8] = [
     Argument {
         name: "to",
         kind: Kind::Optional("to", "PLACE"),
-        help: "Print only paths that may leave by a port, that go to the `controller`, or that `drop` the frame",
+        help: "Print only paths that leave by that port, that go to the `controller`, or that `drop` the frame",
     },
     Argument {
         name: "json",
         kind: Kind::Flag("json"),
         help: "Print the paths as JSON (docs/JSON.md)",
     },
+    PORT_NAMES,
     Argument {
         name: "steps",
         kind: Kind::Optional("steps", "N"),

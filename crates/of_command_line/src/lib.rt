@@ -95,6 +95,8 @@ pub enum Request {
         renumber: bool,
         /// Whether the outcome is printed as one JSON document.
         json: bool,
+        /// What `ovs-ofctl dump-ports-desc` prints, for the names of ports.
+        port_names: Option<String>,
     },
     /// To print the trace of a frame that is received at a port of the switch of a file; `-` is standard input.
     Trace(Trace),
@@ -130,6 +132,8 @@ pub struct SwitchFile {
     pub kind: FileKind,
     /// The ports of the switch of a file that has none: if they are not given, those that its groups and flows name.
     pub ports: Option<Vec<u32>>,
+    /// What `ovs-ofctl dump-ports-desc` prints, for the names of ports.
+    pub port_names: Option<String>,
 }
 
 /// Which frame is traced, and how.
@@ -172,6 +176,8 @@ pub struct Diff {
     pub second: String,
     /// The ports of the switches of files that have none: if they are not given, those that both files name.
     pub ports: Option<Vec<u32>>,
+    /// What `ovs-ofctl dump-ports-desc` prints, for the names of ports in both files.
+    pub port_names: Option<String>,
     /// Whether packets to the controller are left out.
     pub frames: bool,
     /// After how many of them frames are given up.
@@ -348,6 +354,7 @@ fn file_request_of(
             skip: matches.get_flag("skip"),
             renumber: matches.get_flag("renumber"),
             json: matches.get_flag("json"),
+            port_names: port_names_of(alloc, matches)?,
         }),
         _ => {
             let run = run_of(alloc, name, matches)?;
@@ -431,6 +438,7 @@ fn diff_of(alloc: Global, matches: &ArgMatches<'_>) -> Result<Diff, NoRequest> {
         first: first.to_string(alloc)?,
         second: second.to_string(alloc)?,
         ports: port_list_of(alloc, matches.get_str("ports"))?,
+        port_names: port_names_of(alloc, matches)?,
         frames: matches.get_flag("frames"),
         steps: steps_of(alloc, matches.get_str("steps"))?,
         json: matches.get_flag("json"),
@@ -460,7 +468,19 @@ fn switch_file_of(alloc: Global, matches: &ArgMatches<'_>) -> Result<SwitchFile,
         path: path.to_string(alloc)?,
         kind,
         ports: port_list_of(alloc, matches.get_str("ports"))?,
+        port_names: port_names_of(alloc, matches)?,
     })
+}
+
+// The file with the names of ports, which is no standard input.
+fn port_names_of(alloc: Global, matches: &ArgMatches<'_>) -> Result<Option<String>, NoRequest> {
+    match matches.get_str("port-names") {
+        Some("-") => Err(refused(
+            alloc,
+            "bad --port-names: it is a file, not standard input\n",
+        )?),
+        path => Ok(text_of(alloc, path)?),
+    }
 }
 
 // A number of 32 bits as event files and flow texts write it: without a sign, and without zeros before it.

@@ -8,3 +8,4 @@ pub mod KeptLemmas
 pub mod ImportLemmas
 pub mod NoteLemmas
 pub mod CounterLemmas
+pub mod PortNameLemmas

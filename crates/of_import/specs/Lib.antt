@@ -17,3 +17,4 @@ pub mod Notes
 pub mod Counters
 pub mod CounterViews
 pub mod Imports
+pub mod PortNames

@@ -1,13 +1,15 @@
 -- WHAT A LINE SAYS (ovs-ofctl(8)): a flow, a group, nothing, or words that are refused.
-use Rattle.std.specs.Prelude.{ℕ, ◌==◌, ◌&&◌, ◌||◌, Bool, List, [], ◌∷◌, codes, length, Option, Some, None, Result, Ok, Err, if◌then◌else◌}
+use Rattle.std.specs.Prelude.{ℕ, ◌==◌, ◌&&◌, ◌||◌, Bool, List, [], ◌∷◌, codes, is_some, length, not, Option, Some, None, Result, Ok, Err, if◌then◌else◌}
+use Rattle.std.specs.List.{fold}
 use Rattle.std.specs.Str.{bytes_eq}
 use Rattle.of_text.specs.Flows.{Flow as TextFlow}
 use Rattle.of_text.specs.Groups.{TextGroup}
 use Rattle.of_text.specs.Lines.{before}
 use Rattle.of_ovs_words.specs.declared.why.Why.{Why}
+use Rattle.of_ovs_words.specs.ProtocolWords.{protocol_named}
 use Rattle.of_ovs_words.specs.Words.{after_word, is_gap, word_name, word_in, words_from}
 use Rattle.of_import.specs.declared.mode.Mode.{Mode}
-use Rattle.of_import.specs.PartialFlows.{PartialFlow, Refusal, blank, with_flow_word}
+use Rattle.of_import.specs.PartialFlows.{PartialFlow, Refusal, begins_actions, blank, with_flow_word}
 use Rattle.of_import.specs.Finished.{finished_flow, in_numbers, refusal_of}
 use Rattle.of_import.specs.PartialGroups.{PartialGroup, is_other_command, no_group, with_group_word, finished_group}
 
@@ -48,8 +50,28 @@ flow_unless None s = Flow (finished_flow s) (record { left = s.left; resubmits =
 unfoldable pub flow_content : PartialFlow → LineContent
 flow_content s = if length s.faults == 0 then flow_unless (refusal_of s) s else Refused s.faults
 
+-- ---- the words of a match that say a protocol are read before the others, whose fields depend on it
+
+abbrev pub says_protocol : List ℕ → Bool
+says_protocol word =
+    is_some (protocol_named (word_name word)) || bytes_eq (word_name word) (codes "dl_type") || bytes_eq (word_name word) (codes "eth_type")
+    || bytes_eq (word_name word) (codes "nw_proto") || bytes_eq (word_name word) (codes "ip_proto") || bytes_eq (word_name word) (codes "arp_op")
+
+abbrev pub words_before_actions : List (List ℕ) → List (List ℕ)
+words_before_actions [] = []
+words_before_actions (w ∷ ws) = if begins_actions (word_name w) then [] else w ∷ words_before_actions ws
+
+abbrev pub with_protocol_word : PartialFlow → List ℕ → PartialFlow
+with_protocol_word s word = if says_protocol word then with_flow_word s word else s
+
+abbrev pub with_later_word : PartialFlow → List ℕ → PartialFlow
+with_later_word s word = if not s.in_actions && says_protocol word then s else with_flow_word s word
+
+abbrev pub with_all_words : PartialFlow → List (List ℕ) → PartialFlow
+with_all_words s words = with_words with_later_word (fold with_protocol_word s (words_before_actions words)) words
+
 abbrev pub parsed_flow : Mode → List ℕ → List ℕ → LineContent
-parsed_flow mode numbers text = flow_content (in_numbers numbers (with_words with_flow_word (blank mode) (words_from 0 text)))
+parsed_flow mode numbers text = flow_content (in_numbers numbers (with_all_words (blank mode) (words_from 0 text)))
 
 abbrev pub group_or_why : Result TextGroup Why → LineContent
 group_or_why (Ok group) = Group group

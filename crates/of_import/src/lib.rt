@@ -13,6 +13,7 @@ mod notes;
 mod parsed_lines;
 mod partial_flow;
 mod partial_group;
+mod port_names;
 mod table_numbers;
 mod word_fault;
 
@@ -25,4 +26,5 @@ pub use line::FlowMarks;
 pub use mode::Mode;
 pub use of_ovs_words::{Why, name_of, value_of};
 pub use parsed_lines::{FlowLine, GroupLine, LineFaults};
+pub use port_names::with_port_numbers;
 pub use word_fault::WordFault;

@@ -1,12 +1,13 @@
 //! What a line says.
 ghost use Rattle.std.specs.Prelude.{◌≡◌, ◌++◌, ◌∷◌, [], ◌||◌, codes, IfOk, OnOk};
+ghost use Rattle.std.specs.List.{fold};
 ghost use Rattle.std.specs.Str.{bytes_eq};
 ghost use Rattle.of_text.specs.Lines.{before};
 ghost use Rattle.of_ovs_words.specs.Words.{words_from};
 ghost use Rattle.of_import.specs.Finished.{in_numbers, new_table_number as renumbered_by};
-ghost use Rattle.of_import.specs.PartialFlows.{blank, with_flow_word};
+ghost use Rattle.of_import.specs.PartialFlows.{blank};
 ghost use Rattle.of_import.specs.PartialGroups.{no_group, with_group_word};
-ghost use Rattle.of_import.specs.LineContents.{begins_group as begins_group_so, flow_content, group_content, parsed_flow, parsed_group, is_command_name as is_command_word, is_heading as is_heading_text, names_group_id as names_group_so, parsed_line, parsed_text as parsed_text_of, with_words, trimmed as trimmed_of};
+ghost use Rattle.of_import.specs.LineContents.{begins_group as begins_group_so, flow_content, group_content, parsed_flow, parsed_group, is_command_name as is_command_word, is_heading as is_heading_text, names_group_id as names_group_so, parsed_line, parsed_text as parsed_text_of, says_protocol as says_protocol_so, with_later_word, with_protocol_word, with_words, words_before_actions, trimmed as trimmed_of};
 ghost use Rattle.of_import.specs.Sound.{IsSoundContent};
 ghost use Rattle.of_import.specs.PartialFlowViews.{view_partial_flow};
 ghost use Rattle.of_import.specs.PartialGroupViews.{view_partial_group};
@@ -14,10 +15,10 @@ ghost use Rattle.of_import.specs.LineContentViews.{view_line_content};
 
 use crate::finish::{flow_from, refusal_of};
 use crate::mode::Mode;
-use crate::partial_flow::PartialFlow;
+use crate::partial_flow::{PartialFlow, begins_actions};
 use crate::partial_group::{PartialGroup, is_other_command};
 use crate::word_fault::WordFault;
-use of_ovs_words::{Stop, cut_word, fields_of, is_gap, name_of};
+use of_ovs_words::{ProtocolWord, Stop, cut_word, fields_of, is_gap, name_of};
 use of_text::{FlowText, GroupText, cut, is};
 use std::alloc::{AllocError, Global};
 
@@ -41,16 +42,79 @@ pub enum LineContent {
     Refused(Vec<WordFault>),
 }
 
-// Adds what words say of a flow.
-fn add_flow_words(alloc: Global, partial: &mut PartialFlow, text: &[u8]) -> Result<(), AllocError>
-    ensures { OnOk result (with_words with_flow_word (view_partial_flow partial.old) (words_from 0 text.now) ≡ view_partial_flow partial.new) }
+// Whether a word says a protocol, on which the fields of other words depend.
+fn says_protocol(word: &[u8]) -> bool
+    ensures { result ≡ says_protocol_so word.now }
+{
+    let name = name_of(word);
+    ProtocolWord::named(name).is_some()
+        || is(name, b"dl_type")
+        || is(name, b"eth_type")
+        || is(name, b"nw_proto")
+        || is(name, b"ip_proto")
+        || is(name, b"arp_op")
+}
+
+// Adds what a word says, if it says a protocol.
+fn add_protocol_word(
+    alloc: Global,
+    partial: &mut PartialFlow,
+    word: &[u8],
+) -> Result<(), AllocError>
+    ensures { OnOk result (view_partial_flow partial.new ≡ with_protocol_word (view_partial_flow partial.old) word.now) }
+{
+    if says_protocol(word) {
+        partial.add_word(alloc, word)
+    } else {
+        Ok(())
+    }
+}
+
+// Adds what the words of a match say that say a protocol.
+fn add_protocol_words(
+    alloc: Global,
+    partial: &mut PartialFlow,
+    text: &[u8],
+) -> Result<(), AllocError>
+    ensures { OnOk result (fold with_protocol_word (view_partial_flow partial.old) (words_before_actions (words_from 0 text.now)) ≡
+        view_partial_flow partial.new) }
+{
+    let mut rest = text;
+    while !rest.is_empty() {
+        let (word, after) = cut_word(rest);
+        rest = after;
+        if begins_actions(name_of(word)) {
+            return Ok(());
+        }
+        match add_protocol_word(alloc, partial, word) {
+            Ok(()) => {}
+            Err(error) => return Err(error),
+        }
+    }
+    Ok(())
+}
+
+// Adds what another word says.
+fn add_later_word(alloc: Global, partial: &mut PartialFlow, word: &[u8]) -> Result<(), AllocError>
+    ensures { OnOk result (view_partial_flow partial.new ≡ with_later_word (view_partial_flow partial.old) word.now) }
+{
+    if !partial.in_actions && says_protocol(word) {
+        Ok(())
+    } else {
+        partial.add_word(alloc, word)
+    }
+}
+
+// Adds what the other words say.
+fn add_later_words(alloc: Global, partial: &mut PartialFlow, text: &[u8]) -> Result<(), AllocError>
+    ensures { OnOk result (with_words with_later_word (view_partial_flow partial.old) (words_from 0 text.now) ≡ view_partial_flow partial.new) }
 {
     let mut rest = text;
     while !rest.is_empty() {
         let (word, after) = cut_word(rest);
         rest = after;
         if !word.is_empty() {
-            match partial.add_word(alloc, word) {
+            match add_later_word(alloc, partial, word) {
                 Ok(()) => {}
                 Err(error) => return Err(error),
             }
@@ -140,7 +204,8 @@ fn read_flow(
     ensures sound { IfOk result IsSoundContent }
 {
     let mut partial = PartialFlow::blank(alloc, mode);
-    add_flow_words(alloc, &mut partial, text)?;
+    add_protocol_words(alloc, &mut partial, text)?;
+    add_later_words(alloc, &mut partial, text)?;
     renumber(&mut partial, numbers);
     finish_flow(alloc, partial)
 }
@@ -173,8 +238,8 @@ fn read_group(alloc: Global, text: &[u8]) -> Result<LineContent, AllocError>
     finish_group(alloc, partial)
 }
 
-// Without white space before it.
-fn trimmed(text: &[u8]) -> &[u8]
+/// Without white space before it.
+pub fn trimmed(text: &[u8]) -> &[u8]
     ensures { result.now ≡ trimmed_of text.now }
 {
     for (i, byte) in text.iter().enumerate() {

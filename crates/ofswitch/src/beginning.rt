@@ -25,7 +25,7 @@ pub fn events_of_tables(rt: &HostRuntime, tables: Option<&str>) -> Result<Vec<Ev
     let Some(path) = tables else {
         return Ok(Vec::new(rt.alloc()));
     };
-    let read = read_file_contents(rt, path, FileKind::Guessed, None, false)?;
+    let read = read_file_contents(rt, path, FileKind::Guessed, None, false, &None)?;
     match events_of(rt.alloc(), &read.contents) {
         Ok(events) => Ok(events),
         Err(_) => Err(NoFile::ended(rt.alloc(), Ended::NoMemory)),

@@ -180,7 +180,14 @@ fn file_reported(
     asked: &Check,
     lines: Vec<Line>,
 ) -> Result<CheckVerdict, NoFile> {
-    let read = read_file_contents(rt, asked.of.path.as_str(), asked.of.kind, None, false)?;
+    let read = read_file_contents(
+        rt,
+        asked.of.path.as_str(),
+        asked.of.kind,
+        None,
+        false,
+        &asked.of.port_names,
+    )?;
     contents_reported(rt, asked, &read, lines)
 }
 

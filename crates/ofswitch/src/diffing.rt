@@ -9,8 +9,12 @@ use of_replay::Ended;
 use of_replay::streams::WriterSink;
 
 // What a file is read as. The name of one that is at fault comes before what is wrong with it.
-fn contents_of<'a>(rt: &HostRuntime, path: &'a str) -> Result<Contents<Lookups>, Unread<'a>> {
-    match read_file_contents(rt, path, FileKind::Guessed, None, true) {
+fn contents_of<'a>(
+    rt: &HostRuntime,
+    path: &'a str,
+    port_names: &Option<String>,
+) -> Result<Contents<Lookups>, Unread<'a>> {
+    match read_file_contents(rt, path, FileKind::Guessed, None, true, port_names) {
         Ok(FileRead { contents, .. }) => Ok(contents),
         Err(why) => Err(Unread { path, why }),
     }
@@ -86,8 +90,8 @@ fn found_in_files(
 /// Prints which frames the switches of two files treat differently, and returns whether they treat all frames alike. The first file is read
 /// before the second.
 pub fn diffed<'a>(rt: &HostRuntime, asked: &'a Diff) -> Result<DiffVerdict, Unread<'a>> {
-    let first = contents_of(rt, asked.first.as_str())?;
-    let second = contents_of(rt, asked.second.as_str())?;
+    let first = contents_of(rt, asked.first.as_str(), &asked.port_names)?;
+    let second = contents_of(rt, asked.second.as_str(), &asked.port_names)?;
     match found_in_files(rt, asked, first, second) {
         Ok(verdict) => Ok(verdict),
         Err(ended) => Err(Unread {

@@ -3,9 +3,9 @@ use crate::faults::{Fault, import_fault};
 use crate::importing::{NotImported, say_no_import};
 use crate::lookups::Lookups;
 use of_command_line::{FileKind, SwitchFile};
-use of_files::{Content, Contents, Described, NoContents, describe, read_contents};
+use of_files::{Content, Contents, Described, NoContents, content_of, describe, read_contents};
 use of_hints::Seen;
-use of_import::ImportError;
+use of_import::{ImportError, with_port_numbers};
 use of_ports::find_port;
 use of_replay::streams::ReaderSource;
 use of_replay::{Ended, READ_SIZE, ended_by, read_file, zeros};
@@ -65,6 +65,8 @@ pub enum NoFile {
     Faults(Option<Fault>),
     /// What was read of it, and how the run ends.
     Ended { seen: Seen, ended: Ended },
+    /// The names of ports are not read, as standard error says.
+    NoNames,
 }
 
 impl NoFile {
@@ -145,6 +147,41 @@ fn refused_table(rt: &HostRuntime, kind: FileKind, bytes: &[u8], error: &ImportE
     }
 }
 
+/// What ovs-ofctl prints, with the numbers of ports in place of the names that a file lists, if there is one.
+pub fn with_ports(
+    rt: &HostRuntime,
+    port_names: &Option<String>,
+    bytes: Vec<u8>,
+) -> Result<Vec<u8>, NoFile> {
+    let Some(path) = port_names else {
+        return Ok(bytes);
+    };
+    let Ok(list) = bytes_of(rt, path.as_str()) else {
+        let _ = eprintln!(rt; "bad --port-names: cannot read {path}");
+        return Err(NoFile::NoNames);
+    };
+    match with_port_numbers(rt.alloc(), &list, &bytes) {
+        Ok(numbered) => Ok(numbered),
+        Err(_) => Err(NoFile::ended(rt.alloc(), Ended::NoMemory)),
+    }
+}
+
+// The bytes of a file, and what it is; of what ovs-ofctl prints, ports are numbers.
+fn content_read(
+    rt: &HostRuntime,
+    path: &str,
+    kind: FileKind,
+    port_names: &Option<String>,
+) -> Result<(Vec<u8>, Content), NoFile> {
+    let bytes = bytes_of(rt, path)?;
+    let content = content_said(kind).unwrap_or(content_of(&bytes));
+    if content == Content::OvsTable {
+        Ok((with_ports(rt, port_names, bytes)?, content))
+    } else {
+        Ok((bytes, content))
+    }
+}
+
 // The name of a file, before what is wrong with it.
 fn say_name(rt: &HostRuntime, path: &str, named: bool) {
     if named {
@@ -160,15 +197,17 @@ pub fn read_file_contents(
     kind: FileKind,
     lines: Option<u64>,
     named: bool,
+    port_names: &Option<String>,
 ) -> Result<FileRead, NoFile> {
-    let bytes = match bytes_of(rt, path) {
-        Ok(bytes) => bytes,
+    let (bytes, content) = match content_read(rt, path, kind, port_names) {
+        Ok(read) => read,
+        Err(NoFile::NoNames) => return Err(NoFile::NoNames),
         Err(why) => {
             say_name(rt, path, named);
             return Err(why);
         }
     };
-    match read_contents(rt.alloc(), &bytes, content_said(kind), lines) {
+    match read_contents(rt.alloc(), &bytes, Some(content), lines) {
         Ok(contents) => Ok(FileRead { bytes, contents }),
         Err(NoContents::Ended(ended)) => {
             say_name(rt, path, named);
@@ -191,7 +230,7 @@ pub fn read_switch(
     lines: Option<u64>,
     named: bool,
 ) -> Result<Described<Lookups>, NoFile> {
-    let read = read_file_contents(rt, of.path.as_str(), of.kind, lines, named)?;
+    let read = read_file_contents(rt, of.path.as_str(), of.kind, lines, named, &of.port_names)?;
     match describe(rt.alloc(), read.contents, &of.ports) {
         Ok(described) => Ok(described),
         Err(_) => Err(NoFile::ended(rt.alloc(), Ended::NoMemory)),

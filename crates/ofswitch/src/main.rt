@@ -24,7 +24,7 @@ use crate::beginning::events_of_tables;
 use crate::checking::{CheckVerdict, checked};
 use crate::diffing::diffed;
 use crate::faults::print_fault;
-use crate::files::{NoFile, Opened, bytes_of, open, read_whole, said_dpid};
+use crate::files::{NoFile, Opened, bytes_of, open, read_whole, said_dpid, with_ports};
 use crate::folding::Folded;
 use crate::history::{HistoryVerdict, recounted};
 use crate::lookups::Lookups;
@@ -116,6 +116,7 @@ fn carry_out(rt: &HostRuntime, request: &Request) -> ExitCode {
             skip,
             renumber,
             json,
+            port_names,
         } => run_import(
             rt,
             file.as_str(),
@@ -124,6 +125,7 @@ fn carry_out(rt: &HostRuntime, request: &Request) -> ExitCode {
                 renumber: *renumber,
             },
             *json,
+            port_names,
         ),
         Request::Say { messages } => run_say(rt, messages.as_str()),
         Request::Serve(asked) => run_serve(rt, asked),
@@ -131,8 +133,14 @@ fn carry_out(rt: &HostRuntime, request: &Request) -> ExitCode {
     }
 }
 
-fn run_import(rt: &HostRuntime, path: &str, mode: Mode, json: bool) -> ExitCode {
-    let bytes = match bytes_of(rt, path) {
+fn run_import(
+    rt: &HostRuntime,
+    path: &str,
+    mode: Mode,
+    json: bool,
+    port_names: &Option<String>,
+) -> ExitCode {
+    let bytes = match bytes_of(rt, path).and_then(|bytes| with_ports(rt, port_names, bytes)) {
         Ok(bytes) => bytes,
         Err(why) => return end_unread(rt, path, why),
     };
@@ -288,6 +296,7 @@ fn end_unread(rt: &HostRuntime, path: &str, why: NoFile) -> ExitCode {
         NoFile::Ended { seen, ended } => end_file(rt, path, &seen, &ended),
         NoFile::Unopened(error) => end_unopened(rt, path, &error),
         NoFile::Faults(_) => ExitCode::from(BAD_LINES),
+        NoFile::NoNames => ExitCode::from(BAD_ARGUMENTS),
     }
 }
 
