@@ -142,9 +142,9 @@ only in which entries are hit are one path; with --each, each set is a path of i
   undecided: 2 sets of frames: ...      why it is not known which steps frames take
   7 paths, 2 undecided
 
-An entry is named by its table and its number by age, from 0. With --port, only frames that come in by this port are divided; without
-it, the frames of each ingress port are divided apart. With --match, only frames that match are divided, in the words of a match of
-ovs-ofctl. With --to, only paths are printed whose frames leave by that port, go to the controller, or are dropped. With --json, the
+An entry is named by its table and its number by age, from 0. With --port, only frames that come in by this port are divided, and
+with --match only those that match, in the words of a match of ovs-ofctl. With --to, only paths are printed whose frames leave by that
+port, go to the controller, or are dropped; without --port, the frames of each ingress port are divided apart then. With --json, the
 report is one JSON document, which names the entries that each set of frames hits.
 
 Exit status: 0 each frame is in a path; 5 frames are undecided, or a port is named that the switch does not have; 2 the words of

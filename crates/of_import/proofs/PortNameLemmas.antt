@@ -31,8 +31,9 @@ pub numbers_step : (list : List (List ℕ)) (here next : Bool) (old new all text
 unfolding with_port_numbers
 numbers_step list here next old new all text word end after h w e a n k i =
     let rest = with_port_numbers list (comes_before_port word end) (tokens false after) in
+    let numbered = numbered_token list here word in
     let first : tokens false text ≡ (word, end) ∷ tokens false after = rw (w, e, a) (first_token text h) in
-    rw (n, k) (append_assoc old (numbered_token list here word ++ end) rest ∙ (ap (λ (x : List ℕ). old ++ x) (append_assoc (numbered_token list here word) end rest) ∙ (sym (ap (λ (x : List (List ℕ × List ℕ)). old ++ with_port_numbers list here x) first) ∙ i)))
+    rw (n, k) (append_assoc (old ++ numbered) end rest ∙ (append_assoc old numbered (end ++ rest) ∙ (sym (ap (λ (x : List ℕ). old ++ x) (append_assoc numbered end rest)) ∙ (sym (ap (λ (x : List (List ℕ × List ℕ)). old ++ with_port_numbers list here x) first) ∙ i))))
 
 -- ---- the number of the first port of a name
 

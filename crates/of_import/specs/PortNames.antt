@@ -5,7 +5,7 @@ use Rattle.of_lines.specs.Lines.{before, behind}
 use Rattle.of_ovs_words.specs.declared.why.Why.{Why}
 use Rattle.of_ovs_words.specs.declared.why.Why.TheVariants.{PortName}
 use Rattle.of_ovs_words.specs.Ports.{port_in}
-use Rattle.of_ovs_words.specs.Words.{is_gap, is_mark}
+use Rattle.of_ovs_words.specs.Words.{is_gap}
 use Rattle.of_import.specs.LineContents.{trimmed}
 
 -- ---- the names, as `ovs-ofctl dump-ports-desc` prints them: ` 1(s1-eth1): addr:..`, ` LOCAL(s1): addr:..`
@@ -25,7 +25,7 @@ abbrev pub listed_name : List ℕ → List ℕ
 listed_name line = before 41 (behind 40 (trimmed line))
 
 abbrev pub lists_port : List ℕ → List ℕ → Bool
-lists_port name line = nat_lt 0 (length name) && says_port (listed_number line) && bytes_eq (listed_name line) name
+lists_port name line = not (length name == 0) && says_port (listed_number line) && bytes_eq (listed_name line) name
 
 -- the number of the first port of a name, or a word instead
 abbrev pub number_or : List ℕ → List ℕ → List (List ℕ) → List ℕ
@@ -49,7 +49,7 @@ port_number list word =
 -- ---- the words of a text, each with the byte that ends it, outside of quotation marks: a gap, a parenthesis, `=`, `:` or the end of the line
 
 abbrev pub ends_token : Bool → ℕ → Bool
-ends_token quoted b = (b == 10) || (not quoted && (is_gap b || is_mark b || b == 41))
+ends_token quoted b = (b == 10) || (not quoted && (is_gap b || b == 61 || b == 58 || b == 40 || b == 41))
 
 abbrev pub quoted_after : Bool → ℕ → Bool
 quoted_after quoted b = if b == 34 then not quoted else quoted

@@ -12,7 +12,10 @@ use std::alloc::{AllocError, Global};
 fn says_port(word: &[u8]) -> bool
     ensures { result ≡ says_port_so word.now }
 {
-    !matches!(port_in(Why::PortName, word), Err(Why::PortName))
+    match port_in(Why::PortName, word) {
+        Err(Why::PortName) => false,
+        _ => true,
+    }
 }
 
 fn listed_number(line: &[u8]) -> &[u8]

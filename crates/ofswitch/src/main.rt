@@ -140,7 +140,11 @@ fn run_import(
     json: bool,
     port_names: &Option<String>,
 ) -> ExitCode {
-    let bytes = match bytes_of(rt, path).and_then(|bytes| with_ports(rt, port_names, bytes)) {
+    let numbered = match bytes_of(rt, path) {
+        Ok(bytes) => with_ports(rt, port_names, bytes),
+        Err(why) => Err(why),
+    };
+    let bytes = match numbered {
         Ok(bytes) => bytes,
         Err(why) => return end_unread(rt, path, why),
     };
