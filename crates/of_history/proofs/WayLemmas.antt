@@ -7,7 +7,8 @@ use Rattle.of_datapath.specs.Datapath.{Forwarding}
 use Rattle.of_text.specs.Lines.{ended}
 use Rattle.of_json.specs.LeavingWords.{side_words}
 use Rattle.of_history.specs.declared.way.FoundStep.{FoundStep}
-use Rattle.of_history.specs.Fates.{fate_line, fate_lines}
+use Rattle.of_datapath.specs.DryRun.{received_steps}
+use Rattle.of_history.specs.Fates.{fate_line, fate_lines, received_fate, received_items}
 use Rattle.of_history.specs.Ways.{found_line, found_step, way_words}
 
 found_lines : (f : Forwarding) (steps : List Step) → flat_map found_line (map (found_step f) steps) ≡ fate_lines f steps
@@ -21,3 +22,11 @@ unfolding way_words
 said_by_way f steps found items none lines text empty is said all =
     let front : lines ≡ flat_map found_line found = said ∙ (ap (λ (l : List ℕ). l ++ fate_lines f steps) empty ∙ (sym (found_lines f steps) ∙ ap (λ (l : List FoundStep). flat_map found_line l) (sym is))) in
     all ∙ ap (λ (l : List ℕ). l ++ side_words [] items) front
+
+-- the words of the way of a frame that is received are its fate
+pub way_of_fate : (f : Forwarding) (port : ℕ) (frame : List ℕ) (steps : List Step) (items : List Item) → steps ≡ received_steps port frame f → items ≡ received_items port frame f →
+    way_words (map (found_step f) steps) items ≡ received_fate port frame f
+unfolding way_words received_fate
+way_of_fate f port frame steps items is emits =
+    ap (λ (l : List ℕ). l ++ side_words [] items) (found_lines f steps)
+    ∙ (ap (λ (l : List Step). fate_lines f l ++ side_words [] items) is ∙ ap (λ (l : List Item). fate_lines f (received_steps port frame f) ++ side_words [] l) emits)
