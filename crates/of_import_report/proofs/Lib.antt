@@ -1,2 +1,3 @@
 mod AnswerLemmas
 mod KeywordLemmas
+pub mod RowLemmas

@@ -1,10 +1,10 @@
 -- THE OUTCOME OF AN IMPORT AS JSON (RFC 8259): one object in one line.
-use Rattle.std.specs.Prelude.{ℕ, ◌+◌, Bool, true, false, List, [], ◌∷◌, ◌++◌, length, codes, decimal, Option, Some, None}
+use Rattle.std.specs.Prelude.{ℕ, ◌+◌, ◌==◌, Bool, true, false, List, [], ◌∷◌, ◌++◌, length, codes, decimal, Option, Some, None, if◌then◌else◌}
 use Rattle.of_wire.specs.CodeNames.{error_name}
 use Rattle.of_text.specs.Lines.{lines_of}
 use Rattle.of_values.specs.Origins.{view_words}
 use Rattle.of_json.specs.Parts.{document_head, key, listed, match_object, number_member, text_member, truth_member}
-use Rattle.of_json.specs.Strings.{array_member, counters_member, string, string_of}
+use Rattle.of_json.specs.Strings.{array_member, counters_member, string, string_member, string_of}
 use Rattle.of_import.specs.declared.word_fault.WordFault.{WordFault}
 use Rattle.of_import.specs.declared.parsed_lines.LineFaults.{LineFaults}
 use Rattle.of_import.specs.declared.parsed_lines.FlowLine.{FlowLine}
@@ -14,17 +14,21 @@ use Rattle.of_import.specs.declared.kept.KeptLines.{KeptLines}
 use Rattle.of_import.specs.declared.kept.LineRefusal.{LineRefusal}
 use Rattle.of_import.specs.declared.import.ImportError.{ImportError}
 use Rattle.of_import.specs.declared.import.ImportError.TheVariants.{NoMemory, Faults, Refused, TooMany}
-use Rattle.of_import_report.specs.Whys.{why_words}
+use Rattle.of_import_report.specs.Help.{help_of, reason_of}
 use Rattle.of_import_report.specs.Keywords.{keywords_in, lines_with}
 
 -- the first member of an object
 unfoldable pub import_line_member : ℕ → List ℕ
 import_line_member n = key (codes "line") ++ decimal n
 
--- ---- lines that are refused: `{"line":3,"words":[{"word":"ct(table=1)","why":".."}]}` for their words, `{"line":9,"type":2,"code":9,"error":".."}` by the switch
+-- ---- lines that are refused: `{"line":3,"words":[{"word":"vlan_pcp=9","why":"invalid value","help":"0 to 7"}]}` for their words, `{"line":9,"type":2,"code":9,"error":".."}` by the switch
+
+-- which values the keyword has, or which may be meant, if something helps
+abbrev pub help_member : List ℕ → List ℕ
+help_member help = if length help == 0 then [] else string_member (codes "help") help
 
 unfoldable pub word_object : WordFault → List ℕ
-word_object f = 123 ∷ key (codes "word") ++ string f.word.items ++ text_member (codes "why") (why_words f.why) ++ 125 ∷ []
+word_object f = 123 ∷ key (codes "word") ++ string f.word.items ++ text_member (codes "why") (reason_of f) ++ help_member (help_of f) ++ 125 ∷ []
 
 unfoldable pub fault_object : LineFaults → List ℕ
 fault_object l = 123 ∷ import_line_member l.line ++ array_member (codes "words") (listed word_object l.faults.items) ++ 125 ∷ []

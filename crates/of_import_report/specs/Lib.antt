@@ -1,5 +1,8 @@
 pub mod Views
 pub mod Whys
+pub mod Edits
+pub mod Help
+pub mod FaultLines
 pub mod Keywords
 pub mod Json
 pub mod Answers

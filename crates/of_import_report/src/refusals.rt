@@ -4,16 +4,16 @@ ghost use Rattle.std.specs.Option.{option_map};
 ghost use Rattle.of_json.specs.Parts.{listed};
 ghost use Rattle.of_json.specs.Strings.{array_member};
 ghost use Rattle.of_wire.specs.CodeNames.{error_name};
-ghost use Rattle.of_import_report.specs.Json.{error_member, fault_object, keyword_object, import_line_member, refusal_object, refused_members, word_object};
+ghost use Rattle.of_import_report.specs.Json.{error_member, fault_object, help_member, keyword_object, import_line_member, refusal_object, refused_members, word_object};
 ghost use Rattle.of_import_report.specs.Keywords.{keywords_in};
 ghost use Rattle.of_import_report.specs.Views.{view_names};
 
+use crate::help::{help_of, reason_of};
 use crate::keywords::{count_lines_with, keywords};
-use crate::whys::why_words;
 use of_import::{LineFaults, LineRefusal, WordFault};
 use of_json::{
     begin_array, push_array_member, push_key, push_listed, push_number_member, push_string,
-    push_text_member,
+    push_string_member, push_text_member,
 };
 use of_values::push_decimal;
 use of_wire::Code;
@@ -28,7 +28,17 @@ pub fn push_line_member(out: &mut Vec<u8>, line: usize) -> Result<(), AllocError
     push_decimal(out, line as u128)
 }
 
-// Appends a word and why it is refused.
+fn push_help_member(out: &mut Vec<u8>, help: &[u8]) -> Result<(), AllocError>
+    ensures { OnOk result (out.new.items ≡ out.old.items ++ help_member help.now) }
+{
+    if help.is_empty() {
+        Ok(())
+    } else {
+        push_string_member(out, b"help", help)
+    }
+}
+
+// Appends a word, why it is refused, and what helps.
 #[tactic(auto, unfolding(crate::specs::Json::word_object))]
 fn push_word(out: &mut Vec<u8>, fault: &WordFault) -> Result<(), AllocError>
     ensures { OnOk result (out.new.items ≡ out.old.items ++ word_object fault.now) }
@@ -36,7 +46,9 @@ fn push_word(out: &mut Vec<u8>, fault: &WordFault) -> Result<(), AllocError>
     out.push(b'{')?;
     push_key(out, b"word")?;
     push_string(out, &fault.word)?;
-    push_text_member(out, b"why", why_words(fault.why))?;
+    push_text_member(out, b"why", reason_of(fault))?;
+    let help = help_of(*out.allocator(), fault)?;
+    push_help_member(out, &help)?;
     out.push(b'}')?;
     Ok(())
 }

@@ -1,6 +1,7 @@
 //! What is wrong with a file, as a JSON document (docs/JSON.md).
 use crate::files::NoFile;
 use of_import::{ImportError, LineFaults, LineRefusal};
+use of_import_report::{help_of, reason_of};
 use of_json::{push_document_head, push_key, push_number_member, push_string, push_string_member};
 use of_replay::streams::WriterSink;
 use of_replay::{Ended, write_all};
@@ -14,6 +15,12 @@ pub struct Fault {
     line: Option<usize>,
     word: Option<Vec<u8>>,
     why: String,
+    // which values a keyword has, or which may be meant; or nothing
+    help: String,
+}
+
+fn text_of(alloc: Global, bytes: &[u8]) -> Result<String, AllocError> {
+    std::str::from_utf8(bytes).unwrap_or("?").to_string(alloc)
 }
 
 // A word that is refused, the first of a line.
@@ -24,7 +31,8 @@ fn word_fault(alloc: Global, of: &LineFaults) -> Result<Option<Fault>, AllocErro
     Ok(Some(Fault {
         line: Some(of.line),
         word: Some(first.word.to_vec(alloc)?),
-        why: format!(in alloc; "{}", first.why)?,
+        why: text_of(alloc, reason_of(first))?,
+        help: text_of(alloc, &help_of(alloc, first)?)?,
     }))
 }
 
@@ -34,6 +42,7 @@ fn refusal_fault(alloc: Global, of: &LineRefusal) -> Result<Fault, AllocError> {
         line: Some(of.line),
         word: None,
         why: format!(in alloc; "type {} code {}", of.code.kind, of.code.code)?,
+        help: String::new(alloc),
     })
 }
 
@@ -49,6 +58,7 @@ pub fn import_fault(alloc: Global, error: &ImportError) -> Result<Option<Fault>,
             line: None,
             word: None,
             why: format!(in alloc; "{count} tables: this switch has 16")?,
+            help: String::new(alloc),
         })),
         ImportError::NoMemory | ImportError::Refused { .. } => Ok(None),
     }
@@ -64,6 +74,7 @@ pub fn requirement_fault(
         line: Some(line),
         why: format!(in alloc; "{}", refusal.why)?,
         word: Some(refusal.word),
+        help: String::new(alloc),
     })
 }
 
@@ -85,6 +96,7 @@ fn ended_fault(alloc: Global, ended: &Ended) -> Result<Option<Fault>, AllocError
         line,
         word: None,
         why,
+        help: String::new(alloc),
     }))
 }
 
@@ -107,6 +119,9 @@ fn push_document(
         push_string_member(out, b"word", word)?;
     }
     push_string_member(out, b"why", fault.why.as_bytes())?;
+    if !fault.help.is_empty() {
+        push_string_member(out, b"help", fault.help.as_bytes())?;
+    }
     out.extend_from_slice(b"}}\n")
 }
 
@@ -122,6 +137,7 @@ fn document_on(
             line: None,
             word: None,
             why: format!(in alloc; "cannot open: {error}")?,
+            help: String::new(alloc),
         }),
         NoFile::Ended { ended, .. } => ended_fault(alloc, ended)?,
         NoFile::Faults(_) => None,

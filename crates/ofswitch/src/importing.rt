@@ -3,10 +3,11 @@
 use crate::hinting::say_refusal;
 use of_hints::import_hint;
 use of_import::{ImportError, ImportText, LineFaults, LineRefusal, Mode, import_text, name_of};
-use of_import_report::{import_as_json, left_out};
+use of_import_report::{fault_lines, import_as_json, left_out};
 use of_replay::streams::WriterSink;
 use of_replay::{Ended, write_all};
 use of_text::TextFault;
+use of_values::push_printable;
 use std::alloc::Global;
 
 /// Why nothing was printed, or not all.
@@ -17,6 +18,9 @@ pub enum NotImported {
     /// As other runs over a file end.
     Ended(Ended),
 }
+
+/// So many lines that are refused are named at most.
+const NAMED: usize = 20;
 
 /// How often a keyword was refused.
 #[derive(Drop)]
@@ -98,24 +102,25 @@ fn say_error(rt: &HostRuntime, error: &ImportError) -> NotImported {
     }
 }
 
-// Names lines that are refused on standard error, and how often which keyword is.
+// Names the first lines that are refused on standard error, and how often which keyword is.
 fn say_faults(rt: &HostRuntime, faults: &[LineFaults], refused: &[LineRefusal]) {
-    for it in faults {
-        for fault in it.faults.iter() {
-            let word = std::str::from_utf8(&fault.word).unwrap_or("?");
-            let _ = eprintln!(rt; "line {}: {}: {}", it.line, word, fault.why);
-            if let Some(missing) = fault.why.missing_word() {
-                let name = std::str::from_utf8(name_of(&fault.word)).unwrap_or("?");
-                let _ = eprintln!(rt; "write {missing},{name}=..");
-            }
-        }
+    if let Ok(text) = fault_lines(rt.alloc(), NAMED, faults) {
+        let text = std::str::from_utf8(&text).unwrap_or("?");
+        let _ = eprint!(rt; "{text}");
     }
-    for it in refused {
+    for it in refused.iter().take(NAMED.saturating_sub(faults.len())) {
         let _ = eprintln!(rt;
             "line {}: type {} code {}",
             it.line, it.code.kind, it.code.code
         );
         say_refusal(rt, it.code);
+    }
+    let more = faults
+        .len()
+        .saturating_add(refused.len())
+        .saturating_sub(NAMED);
+    if more > 0 {
+        let _ = eprintln!(rt; "and {more} more");
     }
     if faults.len() > 1 {
         if let Ok(tallies) = tallies_of(rt.alloc(), faults) {
@@ -159,6 +164,15 @@ fn count_one(
     Ok(())
 }
 
+// Names a keyword.
+fn say_tally(rt: &HostRuntime, tally: &Tally) {
+    let mut name = Vec::new(rt.alloc());
+    if push_printable(&mut name, &tally.name).is_ok() {
+        let name = std::str::from_utf8(&name).unwrap_or("?");
+        let _ = eprintln!(rt; "{name}: {} lines", tally.lines);
+    }
+}
+
 // Names the keywords, the most frequent first.
 fn say_tallies(rt: &HostRuntime, tallies: Vec<Tally>) {
     let mut most = usize::MAX;
@@ -173,8 +187,7 @@ fn say_tallies(rt: &HostRuntime, tallies: Vec<Tally>) {
             return;
         }
         for tally in tallies.iter().filter(|tally| tally.lines == next) {
-            let name = std::str::from_utf8(&tally.name).unwrap_or("?");
-            let _ = eprintln!(rt; "{name}: {} lines", tally.lines);
+            say_tally(rt, tally);
         }
         most = next;
     }

@@ -1,0 +1,26 @@
+-- LINES THAT ARE REFUSED FOR THEIR WORDS, as standard error names them.
+use Rattle.std.specs.Prelude.{ℕ, ◌==◌, List, [], ◌∷◌, ◌++◌, codes, decimal, length, map, take, Option, Some, None, if◌then◌else◌}
+use Rattle.std.specs.List.{flat_map}
+use Rattle.of_ovs_words.specs.declared.why.Why.{Why}
+use Rattle.of_ovs_words.specs.declared.why.Why.TheVariants as whys
+use Rattle.of_ovs_words.specs.Words.{word_name}
+use Rattle.of_values.specs.Origins.{printable}
+use Rattle.of_import.specs.declared.parsed_lines.LineFaults.{LineFaults}
+use Rattle.of_import.specs.declared.word_fault.WordFault.{WordFault}
+use Rattle.of_import_report.specs.Help.{help_of, reason_of}
+
+-- `: 0 to 7`
+abbrev pub behind_colon : List ℕ → List ℕ
+behind_colon words = if length words == 0 then [] else codes ": " ++ words
+
+-- `line 3: vlan_pcp=9: invalid value: 0 to 7`
+abbrev pub fault_words : ℕ → WordFault → List ℕ
+fault_words line f = codes "line " ++ decimal line ++ codes ": " ++ map printable f.word.items ++ codes ": " ++ reason_of f ++ behind_colon (help_of f) ++ 10 ∷ []
+
+-- the words of these lines
+abbrev pub line_words : LineFaults → List ℕ
+line_words l = flat_map (fault_words l.line) l.faults.items
+
+-- THE FIRST LINES, so many at most
+unfoldable pub first_words : ℕ → List LineFaults → List ℕ
+first_words most faults = flat_map line_words (take most faults)
