@@ -143,9 +143,9 @@ only in which entries are hit are one path; with --each, each set is a path of i
   7 paths, 2 undecided
 
 An entry is named by its table and its number by age, from 0. With --port, only frames that come in by this port are divided, and
-with --match only those that match, in the words of a match of ovs-ofctl. With --to, only paths are printed whose frames leave by a
-port for some ingress port, go to the controller, or are dropped. With --json, the report is one JSON document, which
-names the entries that each set of frames hits.
+with --match only those that match, in the words of a match of ovs-ofctl. With --to, only paths are printed whose frames leave by that
+port, go to the controller, or are dropped; without --port, the frames of each ingress port are divided apart then. With --json, the
+report is one JSON document, which names the entries that each set of frames hits.
 
 Exit status: 0 each frame is in a path; 5 frames are undecided, or a port is named that the switch does not have; 2 the words of
 --match are not a match that a flow may have. If the file is at fault, the status is 1, 2 or 3, and the name of the file is before
@@ -469,7 +469,7 @@ const PATHS_ARGUMENTS: [Argument; 8] = [
     Argument {
         name: "to",
         kind: Kind::Optional("to", "PLACE"),
-        help: "Print only paths that may leave by a port, that go to the `controller`, or that `drop` the frame",
+        help: "Print only paths that leave by that port, that go to the `controller`, or that `drop` the frame",
     },
     Argument {
         name: "json",
