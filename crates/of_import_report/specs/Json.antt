@@ -14,7 +14,7 @@ use Rattle.of_import.specs.declared.kept.KeptLines.{KeptLines}
 use Rattle.of_import.specs.declared.kept.LineRefusal.{LineRefusal}
 use Rattle.of_import.specs.declared.import.ImportError.{ImportError}
 use Rattle.of_import.specs.declared.import.ImportError.TheVariants.{NoMemory, Faults, Refused, TooMany}
-use Rattle.of_import_report.specs.Help.{help_of, reason_of}
+use Rattle.of_import_report.specs.Help.{help_of, word_reason}
 use Rattle.of_import_report.specs.Keywords.{keywords_in, lines_with}
 
 -- the first member of an object
@@ -28,7 +28,7 @@ abbrev pub help_member : List ℕ → List ℕ
 help_member help = if length help == 0 then [] else string_member (codes "help") help
 
 unfoldable pub word_object : WordFault → List ℕ
-word_object f = 123 ∷ key (codes "word") ++ string f.word.items ++ text_member (codes "why") (reason_of f) ++ help_member (help_of f) ++ 125 ∷ []
+word_object f = 123 ∷ key (codes "word") ++ string f.word.items ++ text_member (codes "why") (word_reason f) ++ help_member (help_of f) ++ 125 ∷ []
 
 unfoldable pub fault_object : LineFaults → List ℕ
 fault_object l = 123 ∷ import_line_member l.line ++ array_member (codes "words") (listed word_object l.faults.items) ++ 125 ∷ []

@@ -1,7 +1,7 @@
 //! Lines that are refused for their words, for standard error.
 ghost use Rattle.std.specs.Prelude.{◌≡◌, ◌++◌, IfOk, OnOk, take};
 ghost use Rattle.std.specs.List.{flat_map};
-ghost use Rattle.of_import_report.specs.FaultLines.{behind_colon, fault_words, first_words, line_words};
+ghost use Rattle.of_import_report.specs.FaultLines.{behind_colon, refused_word_line, first_words, words_of_refused_line};
 
 use crate::help::{help_of, reason_of};
 use of_import::{LineFaults, WordFault};
@@ -20,7 +20,7 @@ fn push_behind_colon(out: &mut Vec<u8>, words: &[u8]) -> Result<(), AllocError>
 
 // Appends a word of a line, why it is refused, and what helps.
 fn push_fault(out: &mut Vec<u8>, line: usize, fault: &WordFault) -> Result<(), AllocError>
-    ensures { OnOk result (out.new.items ≡ out.old.items ++ fault_words line fault.now) }
+    ensures { OnOk result (out.new.items ≡ out.old.items ++ refused_word_line line fault.now) }
 {
     out.extend_from_slice(b"line ")?;
     push_decimal(out, line as u128)?;
@@ -35,7 +35,7 @@ fn push_fault(out: &mut Vec<u8>, line: usize, fault: &WordFault) -> Result<(), A
 }
 
 fn push_line(out: &mut Vec<u8>, it: &LineFaults) -> Result<(), AllocError>
-    ensures { OnOk result (out.new.items ≡ out.old.items ++ line_words it.now) }
+    ensures { OnOk result (out.new.items ≡ out.old.items ++ words_of_refused_line it.now) }
 {
     for fault in it.faults.iter() {
         push_fault(out, it.line, fault)?;
@@ -44,7 +44,7 @@ fn push_line(out: &mut Vec<u8>, it: &LineFaults) -> Result<(), AllocError>
 }
 
 fn push_lines(out: &mut Vec<u8>, faults: &[LineFaults]) -> Result<(), AllocError>
-    ensures { OnOk result (out.new.items ≡ out.old.items ++ flat_map line_words faults.now) }
+    ensures { OnOk result (out.new.items ≡ out.old.items ++ flat_map words_of_refused_line faults.now) }
 {
     for it in faults {
         push_line(out, it)?;

@@ -1,7 +1,7 @@
 use Rattle.std.proofs.Common.{◌≡◌, ◌++◌, take}
 use Rattle.std.specs.List.{flat_map}
-use Rattle.of_import_report.specs.FaultLines.{line_words}
+use Rattle.of_import_report.specs.FaultLines.{words_of_refused_line}
 use Rattle.of_import_report.proofs.listing.push_lines.Given as goal
 
 abbrev pub invariant-loop-it : goal.invariant-loop-it
-invariant-loop-it l = l.out.items ≡ l.initial.out.items ++ flat_map line_words (take l.it-index l.faults)
+invariant-loop-it l = l.out.items ≡ l.initial.out.items ++ flat_map words_of_refused_line (take l.it-index l.faults)
