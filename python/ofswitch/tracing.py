@@ -18,7 +18,7 @@ _MISSING_PORTS = 5
 def trace(
     switch: str | os.PathLike[str], port: int, frame: Octets | str, *, program: StrPath | None = None, timeout: float = 600.0
 ) -> dict[str, Any]:
-    """The steps of a frame that comes in by a port, and what leaves, as docs/JSON.md describes them: `steps`, `leaves` and the rest.
+    """The steps of a frame that comes in by a port, and what leaves, as docs/JSON.md describes them: `steps`, `effects` and the rest.
 
     The switch is a text, or the path of a file (a `pathlib.Path`): flow text, an event file, or what `ovs-ofctl` prints. The frame is
     bytes, or words: "tcp,nw_src=10.0.0.1,tp_dst=80". ValueError if the text, the port or the frame has a fault.
@@ -33,6 +33,9 @@ def trace(
     def by_library(it: library.Library) -> dict[str, Any]:
         octets = it.frame_in_words(frame) if isinstance(frame, str) else rows.as_bytes(frame)
         found = it.trace(library.content_of(switch), port, octets)
+        # the program says whether the switch has the port
+        if not found["steps"]:
+            raise library.Fault(0)
         return found
 
     return answered(program, by_library, by_program)

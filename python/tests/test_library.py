@@ -33,7 +33,7 @@ def way(request, monkeypatch):
 
 def test_check(way):
     found = ofswitch.check(FLOWS)
-    assert [it["verdict"] for it in found["flows"]] == ["wins", "shadowed"]
+    assert [it["verdict"] for it in found["flows"]] == ["wins", "never wins"]
     assert ofswitch.check(FLOWS, steps=0)["flows"] != []
 
 
@@ -55,7 +55,7 @@ def test_paths(way):
 
 def test_trace(way):
     found = ofswitch.trace(FLOWS, 1, WORDS)
-    assert [it["port"] for it in found["leaves"]] == [2]
+    assert [it["port"] for it in found["effects"]] == [2]
     assert ofswitch.trace(FLOWS, 1, bytes.fromhex(found["frame"])) == found
     with pytest.raises(ValueError):
         ofswitch.trace(FLOWS, 77, WORDS)
@@ -64,8 +64,10 @@ def test_trace(way):
 
 
 def test_import(way):
-    assert ofswitch.import_(FLOWS)["flow_text"].startswith("flow table=0 priority=10")
-    assert ofswitch.import_(FLOWS + "no=word actions=output:1\n").get("refused")
+    found = ofswitch.import_(FLOWS)
+    assert found["imported"] and found["text"][0].startswith("flow 0 10 ")
+    refused = ofswitch.import_(FLOWS + "no=word actions=output:1\n")
+    assert not refused["imported"] and [it["line"] for it in refused["faults"]] == [3]
 
 
 def test_a_fault(way):
