@@ -1,1 +1,2 @@
 mod GivingLemmas
+pub mod Walking
