@@ -20,6 +20,7 @@ use Rattle.of_diff_report.specs.declared.reserved.Limits.{Limits}
 use Rattle.of_diff_report.specs.declared.telling.Told.{Told}
 use Rattle.of_diff_report.specs.EntryHits.{changed_member, hit_entries_member}
 use Rattle.of_diff_report.specs.DiffWords.{are_same_with}
+use Rattle.of_diff_report.specs.RegionWords.{count_of_entries}
 
 -- ---- a difference
 
@@ -33,12 +34,12 @@ both_hits_members a b t =
     hit_entries_member (codes "first_entries") a t.first.all.items ++ changed_member (codes "first_changed") t.first.all.items
     ++ hit_entries_member (codes "second_entries") b t.second.all.items ++ changed_member (codes "second_changed") t.second.all.items
 
--- the region of the first set of frames, if there are words for it: the range of the TTL, and how many lists of conditions match none of its frames
+-- the region of the first set of frames, if there are words for it: the range of the TTL, and how many matches of entries match none of its frames
 unfoldable pub ttl_member : FrameSet → List ℕ
 ttl_member s = array_member (codes "region_ttl") (decimal s.ttl_from ++ 44 ∷ decimal s.ttl_to)
 
 unfoldable pub set_members : List ℕ → FrameSet → List ℕ
-set_members words s = string_member (codes "region") words ++ ttl_member s ++ number_member (codes "region_without") (length s.part.lacks.items)
+set_members words s = string_member (codes "region") words ++ ttl_member s ++ number_member (codes "region_without") (count_of_entries s.part.lacks.items)
 
 abbrev pub region_members : List FrameSet → Option (Vec ℕ) → List ℕ
 region_members sets None = []

@@ -5,6 +5,7 @@ ghost use Rattle.of_changes.specs.ChangesInJson.{changes_member};
 ghost use Rattle.of_diff_report.specs.DiffJson.{also_member, also_object, at_member, both_hits_members, diff_document, diff_head, diff_json, difference_members, difference_object, differences_listed, limits_in_json, limits_member as limits_member_of, missing_member, other_ports_json, region_members, same_in_json, set_members, ttl_member, undecided_member, undecided_string, why_name};
 
 use crate::hits::{DiffSide, FileFlows, push_changed_member, push_hits_member};
+use crate::region::lacking;
 use crate::reserved::{Limits, Reserved};
 use crate::telling::Told;
 use crate::words::is_same_with;
@@ -101,7 +102,7 @@ fn push_set_members(
 {
     push_string_member(out, b"region", words)?;
     push_ttl_member(out, frames)?;
-    push_number_member(out, b"region_without", frames.part.lacks.len() as u128)
+    push_number_member(out, b"region_without", lacking(frames) as u128)
 }
 
 // Appends the region of the first of some sets of frames, if there are words for it.

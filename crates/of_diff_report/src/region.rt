@@ -6,7 +6,7 @@ ghost use Rattle.of_regions.specs.declared.meeting.Meeting.TheVariants.{Whole};
 ghost use Rattle.of_regions.specs.Meeting.{Meets};
 ghost use Rattle.of_regions.specs.Searching.{InSome};
 ghost use Rattle.of_symbolic_run.specs.declared.frame_set.FrameSet.{FrameSet as AFrameSet};
-ghost use Rattle.of_diff_report.specs.RegionWords.{IsRegionOf, IsTrueOf, lacks_part, matches_word, region_line, set_line, ttl_part, words_said};
+ghost use Rattle.of_diff_report.specs.RegionWords.{IsRegionOf, IsTrueOf, count_of_entries, is_of_entry as is_of_entry_by, is_port_block as is_port_block_by, lacks_part, matches_word, region_line, set_line, ttl_part, words_said};
 
 use of_frame_words::{NoFrame, read_conditions};
 use of_layers::Field;
@@ -231,6 +231,30 @@ fn push_ttl(out: &mut Vec<u8>, low: u8, high: u8) -> Result<(), AllocError>
     push_decimal(out, u128::from(high))
 }
 
+fn is_port_block(e: &MatchField) -> bool
+    ensures { result ≡ is_port_block_by e.now }
+{
+    e.field.number() == Field::InPort.number() && e.mask.is_some()
+}
+
+fn is_of_entry(conditions: &Vec<MatchField>) -> bool
+    ensures { result ≡ is_of_entry_by conditions.now }
+{
+    conditions.iter().any(|e| !is_port_block(e))
+}
+
+/// How many lists of conditions are those of entries: the others leave out the numbers of ports that the switches do not have.
+pub fn lacking(frames: &FrameSet) -> usize
+    ensures { result ≡ count_of_entries frames.now.part.lacks.items }
+{
+    frames
+        .part
+        .lacks
+        .iter()
+        .filter(|conditions| is_of_entry(conditions))
+        .count()
+}
+
 fn word_for_matches(count: usize) -> &'static [u8]
     ensures { result.now ≡ matches_word count }
 {
@@ -256,7 +280,7 @@ fn push_set(out: &mut Vec<u8>, words: &[u8], frames: &FrameSet) -> Result<(), Al
     out.extend_from_slice(b"    region: ")?;
     out.extend_from_slice(said(words))?;
     push_ttl(out, frames.ttl_from, frames.ttl_to)?;
-    push_lacks(out, frames.part.lacks.len())?;
+    push_lacks(out, lacking(frames))?;
     out.push(b'\n')?;
     Ok(())
 }
