@@ -7,7 +7,7 @@ use Rattle.of_datapath.specs.Datapath.{Forwarding}
 use Rattle.of_symbolic.proofs.PartLemmas.{first_or_next}
 use Rattle.of_diff.specs.declared.difference.Difference.{Difference}
 use Rattle.of_diff_report.specs.declared.telling.Told.{Told}
-use Rattle.of_diff_report.specs.Telling.{IsJoined, IsTold, Tells, TellsAll, is_of_kind, joined}
+use Rattle.of_diff_report.specs.Telling.{IsJoined, IsTold, PutsTold, PutsAllTold, is_of_kind, joined}
 
 -- none of these is of the kind
 abbrev pub AreOthers : Told → List Told → Type 0
@@ -20,14 +20,14 @@ one_other t told i b is lt no old x there = elim (first_or_next told i b x is lt
 ]
 
 -- one more
-pub tell_more : (f g : Forwarding) (found rest : List Difference) (d : Difference) (old new end : List Told) (t : Told) → found ≡ d ∷ rest → IsTold f g d t → Tells d t old new → TellsAll f g rest new end → TellsAll f g found old end
-tell_more f g found rest d old new end t is told tells others = subst (λ (ds : List Difference). TellsAll f g ds old end) (sym is) (t, new, told, tells, others)
+pub tell_more : (f g : Forwarding) (found rest : List Difference) (d : Difference) (old new end : List Told) (t : Told) → found ≡ d ∷ rest → IsTold f g d t → PutsTold d t old new → PutsAllTold f g rest new end → PutsAllTold f g found old end
+tell_more f g found rest d old new end t is told tells others = subst (λ (ds : List Difference). PutsAllTold f g ds old end) (sym is) (t, new, told, tells, others)
 
-pub told_last : (f g : Forwarding) (found : List Difference) (told : List Told) → found ≡ [] → TellsAll f g found told told
-told_last f g found told is = subst (λ (ds : List Difference). TellsAll f g ds told told) (sym is) refl
+pub told_last : (f g : Forwarding) (found : List Difference) (told : List Told) → found ≡ [] → PutsAllTold f g found told told
+told_last f g found told is = subst (λ (ds : List Difference). PutsAllTold f g ds told told) (sym is) refl
 
 -- told with the one at a place
-pub told_at : (d : Difference) (t : Told) (old : List Told) (i : ℕ) (x y : Told) → x ≡ get_or old i x → (b : Told) × (slice_get old i ≡ Some b) × (is_of_kind b t ≡ true) → IsJoined x d y → Tells d t old (set old i y)
+pub told_at : (d : Difference) (t : Told) (old : List Told) (i : ℕ) (x y : Told) → x ≡ get_or old i x → (b : Told) × (slice_get old i ≡ Some b) × (is_of_kind b t ≡ true) → IsJoined x d y → PutsTold d t old (set old i y)
 told_at d t old i x y is some h =
     let lt = slice_get_within old i some.0 some.1 in
     let two : Some x ≡ Some some.0 = ap Some is ∙ (sym (slice_get-get_or old i x lt) ∙ some.1) in

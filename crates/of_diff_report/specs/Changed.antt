@@ -15,11 +15,11 @@ abbrev pub hits_in : ℕ → List ℕ → Forwarding → List Hit
 hits_in port frame f = flat_map hits_at (steps_in port frame f)
 
 -- the same table of the other switch has an entry with its priority, match, cookie and instructions
-abbrev pub IsKept : Forwarding → Forwarding → Hit → Type 0
-IsKept f g hit = (hit.table < 16) × (e : FlowEntry) × (slice_get (entries_in f hit.table) hit.number ≡ Some e) × Contains (map says_of (entries_in g hit.table)) (says_of e)
+abbrev pub IsInOther : Forwarding → Forwarding → Hit → Type 0
+IsInOther f g hit = (hit.table < 16) × (e : FlowEntry) × (slice_get (entries_in f hit.table) hit.number ≡ Some e) × Contains (map says_of (entries_in g hit.table)) (says_of e)
 
 abbrev pub IsMarked : Forwarding → Forwarding → MarkedHit → Type 0
-IsMarked f g h = (h.changed ≡ false) ↔ IsKept f g h.hit
+IsMarked f g h = (h.changed ≡ false) ↔ IsInOther f g h.hit
 
 abbrev pub hit_of : MarkedHit → Hit
 hit_of h = h.hit

@@ -36,9 +36,9 @@ other_ports_text Words missing = other_ports_words missing
 other_ports_text Json missing = other_ports_json missing
 
 -- that the ports differ, or the differences as they are told
-abbrev pub IsTextOf : DiffForm → FileFlows → FileFlows → List ℕ → Option Limits → Forwarding → Forwarding → Option Differences → List ℕ → Type 0
-IsTextOf form a b missing limits f g None text = text ≡ other_ports_text form missing
-IsTextOf form a b missing limits f g (Some ds) text = (told : List Told) × AreTold f g ds.found.items told × (text ≡ diff_text form a b missing limits f told ds)
+abbrev pub IsTextFound : DiffForm → FileFlows → FileFlows → List ℕ → Option Limits → Forwarding → Forwarding → Option Differences → List ℕ → Type 0
+IsTextFound form a b missing limits f g None text = text ≡ other_ports_text form missing
+IsTextFound form a b missing limits f g (Some ds) text = (told : List Told) × AreTold f g ds.found.items told × (text ≡ diff_text form a b missing limits f told ds)
 
 abbrev pub verdict_on : List ℕ → Option Limits → Differences → DiffVerdict
 verdict_on missing limits ds = if are_same_with missing limits ds then Same else if length ds.found.items == 0 then Undecided else Differs
@@ -55,7 +55,7 @@ IsVerdictResult (Err ended) is = ended ≢ Done
 -- THE TEXT of what is found about two switches. The runs of all frames take at most so many steps together, and each search for a frame as many.
 abbrev pub IsDiffReport : Result DiffVerdict Ended → DiffForm → FileFlows → FileFlows → List ℕ → Option Limits → Compared → ℕ → Forwarding → Forwarding → List ℕ → Type 0
 IsDiffReport result form a b missing limits c steps f g text =
-    (found : Option Differences) × AreFoundBetween c steps f g found × IsTextOf form a b missing limits f g found text × IsVerdictResult result (diff_verdict missing limits found)
+    (found : Option Differences) × AreFoundBetween c steps f g found × IsTextFound form a b missing limits f g found text × IsVerdictResult result (diff_verdict missing limits found)
 
 -- WHAT THE VERDICT MEANS: each frame that is received is treated alike; or some frame is not, which both ran; or the ports differ
 abbrev pub IsVerdict : Compared → Forwarding → Forwarding → DiffVerdict → Type 0

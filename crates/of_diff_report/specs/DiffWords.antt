@@ -67,12 +67,12 @@ limits_line (Some l) = limits_words l
 -- switch the entries that it hits and what leaves, how many sets of frames it has, if more than one, and where further differences of the same changed
 -- entries are
 
-unfoldable pub place_words : Where → List ℕ
-place_words (ByPort port) = codes "by port " ++ decimal port
-place_words Controller = codes "to the controller"
+unfoldable pub at_words : Where → List ℕ
+at_words (ByPort port) = codes "by port " ++ decimal port
+at_words Controller = codes "to the controller"
 
 unfoldable pub where_words : Where → List ℕ
-where_words at = codes "differs " ++ place_words at ++ codes ": "
+where_words at = codes "differs " ++ at_words at ++ codes ": "
 
 unfoldable pub sets_words : ℕ → List ℕ
 sets_words n = codes "    sets of frames: " ++ decimal n ++ 10 ∷ []
@@ -93,19 +93,19 @@ is_same_place (ByPort port) (ByPort other) = port == other
 is_same_place Controller Controller = true
 is_same_place place other = false
 
-abbrev pub with_place : List Where → Where → List Where
-with_place places at = if list_any (is_same_place at) places then places else places ++ at ∷ []
+abbrev pub with_where : List Where → Where → List Where
+with_where places at = if list_any (is_same_place at) places then places else places ++ at ∷ []
 
-abbrev pub places_after : List Where → List (Bor Difference) → List Where
-places_after places [] = places
-places_after places (d ∷ ds) = places_after (with_place places d.now.at) ds
+abbrev pub wheres_after : List Where → List (Bor Difference) → List Where
+wheres_after places [] = places
+wheres_after places (d ∷ ds) = wheres_after (with_where places d.now.at) ds
 
 unfoldable pub further_place : Where → List ℕ
-further_place at = codes ", " ++ place_words at
+further_place at = codes ", " ++ at_words at
 
 -- `    also: 9 differences, by port 2, to the controller`
 unfoldable pub also_words : List (Bor Difference) → List ℕ
-also_words also = codes "    also: " ++ difference_count (length also) ++ flat_map further_place (places_after [] also) ++ 10 ∷ []
+also_words also = codes "    also: " ++ difference_count (length also) ++ flat_map further_place (wheres_after [] also) ++ 10 ∷ []
 
 unfoldable pub also_line : List (Bor Difference) → List ℕ
 also_line also = if length also == 0 then [] else also_words also

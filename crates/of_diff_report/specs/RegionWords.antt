@@ -28,8 +28,8 @@ abbrev pub words_said : List ℕ → List ℕ
 words_said words = if length words == 0 then codes "all frames" else words
 
 -- the range of the TTL, if the frame has one and not each TTL is in it
-unfoldable pub ttl_part : ℕ → ℕ → List ℕ
-ttl_part low high = if low == 0 && high == 255 then [] else codes " with nw_ttl " ++ decimal low ++ codes " to " ++ decimal high
+unfoldable pub ttl_range_part : ℕ → ℕ → List ℕ
+ttl_range_part low high = if low == 0 && high == 255 then [] else codes " with nw_ttl " ++ decimal low ++ codes " to " ++ decimal high
 
 -- a condition on IN_PORT under a mask, which no entry has, leaves out the numbers of ports that the switches do not have
 abbrev pub is_port_block : MatchField → Bool
@@ -50,7 +50,7 @@ unfoldable pub lacks_part : ℕ → List ℕ
 lacks_part n = if n == 0 then [] else codes " without " ++ decimal n ++ matches_word n
 
 unfoldable pub set_line : List ℕ → FrameSet → List ℕ
-set_line words s = codes "    region: " ++ words_said words ++ ttl_part s.ttl_from s.ttl_to ++ lacks_part (count_of_entries s.part.lacks.items) ++ 10 ∷ []
+set_line words s = codes "    region: " ++ words_said words ++ ttl_range_part s.ttl_from s.ttl_to ++ lacks_part (count_of_entries s.part.lacks.items) ++ 10 ∷ []
 
 abbrev pub region_line : List FrameSet → Option (Vec ℕ) → List ℕ
 region_line sets None = []

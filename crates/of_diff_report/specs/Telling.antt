@@ -35,15 +35,15 @@ pub record IsJoined (old : Told) (d : Difference) (new : Told) : Type 0 where
   pub also : (further : Bor Difference) × (further.now ≡ d) × (new.also.items ≡ old.also.items ++ further ∷ [])
 
 -- with the first of its kind, or by itself behind all others
-pub data Tells (d : Difference) (t : Told) (old new : List Told) : Type 0 where
-  joined : (i : ℕ) (b c : Told) → slice_get old i ≡ Some b → is_of_kind b t ≡ true → IsJoined b d c → new ≡ slice_set old i c → Tells d t old new
-  own : ((b : Told) → Contains old b → is_of_kind b t ≡ false) → new ≡ old ++ t ∷ [] → Tells d t old new
+pub data PutsTold (d : Difference) (t : Told) (old new : List Told) : Type 0 where
+  joined : (i : ℕ) (b c : Told) → slice_get old i ≡ Some b → is_of_kind b t ≡ true → IsJoined b d c → new ≡ slice_set old i c → PutsTold d t old new
+  own : ((b : Told) → Contains old b → is_of_kind b t ≡ false) → new ≡ old ++ t ∷ [] → PutsTold d t old new
 
 -- one after the other
-abbrev pub TellsAll : Forwarding → Forwarding → List Difference → List Told → List Told → Type 0
-TellsAll f g [] old new = new ≡ old
-TellsAll f g (d ∷ ds) old new = (t : Told) × (next : List Told) × IsTold f g d t × Tells d t old next × TellsAll f g ds next new
+abbrev pub PutsAllTold : Forwarding → Forwarding → List Difference → List Told → List Told → Type 0
+PutsAllTold f g [] old new = new ≡ old
+PutsAllTold f g (d ∷ ds) old new = (t : Told) × (next : List Told) × IsTold f g d t × PutsTold d t old next × PutsAllTold f g ds next new
 
 -- THE DIFFERENCES AS THEY ARE TOLD
 abbrev pub AreTold : Forwarding → Forwarding → List Difference → List Told → Type 0
-AreTold f g found told = TellsAll f g found [] told
+AreTold f g found told = PutsAllTold f g found [] told

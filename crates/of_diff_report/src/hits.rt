@@ -2,8 +2,8 @@
 ghost use Rattle.std.specs.Prelude.{◌≡◌, ◌↔◌, ◌++◌, IfOk, OnOk, false, map};
 ghost use Rattle.std.specs.List.{All, flat_map};
 ghost use Rattle.of_datapath.specs.DryRun.{steps_in};
-ghost use Rattle.of_diff_report.specs.Changed.{AreSideHits, IsKept, IsMarked, are_same_hits as are_same_hits_by, changed_at, hit_of, hits_in};
-ghost use Rattle.of_diff_report.specs.EntryHits.{changed_member, changed_words, hit_entries_member, hit_line, hit_lines};
+ghost use Rattle.of_diff_report.specs.Changed.{AreSideHits, IsInOther, IsMarked, are_same_hits as are_same_hits_by, changed_at, hit_of, hits_in};
+ghost use Rattle.of_diff_report.specs.EntryHits.{changed_member, mark_words, hit_entries_member, hit_line, hit_lines};
 
 use of_alike::has_such_entry;
 use of_classifier::Lookup;
@@ -73,7 +73,7 @@ fn hits_of<L: Lookup>(
 
 // Whether the other switch has no entry that says the same.
 fn is_changed<L: Lookup>(own: &Switch<L>, other: &Switch<L>, hit: Hit) -> bool
-    ensures { (result ≡ false) ↔ IsKept own.now.core.forwarding other.now.core.forwarding hit }
+    ensures { (result ≡ false) ↔ IsInOther own.now.core.forwarding other.now.core.forwarding hit }
 {
     if hit.table >= TABLES {
         return true;
@@ -138,16 +138,14 @@ pub fn are_same_hits(a: &[Hit], b: &[Hit]) -> bool
     match (a, b) {
         ([], []) => true,
         ([hit, hits @ ..], [other, others @ ..]) => {
-            hit.table == other.table
-                && hit.number == other.number
-                && are_same_hits(hits, others)
+            hit.table == other.table && hit.number == other.number && are_same_hits(hits, others)
         }
         _ => false,
     }
 }
 
 fn words_if_changed(changed: bool) -> &'static [u8]
-    ensures { result.now ≡ changed_words changed }
+    ensures { result.now ≡ mark_words changed }
 {
     if changed { b", changed" } else { b"" }
 }

@@ -93,11 +93,7 @@ fn push_ttl_member(out: &mut Vec<u8>, frames: &FrameSet) -> Result<(), AllocErro
 }
 
 #[tactic(auto, unfolding(crate::specs::DiffJson::set_members))]
-fn push_set_members(
-    out: &mut Vec<u8>,
-    words: &[u8],
-    frames: &FrameSet,
-) -> Result<(), AllocError>
+fn push_set_members(out: &mut Vec<u8>, words: &[u8], frames: &FrameSet) -> Result<(), AllocError>
     ensures { OnOk result (out.new.items ≡ out.old.items ++ set_members words.now frames.now) }
 {
     push_string_member(out, b"region", words)?;

@@ -6,7 +6,7 @@ ghost use Rattle.of_regions.specs.declared.meeting.Meeting.TheVariants.{Whole};
 ghost use Rattle.of_regions.specs.Meeting.{Meets};
 ghost use Rattle.of_regions.specs.Searching.{InSome};
 ghost use Rattle.of_symbolic_run.specs.declared.frame_set.FrameSet.{FrameSet as AFrameSet};
-ghost use Rattle.of_diff_report.specs.RegionWords.{IsRegionOf, IsTrueOf, count_of_entries, is_of_entry as is_of_entry_by, is_port_block as is_port_block_by, lacks_part, matches_word, region_line, set_line, ttl_part, words_said};
+ghost use Rattle.of_diff_report.specs.RegionWords.{IsRegionOf, IsTrueOf, count_of_entries, is_of_entry as is_of_entry_by, is_port_block as is_port_block_by, lacks_part, matches_word, region_line, set_line, ttl_range_part, words_said};
 
 use of_frame_words::{NoFrame, read_conditions};
 use of_layers::Field;
@@ -134,11 +134,7 @@ fn push_tag(out: &mut Vec<u8>, e: &MatchField) -> Result<(), AllocError> {
     }
 }
 
-fn push_type(
-    out: &mut Vec<u8>,
-    e: &MatchField,
-    protocol: Option<u128>,
-) -> Result<(), AllocError> {
+fn push_type(out: &mut Vec<u8>, e: &MatchField, protocol: Option<u128>) -> Result<(), AllocError> {
     match (e.mask, protocol_word(e.value, protocol)) {
         (None, Some(word)) => out.extend_from_slice(word),
         _ => push_setting(out, text_for(e.field), e),
@@ -215,12 +211,16 @@ pub fn region_words(alloc: Global, sets: &[FrameSet]) -> Result<Option<Vec<u8>>,
 fn said(words: &[u8]) -> &[u8]
     ensures { result.now ≡ words_said words.now }
 {
-    if words.is_empty() { b"all frames" } else { words }
+    if words.is_empty() {
+        b"all frames"
+    } else {
+        words
+    }
 }
 
-#[tactic(auto, unfolding(crate::specs::RegionWords::ttl_part))]
+#[tactic(auto, unfolding(crate::specs::RegionWords::ttl_range_part))]
 fn push_ttl(out: &mut Vec<u8>, low: u8, high: u8) -> Result<(), AllocError>
-    ensures { OnOk result (out.new.items ≡ out.old.items ++ ttl_part low high) }
+    ensures { OnOk result (out.new.items ≡ out.old.items ++ ttl_range_part low high) }
 {
     if low == 0 && high == 255 {
         return Ok(());

@@ -2,7 +2,7 @@
 ghost use Rattle.std.specs.Prelude.{◌≡◌, IfNone, IfOk, IfSome, OnOk, List, Some, slice_get, true, false};
 ghost use Rattle.std.specs.List.{Contains};
 ghost use Rattle.of_diff_report.specs.declared.telling.Told.{Told as TheTold};
-ghost use Rattle.of_diff_report.specs.Telling.{AreTold, IsTold, Tells, has_changed as has_changed_hits, is_of_kind as is_of_kind_by};
+ghost use Rattle.of_diff_report.specs.Telling.{AreTold, IsTold, PutsTold, has_changed as has_changed_hits, is_of_kind as is_of_kind_by};
 
 use crate::hits::{DiffSide, SideHits, are_same_hits, side_hits};
 use crate::region::region_words;
@@ -73,11 +73,8 @@ fn place_of_kind(told: &[Told<'_>], other: &Told<'_>) -> Option<usize>
 }
 
 // Puts one more to those that are told: with the first of its kind, or by itself behind all others.
-fn put_told<'a>(
-    told: &mut Vec<Told<'a>>,
-    further: Told<'a>,
-) -> Result<(), AllocError>
-    ensures { OnOk result (Tells further.entry.difference.now further.entry told.old.items told.new.items) }
+fn put_told<'a>(told: &mut Vec<Told<'a>>, further: Told<'a>) -> Result<(), AllocError>
+    ensures { OnOk result (PutsTold further.entry.difference.now further.entry told.old.items told.new.items) }
 {
     match place_of_kind(told, &further) {
         None => {

@@ -1,7 +1,7 @@
 //! What is found about two switches, in words.
 ghost use Rattle.std.specs.Prelude.{◌≡◌, ◌++◌, ◌∷◌, [], IfOk, OnOk, filter, length};
 ghost use Rattle.std.specs.List.{flat_map, list_all, list_any};
-ghost use Rattle.of_diff_report.specs.DiffWords.{also_line, also_words, are_of_expired, are_same, are_same_with, both_limits_words, first_limit_words, further_place, is_expired_difference, is_same_place as is_same_place_by, place_words, places_after, second_limit_words, such_port_words, expired_count_words, count_why, diff_summary, diff_words, difference_count, difference_head, difference_words, expired_count, expired_line, expired_words, first_expired_words, such_as_words, is_expired_item, is_invalid_ttl, is_of_expired, is_why, limits_line, limits_words, missing_line, missing_lines, other_ports_words, same_unless, same_words, sets_line, sets_words, switch_words, told_words, undecided_line, undecided_words, where_words, undecided_why, with_place};
+ghost use Rattle.of_diff_report.specs.DiffWords.{also_line, also_words, are_of_expired, are_same, are_same_with, both_limits_words, first_limit_words, further_place, is_expired_difference, is_same_place as is_same_place_by, at_words, wheres_after, second_limit_words, such_port_words, expired_count_words, count_why, diff_summary, diff_words, difference_count, difference_head, difference_words, expired_count, expired_line, expired_words, first_expired_words, such_as_words, is_expired_item, is_invalid_ttl, is_of_expired, is_why, limits_line, limits_words, missing_line, missing_lines, other_ports_words, same_unless, same_words, sets_line, sets_words, switch_words, told_words, undecided_line, undecided_words, where_words, undecided_why, with_where};
 
 use crate::hits::{DiffSide, FileFlows, MarkedHit, push_hit_lines};
 use crate::region::push_region_line;
@@ -85,9 +85,9 @@ fn push_limits_line(out: &mut Vec<u8>, limits: Option<Limits>) -> Result<(), All
     }
 }
 
-#[tactic(auto, unfolding(crate::specs::DiffWords::place_words))]
+#[tactic(auto, unfolding(crate::specs::DiffWords::at_words))]
 fn push_place(out: &mut Vec<u8>, at: Where) -> Result<(), AllocError>
-    ensures { OnOk result (out.new.items ≡ out.old.items ++ place_words at) }
+    ensures { OnOk result (out.new.items ≡ out.old.items ++ at_words at) }
 {
     match at {
         Where::Port(port) => {
@@ -176,7 +176,7 @@ fn is_among(places: &[Where], at: Where) -> bool
 
 // Adds a place, once.
 fn add_place(places: &mut Vec<Where>, at: Where) -> Result<(), AllocError>
-    ensures { OnOk result (places.new.items ≡ with_place places.old.items at) }
+    ensures { OnOk result (places.new.items ≡ with_where places.old.items at) }
 {
     if is_among(places, at) {
         return Ok(());
@@ -187,7 +187,7 @@ fn add_place(places: &mut Vec<Where>, at: Where) -> Result<(), AllocError>
 
 // The places of differences, each once.
 fn places_of(alloc: Global, also: &[&Difference]) -> Result<Vec<Where>, AllocError>
-    ensures { IfOk result (λ places. places.items ≡ places_after [] also.now) }
+    ensures { IfOk result (λ places. places.items ≡ wheres_after [] also.now) }
 {
     let mut places = Vec::new(alloc);
     for difference in also {
@@ -227,11 +227,7 @@ fn push_also(alloc: Global, out: &mut Vec<u8>, also: &[&Difference]) -> Result<(
 
 // Appends where further differences of the same changed entries are, if there are such.
 #[tactic(auto, unfolding(crate::specs::DiffWords::also_line))]
-fn push_also_line(
-    alloc: Global,
-    out: &mut Vec<u8>,
-    also: &[&Difference],
-) -> Result<(), AllocError>
+fn push_also_line(alloc: Global, out: &mut Vec<u8>, also: &[&Difference]) -> Result<(), AllocError>
     ensures { OnOk result (out.new.items ≡ out.old.items ++ also_line also.now) }
 {
     if also.is_empty() {
@@ -451,11 +447,7 @@ fn all_told_expire(told: &[Told<'_>]) -> bool
 }
 
 // Appends a line about the differences that are only counted, if there are such.
-fn push_expired_line(
-    alloc: Global,
-    out: &mut Vec<u8>,
-    told: &[Told<'_>],
-) -> Result<(), AllocError>
+fn push_expired_line(alloc: Global, out: &mut Vec<u8>, told: &[Told<'_>]) -> Result<(), AllocError>
     ensures { OnOk result (out.new.items ≡ out.old.items ++ expired_line told.now) }
 {
     if all_told_expire(told) {

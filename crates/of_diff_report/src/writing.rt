@@ -5,7 +5,7 @@ ghost use Rattle.of_replay.specs.FileRuns.{Writes, ended_as};
 ghost use Rattle.of_symbolic_run.specs.Received.{IsReceivedAt};
 ghost use Rattle.of_diff.specs.Differences.{IsDifference, IsTreatedAlike};
 ghost use Rattle.of_alike.specs.declared.alike.Compared.{Compared as WhatIsCompared};
-ghost use Rattle.of_diff_report.specs.DiffFiles.{AreFoundBetween, IsDiffReport, IsTextOf, IsVerdict, diff_text, diff_verdict, other_ports_text, verdict_on};
+ghost use Rattle.of_diff_report.specs.DiffFiles.{AreFoundBetween, IsDiffReport, IsTextFound, IsVerdict, diff_text, diff_verdict, other_ports_text, verdict_on};
 ghost use Rattle.of_diff_report.specs.DiffWords.{other_limits};
 
 use crate::hits::DiffSide;
@@ -93,7 +93,7 @@ fn found_in<L: Lookup>(
     of: &Reserved<'_>,
     found: &Differences,
 ) -> Result<Vec<u8>, AllocError>
-    ensures { IfOk result (λ text. IsTextOf form first.now.flows second.now.flows of.now.missing.now of.now.limits
+    ensures { IfOk result (λ text. IsTextFound form first.now.flows second.now.flows of.now.missing.now of.now.limits
         first.now.switch.now.core.forwarding second.now.switch.now.core.forwarding (Some found.now) text.items) }
 {
     let told = tell_all(alloc, first, second, &found.found)?;
@@ -109,7 +109,7 @@ fn text_in<L: Lookup>(
     of: &Reserved<'_>,
     found: &Option<Differences>,
 ) -> Result<Vec<u8>, AllocError>
-    ensures { IfOk result (λ text. IsTextOf form first.now.flows second.now.flows of.now.missing.now of.now.limits
+    ensures { IfOk result (λ text. IsTextFound form first.now.flows second.now.flows of.now.missing.now of.now.limits
         first.now.switch.now.core.forwarding second.now.switch.now.core.forwarding found.now text.items) }
 {
     match found {

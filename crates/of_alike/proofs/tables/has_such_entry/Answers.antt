@@ -1,4 +1,4 @@
-use Rattle.std.proofs.Common.{◌≡◌, ◌⊎◌, zero, suc, true, List, [], ◌∷◌, map, ap, arith, inl, inr, refl, subst, sym}
+use Rattle.std.proofs.Common.{◌≡◌, ◌⊎◌, zero, suc, true, List, ◌∷◌, map, ap, arith, inl, inr, subst, sym}
 use Rattle.std.specs.List.{Contains}
 use Rattle.of_table.specs.declared.entry.Entry.{Entry}
 use Rattle.of_table.specs.Entries.{entry_of, flows_of}
@@ -16,37 +16,19 @@ cases y x ys (suc k, lt, is) = inr (k, omega (arith, lt), is)
 behind : (y x : EntrySays) (ys : List EntrySays) → Contains ys x → Contains (y ∷ ys) x
 behind y x ys h = (suc h.0, omega (arith, h.1), h.2)
 
-in_front : (y x : EntrySays) (ys : List EntrySays) → y ≡ x → Contains (y ∷ ys) x
-in_front y x ys same = (0, omega arith, same)
-
-none : (x : EntrySays) (xs : List EntrySays) → xs ≡ [] → Contains xs x → ⊥
-none x xs empty h = absurd (let lt = subst (λ (l : List EntrySays). Contains l x) empty h in omega (arith, lt.1))
-
-pub loop-other-init : goal.loop-other-init
-loop-other-init c = (λ s there. there, λ there. there)
-
-pub returns-then-are_same_entries : goal.returns-then-are_same_entries
-unfolding said
-returns-then-are_same_entries c =
-    let x = says_of (entry_of c.args.entry.now) in
-    let steps = ap said c.in-Some.ensures.steps in
-    (λ yes. c.loop-other.invariant.0 x (subst (λ (l : List EntrySays). Contains l x) (sym steps) (in_front _ x _ (c.are_same_entries.ensures.0 c.if-are_same_entries.true))), λ there. refl)
+-- an entry that says something else is passed
+passed : (y x : EntrySays) (all rest ys : List EntrySays) → rest ≡ y ∷ ys → (y ≡ x → ⊥)
+    → ((s : EntrySays) → Contains rest s → Contains all s) × (Contains all x → Contains rest x) → ((s : EntrySays) → Contains ys s → Contains all s) × (Contains all x → Contains ys x)
+passed y x all rest ys is differs h = (
+  λ s there. h.0 s (subst (λ (l : List EntrySays). Contains l s) (sym is) (behind y s ys there)),
+  λ whole. elim (cases y x ys (subst (λ (l : List EntrySays). Contains l x) is (h.1 whole))) as (λ w. Contains ys x) [
+    | inl same ↦ absurd (differs same)
+    | inr there ↦ there
+  ],
+)
 
 pub loop-other-preserved : goal.loop-other-preserved
 unfolding said
 loop-other-preserved c =
-    let x = says_of (entry_of c.args.entry.now) in
-    let steps = ap said c.in-Some.ensures.steps in
-    (
-      λ s there. c.loop-other.invariant.0 s (subst (λ (l : List EntrySays). Contains l s) (sym steps) (behind _ s _ there)),
-      λ whole. elim (cases _ x _ (subst (λ (l : List EntrySays). Contains l x) steps (c.loop-other.invariant.1 whole))) as (λ w. Contains _ x) [
-        | inl same ↦ absurd (let yes : c.are_same_entries.result ≡ true = c.are_same_entries.ensures.1 same in let no = c.if-are_same_entries.false in cc)
-        | inr there ↦ there
-      ],
-    )
-
-pub returns : goal.returns
-unfolding said
-returns c =
-    let x = says_of (entry_of c.args.entry.now) in
-    (λ yes. absurd cc, λ there. absurd (none x _ (ap said c.in-None.ensures.steps.0) (c.loop-other.invariant.1 there)))
+    passed _ (says_of (entry_of c.args.entry.now)) _ _ _ (ap said c.in-Some.ensures.steps)
+    (λ same. let yes : c.are_same_entries.result ≡ true = c.are_same_entries.ensures.1 same in let no = c.if-are_same_entries.false in absurd cc) c.loop-other.invariant
