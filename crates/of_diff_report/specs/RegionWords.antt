@@ -49,8 +49,11 @@ matches_word n = if n == 1 then codes " match" else codes " matches"
 unfoldable pub lacks_part : ℕ → List ℕ
 lacks_part n = if n == 0 then [] else codes " without " ++ decimal n ++ matches_word n
 
+unfoldable pub region_head : List ℕ → List ℕ
+region_head words = codes "    region: " ++ words_said words
+
 unfoldable pub set_line : List ℕ → FrameSet → List ℕ
-set_line words s = codes "    region: " ++ words_said words ++ ttl_range_part s.ttl_from s.ttl_to ++ lacks_part (count_of_entries s.part.lacks.items) ++ 10 ∷ []
+set_line words s = region_head words ++ ttl_range_part s.ttl_from s.ttl_to ++ lacks_part (count_of_entries s.part.lacks.items) ++ 10 ∷ []
 
 abbrev pub region_line : List FrameSet → Option (Vec ℕ) → List ℕ
 region_line sets None = []

@@ -6,7 +6,7 @@ ghost use Rattle.of_regions.specs.declared.meeting.Meeting.TheVariants.{Whole};
 ghost use Rattle.of_regions.specs.Meeting.{Meets};
 ghost use Rattle.of_regions.specs.Searching.{InSome};
 ghost use Rattle.of_symbolic_run.specs.declared.frame_set.FrameSet.{FrameSet as AFrameSet};
-ghost use Rattle.of_diff_report.specs.RegionWords.{IsRegionOf, IsTrueOf, count_of_entries, is_of_entry as is_of_entry_by, is_port_block as is_port_block_by, lacks_part, matches_word, region_line, set_line, ttl_range_part, words_said};
+ghost use Rattle.of_diff_report.specs.RegionWords.{IsRegionOf, IsTrueOf, count_of_entries, is_of_entry as is_of_entry_by, is_port_block as is_port_block_by, lacks_part, matches_word, region_head, region_line, set_line, ttl_range_part, words_said};
 
 use of_frame_words::{NoFrame, read_conditions};
 use of_layers::Field;
@@ -273,12 +273,19 @@ fn push_lacks(out: &mut Vec<u8>, count: usize) -> Result<(), AllocError>
     out.extend_from_slice(word_for_matches(count))
 }
 
+#[tactic(auto, unfolding(crate::specs::RegionWords::region_head))]
+fn push_region_head(out: &mut Vec<u8>, words: &[u8]) -> Result<(), AllocError>
+    ensures { OnOk result (out.new.items ≡ out.old.items ++ region_head words.now) }
+{
+    out.extend_from_slice(b"    region: ")?;
+    out.extend_from_slice(said(words))
+}
+
 #[tactic(auto, unfolding(crate::specs::RegionWords::set_line))]
 fn push_set(out: &mut Vec<u8>, words: &[u8], frames: &FrameSet) -> Result<(), AllocError>
     ensures { OnOk result (out.new.items ≡ out.old.items ++ set_line words.now frames.now) }
 {
-    out.extend_from_slice(b"    region: ")?;
-    out.extend_from_slice(said(words))?;
+    push_region_head(out, words)?;
     push_ttl(out, frames.ttl_from, frames.ttl_to)?;
     push_lacks(out, lacking(frames))?;
     out.push(b'\n')?;
