@@ -74,6 +74,7 @@ puts_pushed d old new pushed = record {
 
 -- the first set is still the first
 first_stays : (sets more : List FrameSet) (frame : List ℕ) (port : ℕ) → InFirst sets frame port → InFirst (sets ++ more) frame port
+first_stays [] more frame port h = absurd h
 first_stays (s ∷ sets) more frame port h = h
 
 -- an element of a list in which one was replaced
