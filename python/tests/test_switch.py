@@ -426,8 +426,9 @@ def test_two_switches_are_compared(switch):
 
 def test_two_files_are_compared():
     assert diff(EXAMPLES / "router.flows", (EXAMPLES / "router.flows").read_text())["same"] is True
-    places = [it["at"] for it in diff(EXAMPLES / "router.flows", EXAMPLES / "router2.flows")["differences"]]
-    assert places == [3, "controller"]
+    [difference] = diff(EXAMPLES / "router.flows", EXAMPLES / "router2.flows")["differences"]
+    assert (difference["at"], difference["also"]) == (3, [{"at": "controller", "sets": 1}])
+    assert (difference["first_changed"], difference["second_changed"]) == ([False, True], [False, False])
     assert len(diff(EXAMPLES / "router.flows", EXAMPLES / "router2.flows", frames=True)["differences"]) == 1
     with pytest.raises(ValueError, match="line 1: "):
         diff(EXAMPLES / "router.flows", "flow x\n")

@@ -18,4 +18,4 @@ pub use groups::have_same_groups;
 pub use leaving::{leave_alike, other_ingress};
 pub use ports::have_same_ports;
 pub use sending::rewrites;
-pub use tables::{Changed, changed_entries, have_same_entries};
+pub use tables::{Changed, changed_entries, has_such_entry, have_same_entries};

@@ -1,5 +1,6 @@
 //! Which entries of two flow tables have no counterpart in the other.
 ghost use Rattle.std.specs.Prelude.{◌≡◌, ◌↔◌, ◌⊎◌, [], ◌++◌, IfNone, IfOk, IfSome, IsTrue, OnOk, map};
+ghost use Rattle.std.specs.List.{Contains};
 ghost use Rattle.of_table.specs.Entries.{entry_of, flows_of};
 ghost use Rattle.of_alike.specs.declared.tables.Move.TheVariants.{First, Second};
 ghost use Rattle.of_alike.specs.SameTables.{AreChanged, IsMove, SameTables, first_marks, says_of, second_marks};
@@ -62,6 +63,18 @@ fn are_same_entries(a: &Entry, b: &Entry) -> bool
             a.flow.instructions.as_slice(),
             b.flow.instructions.as_slice(),
         )
+}
+
+/// Whether an entry of a table says the same as this one: it has the same priority, match, cookie and instructions (OpenFlow 1.3.5, 5.2).
+pub fn has_such_entry(entries: Entries<'_>, entry: &Entry) -> bool
+    ensures { IsTrue result ↔ Contains (map says_of (flows_of entries.entry)) (says_of (entry_of entry.now)) }
+{
+    for other in entries {
+        if are_same_entries(other, entry) {
+            return true;
+        }
+    }
+    false
 }
 
 /// Whether the entries of two tables say the same, in the same order by age.

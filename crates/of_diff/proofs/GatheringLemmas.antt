@@ -9,7 +9,7 @@ use Rattle.of_oxm.specs.declared.match_field.MatchField.{MatchField}
 use Rattle.of_symbolic_run.specs.FrameSets.{AreFramesMatching, InFrames}
 use Rattle.of_symbolic_run.specs.Received.{IsReceivedAt, items_at}
 use Rattle.of_alike.specs.Alike.{DiffersAt}
-use Rattle.of_diff.specs.Differences.{InDifferences, InSets, IsDifference, SomeDiffers}
+use Rattle.of_diff.specs.Differences.{InDifferences, InFirst, InSets, IsDifference, SomeDiffers}
 use Rattle.of_diff.specs.Pairs.{PutsDifference, place_of_difference}
 use Rattle.of_alike.specs.declared.alike.Compared.{Compared}
 use Rattle.of_alike.specs.declared.alike.Where.{Where}
@@ -35,7 +35,7 @@ one_set_differs c w v d s sets within received received' first second differs = 
   record {
     received_first = received;
     received_second = received';
-    within = (s, subst (λ (l : List FrameSet). Contains l s) (sym sets) (Contains-push [] s), within);
+    within = subst (λ (l : List FrameSet). InFirst l d.frame.items d.in_port) (sym sets) within;
     each = λ t there. subst (SomeDiffers c w v d.at) (only_set s t (subst (λ (l : List FrameSet). Contains l t) sets there)) (d.frame.items, d.in_port, within, received, received', differs_there);
     first = first;
     second = second;
@@ -71,6 +71,11 @@ puts_pushed d old new pushed = record {
 }
 
 -- ---- a difference with further sets
+
+-- the first set is still the first
+first_stays : (sets more : List FrameSet) (frame : List ℕ) (port : ℕ) → InFirst sets frame port → InFirst (sets ++ more) frame port
+first_stays [] more frame port h = absurd h
+first_stays (s ∷ sets) more frame port h = h
 
 -- an element of a list in which one was replaced
 from_set : {X : Type 0} (xs : List X) (i : ℕ) (c y : X) → Contains (set xs i c) y → Contains xs y ⊎ (c ≡ y)
@@ -129,7 +134,7 @@ module _ (d : Difference) (old : List Difference) (i : ℕ) (x y : Difference) (
   joined_is c w v own h = record {
     received_first = rw (frame, in_port) h.received_first;
     received_second = rw (frame, in_port) h.received_second;
-    within = from_old y.frame.items y.in_port (rw (frame, in_port) h.within);
+    within = subst (λ (l : List FrameSet). InFirst l y.frame.items y.in_port) (sym sets) (first_stays x.sets.items d.sets.items y.frame.items y.in_port (rw (frame, in_port) h.within));
     each = λ s there. elim (cases_of s there) as (λ z. SomeDiffers c w v y.at s) [
       | inl before ↦ subst (λ (p : Where). SomeDiffers c w v p s) (sym at) (h.each s before)
       | inr new ↦ subst (λ (p : Where). SomeDiffers c w v p s) (sym (at ∙ same)) (own.each s new)

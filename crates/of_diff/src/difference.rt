@@ -14,7 +14,7 @@ pub struct EmittedByBoth {
 /// Frames that two switches treat differently, or may: one of them was run on both.
 #[derive(Drop)]
 pub struct Difference {
-    /// Sets of frames, never none: one has the frame that was run. In each set something else leaves at the same place for some frame, and the runs of
+    /// Sets of frames, never none: the first has the frame that was run. In each set something else leaves at the same place for some frame, and the runs of
     /// all sets emitted the same until they were done or went on alike. Other frames of a set may be treated alike.
     pub sets: Vec<FrameSet>,
     /// What the runs of these sets emitted. No clause says so: it only decides which sets become one difference.

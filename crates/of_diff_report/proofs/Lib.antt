@@ -1,2 +1,5 @@
 mod VerdictLemmas
 mod AppendLemmas
+mod RegionLemmas
+mod TellingLemmas
+mod ChangedLemmas

@@ -17,7 +17,9 @@ use Rattle.of_diff_report.specs.declared.writing.DiffForm.TheVariants.{Json, Wor
 use Rattle.of_diff_report.specs.declared.writing.DiffVerdict.{DiffVerdict}
 use Rattle.of_diff_report.specs.declared.writing.DiffVerdict.TheVariants.{Differs, OtherPorts, Same, Undecided}
 use Rattle.of_diff_report.specs.DiffWords.{are_same_with, diff_words, other_ports_words}
+use Rattle.of_diff_report.specs.declared.telling.Told.{Told}
 use Rattle.of_diff_report.specs.DiffJson.{diff_json, other_ports_json}
+use Rattle.of_diff_report.specs.Telling.{AreTold}
 
 -- what is found about two switches: nothing if their ports differ, else the differences, and for all other frames that they are treated alike or undecided
 abbrev pub AreFoundBetween : Compared → ℕ → Forwarding → Forwarding → Option Differences → Type 0
@@ -25,11 +27,18 @@ AreFoundBetween c steps f g None = SamePorts f.ports g.ports → ⊥
 AreFoundBetween c steps f g (Some ds) = AreDifferences c (world_of f) (world_of g) steps ds
 
 -- in words or as JSON, with the flow entries of both switches, the ports that are named and missing, and the miss_send_len if they differ
-abbrev pub diff_text : DiffForm → FileFlows → FileFlows → List ℕ → Option Limits → Forwarding → Forwarding → Option Differences → List ℕ
-diff_text Words a b missing limits f g None = other_ports_words missing
-diff_text Words a b missing limits f g (Some ds) = diff_words a b missing limits f g ds
-diff_text Json a b missing limits f g None = other_ports_json missing
-diff_text Json a b missing limits f g (Some ds) = diff_json a b missing limits f g ds
+abbrev pub diff_text : DiffForm → FileFlows → FileFlows → List ℕ → Option Limits → Forwarding → List Told → Differences → List ℕ
+diff_text Words a b missing limits f told ds = diff_words a b missing limits f told ds
+diff_text Json a b missing limits f told ds = diff_json a b missing limits told ds
+
+abbrev pub other_ports_text : DiffForm → List ℕ → List ℕ
+other_ports_text Words missing = other_ports_words missing
+other_ports_text Json missing = other_ports_json missing
+
+-- that the ports differ, or the differences as they are told
+abbrev pub IsTextFound : DiffForm → FileFlows → FileFlows → List ℕ → Option Limits → Forwarding → Forwarding → Option Differences → List ℕ → Type 0
+IsTextFound form a b missing limits f g None text = text ≡ other_ports_text form missing
+IsTextFound form a b missing limits f g (Some ds) text = (told : List Told) × AreTold f g ds.found.items told × (text ≡ diff_text form a b missing limits f told ds)
 
 abbrev pub verdict_on : List ℕ → Option Limits → Differences → DiffVerdict
 verdict_on missing limits ds = if are_same_with missing limits ds then Same else if length ds.found.items == 0 then Undecided else Differs
@@ -46,7 +55,7 @@ IsVerdictResult (Err ended) is = ended ≢ Done
 -- THE TEXT of what is found about two switches. The runs of all frames take at most so many steps together, and each search for a frame as many.
 abbrev pub IsDiffReport : Result DiffVerdict Ended → DiffForm → FileFlows → FileFlows → List ℕ → Option Limits → Compared → ℕ → Forwarding → Forwarding → List ℕ → Type 0
 IsDiffReport result form a b missing limits c steps f g text =
-    (found : Option Differences) × AreFoundBetween c steps f g found × (text ≡ diff_text form a b missing limits f g found) × IsVerdictResult result (diff_verdict missing limits found)
+    (found : Option Differences) × AreFoundBetween c steps f g found × IsTextFound form a b missing limits f g found text × IsVerdictResult result (diff_verdict missing limits found)
 
 -- WHAT THE VERDICT MEANS: each frame that is received is treated alike; or some frame is not, which both ran; or the ports differ
 abbrev pub IsVerdict : Compared → Forwarding → Forwarding → DiffVerdict → Type 0

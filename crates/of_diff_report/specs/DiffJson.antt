@@ -1,9 +1,11 @@
 -- THE REPORT OF `diff` AS JSON (RFC 8259): one object in one line.
 use Rattle.std.specs.Prelude.{ℕ, ◌==◌, Bool, true, false, List, [], ◌∷◌, ◌++◌, length, codes, decimal, Option, Some, None, if◌then◌else◌}
+use Rattle.std.specs.Borrow.{Bor}
+use Rattle.std.specs.Global.{Vec}
 use Rattle.hex.specs.Hex.{encode_lower}
-use Rattle.of_datapath.specs.Datapath.{Forwarding}
 use Rattle.of_json.specs.Parts.{document_head, key, listed, number_member, quoted, text_member, truth}
-use Rattle.of_json.specs.Strings.{array_member}
+use Rattle.of_json.specs.Strings.{array_member, string_member}
+use Rattle.of_symbolic_run.specs.declared.frame_set.FrameSet.{FrameSet}
 use Rattle.of_alike.specs.declared.alike.Where.{Where}
 use Rattle.of_alike.specs.declared.alike.Where.TheVariants.{Controller, Port as ByPort}
 use Rattle.of_diff.specs.declared.difference.Difference.{Difference}
@@ -15,8 +17,10 @@ use Rattle.of_json.specs.LeavingJson.{controller_place, items_member, port_place
 use Rattle.of_changes.specs.ChangesInJson.{changes_member}
 use Rattle.of_diff_report.specs.declared.hits.FileFlows.{FileFlows}
 use Rattle.of_diff_report.specs.declared.reserved.Limits.{Limits}
-use Rattle.of_diff_report.specs.EntryHits.{hit_entries_member}
+use Rattle.of_diff_report.specs.declared.telling.Told.{Told}
+use Rattle.of_diff_report.specs.EntryHits.{changed_member, hit_entries_member}
 use Rattle.of_diff_report.specs.DiffWords.{are_same_with}
+use Rattle.of_diff_report.specs.RegionWords.{count_of_entries}
 
 -- ---- a difference
 
@@ -24,10 +28,30 @@ unfoldable pub at_member : Where → List ℕ
 at_member (ByPort port) = port_place (codes "at") port
 at_member Controller = controller_place (codes "at")
 
--- the entries that the frame hits at each switch
-unfoldable pub both_hits_members : FileFlows → FileFlows → Forwarding → Forwarding → ℕ → List ℕ → List ℕ
-both_hits_members a b f g port frame =
-    hit_entries_member (codes "first_entries") a port frame f ++ hit_entries_member (codes "second_entries") b port frame g
+-- the entries that the frame hits at each switch, and which of them changed
+unfoldable pub both_hits_members : FileFlows → FileFlows → Told → List ℕ
+both_hits_members a b t =
+    hit_entries_member (codes "first_entries") a t.first.all.items ++ changed_member (codes "first_changed") t.first.all.items
+    ++ hit_entries_member (codes "second_entries") b t.second.all.items ++ changed_member (codes "second_changed") t.second.all.items
+
+-- the region of the first set of frames, if there are words for it: the range of the TTL, and how many matches of entries match none of its frames
+unfoldable pub ttl_member : FrameSet → List ℕ
+ttl_member s = array_member (codes "region_ttl") (decimal s.ttl_from ++ 44 ∷ decimal s.ttl_to)
+
+unfoldable pub set_members : List ℕ → FrameSet → List ℕ
+set_members words s = string_member (codes "region") words ++ ttl_member s ++ number_member (codes "region_without") (count_of_entries s.part.lacks.items)
+
+abbrev pub region_members : List FrameSet → Option (Vec ℕ) → List ℕ
+region_members sets None = []
+region_members [] (Some words) = []
+region_members (s ∷ sets) (Some words) = set_members words.items s
+
+-- further differences of the same changed entries
+unfoldable pub also_object : Bor Difference → List ℕ
+also_object d = 123 ∷ at_member d.now.at ++ number_member (codes "sets") (length d.now.sets.items) ++ 125 ∷ []
+
+unfoldable pub also_member : List (Bor Difference) → List ℕ
+also_member also = array_member (codes "also") (listed also_object also)
 
 unfoldable pub difference_members : Difference → List ℕ
 difference_members d =
@@ -36,8 +60,9 @@ difference_members d =
     ++ changes_member (codes "first_changes") d.frame.items d.first.items ++ changes_member (codes "second_changes") d.frame.items d.second.items
     ++ number_member (codes "sets") (length d.sets.items)
 
-unfoldable pub difference_object : FileFlows → FileFlows → Forwarding → Forwarding → Difference → List ℕ
-difference_object a b f g d = 123 ∷ difference_members d ++ both_hits_members a b f g d.in_port d.frame.items ++ 125 ∷ []
+unfoldable pub difference_object : FileFlows → FileFlows → Told → List ℕ
+difference_object a b t =
+    123 ∷ difference_members t.difference.now ++ both_hits_members a b t ++ region_members t.difference.now.sets.items t.region ++ also_member t.also.items ++ 125 ∷ []
 
 -- ---- why frames are undecided
 
@@ -70,8 +95,8 @@ unfoldable pub limits_member : Option Limits → List ℕ
 limits_member limits = 44 ∷ key (codes "miss_send_len") ++ limits_in_json limits
 
 -- the objects of differences
-abbrev pub differences_listed : FileFlows → FileFlows → Forwarding → Forwarding → List Difference → List ℕ
-differences_listed a b f g found = listed (difference_object a b f g) found
+abbrev pub differences_listed : FileFlows → FileFlows → List Told → List ℕ
+differences_listed a b told = listed (difference_object a b) told
 
 unfoldable pub undecided_member : List Undecided → List ℕ
 undecided_member undecided = array_member (codes "undecided") (listed undecided_string undecided)
@@ -81,8 +106,8 @@ diff_document same ports missing limits objects undecided =
     123 ∷ diff_head same ports ++ missing_member missing ++ limits_member limits ++ array_member (codes "differences") objects ++ undecided_member undecided
     ++ 125 ∷ 10 ∷ []
 
-abbrev pub diff_json : FileFlows → FileFlows → List ℕ → Option Limits → Forwarding → Forwarding → Differences → List ℕ
-diff_json a b missing limits f g ds = diff_document (same_in_json missing limits ds) false missing limits (differences_listed a b f g ds.found.items) ds.undecided.items
+abbrev pub diff_json : FileFlows → FileFlows → List ℕ → Option Limits → List Told → Differences → List ℕ
+diff_json a b missing limits told ds = diff_document (same_in_json missing limits ds) false missing limits (differences_listed a b told) ds.undecided.items
 
 -- of switches whose ports differ
 abbrev pub other_ports_json : List ℕ → List ℕ

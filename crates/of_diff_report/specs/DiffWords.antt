@@ -1,6 +1,7 @@
--- THE REPORT OF `diff` IN WORDS: a line for each port that is named and missing, a block for each difference, a line for each reason why frames are
+-- THE REPORT OF `diff` IN WORDS: a line for each port that is named and missing, a block for the differences of the same changed entries, a line for each reason why frames are
 -- undecided, and a summary. Differences of frames whose TTL expires are counted in one line, unless all are of such frames.
-use Rattle.std.specs.Prelude.{ℕ, ◌+◌, ◌==◌, ◌||◌, Bool, true, false, not, List, [], ◌∷◌, ◌++◌, length, filter, codes, decimal, Option, Some, None, if◌then◌else◌}
+use Rattle.std.specs.Prelude.{ℕ, ◌+◌, ◌==◌, ◌||◌, ◌&&◌, Bool, true, false, not, List, [], ◌∷◌, ◌++◌, length, filter, codes, decimal, Option, Some, None, if◌then◌else◌}
+use Rattle.std.specs.Borrow.{Bor}
 use Rattle.std.specs.List.{flat_map, list_all, list_any}
 use Rattle.hex.specs.Hex.{encode_lower}
 use Rattle.of_text.specs.Lines.{ended}
@@ -24,7 +25,10 @@ use Rattle.of_diff.specs.declared.difference.Why.{Why}
 use Rattle.of_diff.specs.declared.difference.Why.TheVariants.{OtherActions, Search, Steps, UnknownTag}
 use Rattle.of_diff_report.specs.declared.hits.FileFlows.{FileFlows}
 use Rattle.of_diff_report.specs.declared.reserved.Limits.{Limits}
+use Rattle.of_diff_report.specs.declared.hits.MarkedHit.{MarkedHit}
+use Rattle.of_diff_report.specs.declared.telling.Told.{Told}
 use Rattle.of_diff_report.specs.EntryHits.{hit_lines}
+use Rattle.of_diff_report.specs.RegionWords.{region_line}
 
 -- ---- ports that groups or flows of the files name, and that the switches do not have
 
@@ -59,12 +63,16 @@ abbrev pub limits_line : Option Limits → List ℕ
 limits_line None = []
 limits_line (Some l) = limits_words l
 
--- ---- a difference: where something else leaves, the frame as the first switch receives it, and as `trace` takes it, for each switch the entries that it
--- hits and what leaves, and how many sets of frames it has, if more than one
+-- ---- a difference: where something else leaves, the frame as the first switch receives it, and as `trace` takes it, the region of its set, for each
+-- switch the entries that it hits and what leaves, how many sets of frames it has, if more than one, and where further differences of the same changed
+-- entries are
+
+unfoldable pub at_words : Where → List ℕ
+at_words (ByPort port) = codes "by port " ++ decimal port
+at_words Controller = codes "to the controller"
 
 unfoldable pub where_words : Where → List ℕ
-where_words (ByPort port) = codes "differs by port " ++ decimal port ++ codes ": "
-where_words Controller = codes "differs to the controller: "
+where_words at = codes "differs " ++ at_words at ++ codes ": "
 
 unfoldable pub sets_words : ℕ → List ℕ
 sets_words n = codes "    sets of frames: " ++ decimal n ++ 10 ∷ []
@@ -73,14 +81,47 @@ unfoldable pub sets_line : ℕ → List ℕ
 sets_line n = if n == 1 then [] else sets_words n
 
 -- the entries that the frame hits at a switch, what leaves it, and what changed in that
-unfoldable pub switch_words : List ℕ → FileFlows → Forwarding → ℕ → List ℕ → List Item → List ℕ
-switch_words who flows f port frame items = hit_lines who flows port frame f ++ changed_side_words who frame items
+unfoldable pub switch_words : List ℕ → FileFlows → List MarkedHit → List ℕ → List Item → List ℕ
+switch_words who flows hits frame items = hit_lines who flows hits ++ changed_side_words who frame items
 
-unfoldable pub difference_words : FileFlows → FileFlows → Forwarding → Forwarding → Difference → List ℕ
-difference_words a b f g d =
-    where_words d.at ++ ended (heading f d.in_port d.frame.items) ++ frame_lines d.in_port d.frame.items
-    ++ switch_words (codes "    first: ") a f d.in_port d.frame.items d.first.items
-    ++ switch_words (codes "    second: ") b g d.in_port d.frame.items d.second.items ++ sets_line (length d.sets.items)
+abbrev pub difference_count : ℕ → List ℕ
+difference_count n = decimal n ++ (if n == 1 then codes " difference" else codes " differences")
+
+-- the places of differences, each once
+abbrev pub is_same_place : Where → Where → Bool
+is_same_place (ByPort port) (ByPort other) = port == other
+is_same_place Controller Controller = true
+is_same_place place other = false
+
+abbrev pub with_where : List Where → Where → List Where
+with_where places at = if list_any (is_same_place at) places then places else places ++ at ∷ []
+
+abbrev pub wheres_after : List Where → List (Bor Difference) → List Where
+wheres_after places [] = places
+wheres_after places (d ∷ ds) = wheres_after (with_where places d.now.at) ds
+
+unfoldable pub further_place : Where → List ℕ
+further_place at = codes ", " ++ at_words at
+
+-- `    also: 9 differences, by port 2, to the controller`
+unfoldable pub also_words : List (Bor Difference) → List ℕ
+also_words also = codes "    also: " ++ difference_count (length also) ++ flat_map further_place (wheres_after [] also) ++ 10 ∷ []
+
+unfoldable pub also_line : List (Bor Difference) → List ℕ
+also_line also = if length also == 0 then [] else also_words also
+
+-- all differences of the same changed entries
+unfoldable pub difference_head : Forwarding → Told → List ℕ
+difference_head f t =
+    where_words t.difference.now.at ++ ended (heading f t.difference.now.in_port t.difference.now.frame.items)
+    ++ frame_lines t.difference.now.in_port t.difference.now.frame.items ++ region_line t.difference.now.sets.items t.region
+
+unfoldable pub difference_words : FileFlows → FileFlows → Forwarding → Told → List ℕ
+difference_words a b f t =
+    difference_head f t
+    ++ switch_words (codes "    first: ") a t.first.all.items t.difference.now.frame.items t.difference.now.first.items
+    ++ switch_words (codes "    second: ") b t.second.all.items t.difference.now.frame.items t.difference.now.second.items
+    ++ sets_line (length t.difference.now.sets.items) ++ also_line t.also.items
 
 -- ---- differences of frames whose TTL expires: `of frames whose TTL expires: 2 differences, such as --port 1 HEX`
 
@@ -97,12 +138,16 @@ is_expired_item (PacketIn p) = is_invalid_ttl p.reason
 unfoldable pub is_of_expired : Difference → Bool
 is_of_expired d = list_any is_expired_item d.first.items || list_any is_expired_item d.second.items
 
--- those of other frames have a block each; if there are no others, these have
-abbrev pub told_words : Bool → FileFlows → FileFlows → Forwarding → Forwarding → Difference → List ℕ
-told_words all a b f g d = if all || not (is_of_expired d) then difference_words a b f g d else []
+-- so it is for all that are told together
+abbrev pub is_expired_difference : Bor Difference → Bool
+is_expired_difference d = is_of_expired d.now
 
-abbrev pub difference_count : ℕ → List ℕ
-difference_count n = decimal n ++ (if n == 1 then codes " difference" else codes " differences")
+unfoldable pub are_of_expired : Told → Bool
+are_of_expired t = is_of_expired t.difference.now && list_all is_expired_difference t.also.items
+
+-- those of other frames have a block each; if there are no others, these have
+abbrev pub told_words : Bool → FileFlows → FileFlows → Forwarding → Told → List ℕ
+told_words all a b f t = if all || not (are_of_expired t) then difference_words a b f t else []
 
 unfoldable pub such_port_words : ℕ → List ℕ
 such_port_words port = codes ", such as --port " ++ decimal port
@@ -117,16 +162,16 @@ unfoldable pub expired_words : ℕ → Difference → List ℕ
 expired_words n d = expired_count_words n ++ such_as_words d ++ 10 ∷ []
 
 -- so many, with the first one
-abbrev pub first_expired_words : ℕ → List Difference → List ℕ
+abbrev pub first_expired_words : ℕ → List Told → List ℕ
 first_expired_words n [] = []
-first_expired_words n (d ∷ ds) = if is_of_expired d then expired_words n d else first_expired_words n ds
+first_expired_words n (t ∷ ts) = if are_of_expired t then expired_words n t.difference.now else first_expired_words n ts
 
-abbrev pub expired_count : List Difference → ℕ
+abbrev pub expired_count : List Told → ℕ
 expired_count [] = 0
-expired_count (d ∷ ds) = if is_of_expired d then expired_count ds + 1 else expired_count ds
+expired_count (t ∷ ts) = if are_of_expired t then expired_count ts + 1 else expired_count ts
 
-abbrev pub expired_line : List Difference → List ℕ
-expired_line found = if list_all is_of_expired found then [] else first_expired_words (expired_count found) found
+abbrev pub expired_line : List Told → List ℕ
+expired_line told = if list_all are_of_expired told then [] else first_expired_words (expired_count told) told
 
 -- ---- why frames are undecided: for each reason how many sets of frames
 
@@ -177,16 +222,15 @@ abbrev pub same_words : List ℕ → Option Limits → List ℕ
 same_words [] limits = same_unless limits
 same_words (port ∷ ports) limits = codes "no difference, as long as the switches do not have these ports"
 
-unfoldable pub diff_summary : List ℕ → Option Limits → Differences → List ℕ
-diff_summary missing limits ds =
-    if are_same ds then same_words missing limits ++ 10 ∷ []
-    else difference_count (length ds.found.items) ++ undecided_count (length ds.undecided.items) ++ 10 ∷ []
+unfoldable pub diff_summary : List ℕ → Option Limits → ℕ → Differences → List ℕ
+diff_summary missing limits told ds =
+    if are_same ds then same_words missing limits ++ 10 ∷ [] else difference_count told ++ undecided_count (length ds.undecided.items) ++ 10 ∷ []
 
 -- THE REPORT
-unfoldable pub diff_words : FileFlows → FileFlows → List ℕ → Option Limits → Forwarding → Forwarding → Differences → List ℕ
-diff_words a b missing limits f g ds =
-    missing_lines missing ++ limits_line limits ++ flat_map (told_words (list_all is_of_expired ds.found.items) a b f g) ds.found.items ++ expired_line ds.found.items
-    ++ undecided_words ds.undecided.items ++ diff_summary missing limits ds
+unfoldable pub diff_words : FileFlows → FileFlows → List ℕ → Option Limits → Forwarding → List Told → Differences → List ℕ
+diff_words a b missing limits f told ds =
+    missing_lines missing ++ limits_line limits ++ flat_map (told_words (list_all are_of_expired told) a b f) told ++ expired_line told
+    ++ undecided_words ds.undecided.items ++ diff_summary missing limits (length told) ds
 
 -- of switches whose ports differ
 abbrev pub other_ports_words : List ℕ → List ℕ

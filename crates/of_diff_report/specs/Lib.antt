@@ -1,3 +1,6 @@
+pub mod Changed
+pub mod RegionWords
+pub mod Telling
 pub mod EntryHits
 pub mod DiffWords
 pub mod DiffJson

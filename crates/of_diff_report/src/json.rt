@@ -2,10 +2,12 @@
 ghost use Rattle.std.specs.Prelude.{◌≡◌, ◌++◌, codes, decimal, IfOk, OnOk};
 ghost use Rattle.of_json.specs.Strings.{array_member};
 ghost use Rattle.of_changes.specs.ChangesInJson.{changes_member};
-ghost use Rattle.of_diff_report.specs.DiffJson.{at_member, both_hits_members, diff_document, diff_head, diff_json, difference_members, difference_object, differences_listed, limits_in_json, limits_member as limits_member_of, missing_member, other_ports_json, same_in_json, undecided_member, undecided_string, why_name};
+ghost use Rattle.of_diff_report.specs.DiffJson.{also_member, also_object, at_member, both_hits_members, diff_document, diff_head, diff_json, difference_members, difference_object, differences_listed, limits_in_json, limits_member as limits_member_of, missing_member, other_ports_json, region_members, same_in_json, set_members, ttl_member, undecided_member, undecided_string, why_name};
 
-use crate::hits::{DiffSide, push_hits_member};
+use crate::hits::{DiffSide, FileFlows, push_changed_member, push_hits_member};
+use crate::region::lacking;
 use crate::reserved::{Limits, Reserved};
+use crate::telling::Told;
 use crate::words::is_same_with;
 use of_alike::Where;
 use of_changes::push_changes_member;
@@ -14,9 +16,9 @@ use of_diff::{Difference, Differences, Undecided, Why};
 use of_json::{
     begin_array, push_array_member, push_bytes_member, push_controller_place, push_document_head,
     push_items_member, push_key, push_listed, push_number_member, push_port_place, push_quoted,
-    push_truth,
+    push_string_member, push_truth,
 };
-use of_switch::Switch;
+use of_symbolic_run::FrameSet;
 use of_values::push_decimal;
 use std::alloc::{AllocError, Global};
 
@@ -62,37 +64,73 @@ fn push_difference_members(
     push_number_member(out, b"sets", difference.sets.len() as u128)
 }
 
-// Appends the entries that a frame hits at each switch.
+// Appends the entries that a frame hits at each switch, and which of them changed.
 #[tactic(auto, unfolding(crate::specs::DiffJson::both_hits_members))]
-fn push_both_hits<L: Lookup>(
-    alloc: Global,
+fn push_both_hits(
     out: &mut Vec<u8>,
-    first: &DiffSide<'_, L>,
-    second: &DiffSide<'_, L>,
-    port: u32,
-    frame: &[u8],
+    first: &FileFlows<'_>,
+    second: &FileFlows<'_>,
+    told: &Told<'_>,
 ) -> Result<(), AllocError>
-    ensures { OnOk result (out.new.items ≡ out.old.items ++
-        both_hits_members first.now.flows second.now.flows first.now.switch.now.core.forwarding second.now.switch.now.core.forwarding port frame.now) }
+    ensures { OnOk result (out.new.items ≡ out.old.items ++ both_hits_members first.now second.now told.now) }
 {
-    push_hits_member(
-        alloc,
-        out,
-        b"first_entries",
-        first.switch,
-        &first.flows,
-        port,
-        frame,
-    )?;
-    push_hits_member(
-        alloc,
-        out,
-        b"second_entries",
-        second.switch,
-        &second.flows,
-        port,
-        frame,
-    )
+    push_hits_member(out, b"first_entries", first, &told.first.all)?;
+    push_changed_member(out, b"first_changed", &told.first.all)?;
+    push_hits_member(out, b"second_entries", second, &told.second.all)?;
+    push_changed_member(out, b"second_changed", &told.second.all)
+}
+
+#[tactic(auto, unfolding(crate::specs::DiffJson::ttl_member))]
+fn push_ttl_member(out: &mut Vec<u8>, frames: &FrameSet) -> Result<(), AllocError>
+    ensures { OnOk result (out.new.items ≡ out.old.items ++ ttl_member frames.now) }
+{
+    begin_array(out, b"region_ttl")?;
+    push_decimal(out, u128::from(frames.ttl_from))?;
+    out.push(b',')?;
+    push_decimal(out, u128::from(frames.ttl_to))?;
+    out.push(b']')?;
+    Ok(())
+}
+
+#[tactic(auto, unfolding(crate::specs::DiffJson::set_members))]
+fn push_set_members(out: &mut Vec<u8>, words: &[u8], frames: &FrameSet) -> Result<(), AllocError>
+    ensures { OnOk result (out.new.items ≡ out.old.items ++ set_members words.now frames.now) }
+{
+    push_string_member(out, b"region", words)?;
+    push_ttl_member(out, frames)?;
+    push_number_member(out, b"region_without", lacking(frames) as u128)
+}
+
+// Appends the region of the first of some sets of frames, if there are words for it.
+fn push_region_members(
+    out: &mut Vec<u8>,
+    sets: &[FrameSet],
+    region: &Option<Vec<u8>>,
+) -> Result<(), AllocError>
+    ensures { OnOk result (out.new.items ≡ out.old.items ++ region_members sets.now region.now) }
+{
+    match (region, sets) {
+        (Some(words), [frames, ..]) => push_set_members(out, words, frames),
+        _ => Ok(()),
+    }
+}
+
+#[tactic(auto, unfolding(crate::specs::DiffJson::also_object))]
+fn push_also_object(out: &mut Vec<u8>, difference: &&Difference) -> Result<(), AllocError>
+    ensures { OnOk result (out.new.items ≡ out.old.items ++ also_object difference.now) }
+{
+    out.push(b'{')?;
+    push_at(out, difference.at)?;
+    push_number_member(out, b"sets", difference.sets.len() as u128)?;
+    out.push(b'}')?;
+    Ok(())
+}
+
+#[tactic(auto, unfolding(crate::specs::DiffJson::also_member))]
+fn push_also_member(out: &mut Vec<u8>, also: &[&Difference]) -> Result<(), AllocError>
+    ensures { OnOk result (out.new.items ≡ out.old.items ++ also_member also.now) }
+{
+    push_array_member(out, b"also", also, push_also_object)
 }
 
 #[tactic(auto, unfolding(crate::specs::DiffJson::difference_object))]
@@ -101,21 +139,15 @@ fn push_difference_object<L: Lookup>(
     out: &mut Vec<u8>,
     first: &DiffSide<'_, L>,
     second: &DiffSide<'_, L>,
-    difference: &Difference,
+    told: &Told<'_>,
 ) -> Result<(), AllocError>
-    ensures { OnOk result (out.new.items ≡ out.old.items ++
-        difference_object first.now.flows second.now.flows first.now.switch.now.core.forwarding second.now.switch.now.core.forwarding difference.now) }
+    ensures { OnOk result (out.new.items ≡ out.old.items ++ difference_object first.now.flows second.now.flows told.now) }
 {
     out.push(b'{')?;
-    push_difference_members(alloc, out, difference)?;
-    push_both_hits(
-        alloc,
-        out,
-        first,
-        second,
-        difference.in_port,
-        &difference.frame,
-    )?;
+    push_difference_members(alloc, out, told.difference)?;
+    push_both_hits(out, &first.flows, &second.flows, told)?;
+    push_region_members(out, &told.difference.sets, &told.region)?;
+    push_also_member(out, &told.also)?;
     out.push(b'}')?;
     Ok(())
 }
@@ -125,14 +157,13 @@ fn difference_objects<L: Lookup>(
     alloc: Global,
     first: &DiffSide<'_, L>,
     second: &DiffSide<'_, L>,
-    found: &[Difference],
+    told: &[Told<'_>],
 ) -> Result<Vec<u8>, AllocError>
-    ensures { IfOk result (λ text. text.items ≡
-        differences_listed first.now.flows second.now.flows first.now.switch.now.core.forwarding second.now.switch.now.core.forwarding found.now) }
+    ensures { IfOk result (λ text. text.items ≡ differences_listed first.now.flows second.now.flows told.now) }
 {
     let mut out = Vec::new(alloc);
-    push_listed(&mut out, found, |out, difference| {
-        push_difference_object(alloc, out, first, second, difference)
+    push_listed(&mut out, told, |out, one| {
+        push_difference_object(alloc, out, first, second, one)
     })?;
     Ok(out)
 }
@@ -264,12 +295,12 @@ pub fn differences_as_json<L: Lookup>(
     first: &DiffSide<'_, L>,
     second: &DiffSide<'_, L>,
     of: &Reserved<'_>,
+    told: &[Told<'_>],
     found: &Differences,
 ) -> Result<Vec<u8>, AllocError>
-    ensures { IfOk result (λ text. text.items ≡ diff_json first.now.flows second.now.flows of.now.missing.now of.now.limits
-        first.now.switch.now.core.forwarding second.now.switch.now.core.forwarding found.now) }
+    ensures { IfOk result (λ text. text.items ≡ diff_json first.now.flows second.now.flows of.now.missing.now of.now.limits told.now found.now) }
 {
-    let objects = difference_objects(alloc, first, second, &found.found)?;
+    let objects = difference_objects(alloc, first, second, told)?;
     document(
         alloc,
         same_word(of, found),

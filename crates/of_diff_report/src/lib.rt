@@ -3,7 +3,9 @@
 
 mod hits;
 mod json;
+mod region;
 mod reserved;
+mod telling;
 mod words;
 mod writing;
 

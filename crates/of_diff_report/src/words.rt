@@ -1,10 +1,12 @@
 //! What is found about two switches, in words.
-ghost use Rattle.std.specs.Prelude.{◌≡◌, ◌++◌, ◌∷◌, IfOk, OnOk, filter, length};
+ghost use Rattle.std.specs.Prelude.{◌≡◌, ◌++◌, ◌∷◌, [], IfOk, OnOk, filter, length};
 ghost use Rattle.std.specs.List.{flat_map, list_all, list_any};
-ghost use Rattle.of_diff_report.specs.DiffWords.{are_same, are_same_with, both_limits_words, first_limit_words, second_limit_words, such_port_words, expired_count_words, count_why, diff_summary, diff_words, difference_count, difference_words, expired_count, expired_line, expired_words, first_expired_words, such_as_words, is_expired_item, is_invalid_ttl, is_of_expired, is_why, limits_line, limits_words, missing_line, missing_lines, other_ports_words, same_unless, same_words, sets_line, sets_words, switch_words, told_words, undecided_line, undecided_words, where_words, undecided_why};
+ghost use Rattle.of_diff_report.specs.DiffWords.{also_line, also_words, are_of_expired, are_same, are_same_with, both_limits_words, first_limit_words, further_place, is_expired_difference, is_same_place as is_same_place_by, at_words, wheres_after, second_limit_words, such_port_words, expired_count_words, count_why, diff_summary, diff_words, difference_count, difference_head, difference_words, expired_count, expired_line, expired_words, first_expired_words, such_as_words, is_expired_item, is_invalid_ttl, is_of_expired, is_why, limits_line, limits_words, missing_line, missing_lines, other_ports_words, same_unless, same_words, sets_line, sets_words, switch_words, told_words, undecided_line, undecided_words, where_words, undecided_why, with_where};
 
-use crate::hits::{DiffSide, push_hit_lines};
+use crate::hits::{DiffSide, FileFlows, MarkedHit, push_hit_lines};
+use crate::region::push_region_line;
 use crate::reserved::{Limits, Reserved, has_reason};
+use crate::telling::Told;
 use of_alike::Where;
 use of_build::push_hex;
 use of_changes::push_changed_side;
@@ -83,19 +85,27 @@ fn push_limits_line(out: &mut Vec<u8>, limits: Option<Limits>) -> Result<(), All
     }
 }
 
+#[tactic(auto, unfolding(crate::specs::DiffWords::at_words))]
+fn push_place(out: &mut Vec<u8>, at: Where) -> Result<(), AllocError>
+    ensures { OnOk result (out.new.items ≡ out.old.items ++ at_words at) }
+{
+    match at {
+        Where::Port(port) => {
+            out.extend_from_slice(b"by port ")?;
+            push_decimal(out, u128::from(port))
+        }
+        Where::Controller => out.extend_from_slice(b"to the controller"),
+    }
+}
+
 // Appends where something else leaves.
 #[tactic(auto, unfolding(crate::specs::DiffWords::where_words))]
 fn push_where(out: &mut Vec<u8>, at: Where) -> Result<(), AllocError>
     ensures { OnOk result (out.new.items ≡ out.old.items ++ where_words at) }
 {
-    match at {
-        Where::Port(port) => {
-            out.extend_from_slice(b"differs by port ")?;
-            push_decimal(out, u128::from(port))?;
-            out.extend_from_slice(b": ")
-        }
-        Where::Controller => out.extend_from_slice(b"differs to the controller: "),
-    }
+    out.extend_from_slice(b"differs ")?;
+    push_place(out, at)?;
+    out.extend_from_slice(b": ")
 }
 
 #[tactic(auto, unfolding(crate::specs::DiffWords::sets_words))]
@@ -122,20 +132,127 @@ fn push_sets_line(out: &mut Vec<u8>, count: usize) -> Result<(), AllocError>
 
 // Appends the entries that a frame hits at a switch, what leaves it, and what changed in that.
 #[tactic(auto, unfolding(crate::specs::DiffWords::switch_words))]
-fn push_switch<L: Lookup>(
+fn push_switch(
     alloc: Global,
     out: &mut Vec<u8>,
     who: &[u8],
-    of: &DiffSide<'_, L>,
-    port: u32,
+    flows: &FileFlows<'_>,
+    hits: &[MarkedHit],
     frame: &[u8],
     items: &[Item],
 ) -> Result<(), AllocError>
-    ensures { OnOk result (out.new.items ≡ out.old.items ++
-        switch_words who.now of.now.flows of.now.switch.now.core.forwarding port frame.now items.now) }
+    ensures { OnOk result (out.new.items ≡ out.old.items ++ switch_words who.now flows.now hits.now frame.now items.now) }
 {
-    push_hit_lines(alloc, out, who, of.switch, &of.flows, port, frame)?;
+    push_hit_lines(out, who, flows, hits)?;
     push_changed_side(alloc, out, who, frame, items)
+}
+
+fn push_difference_count(out: &mut Vec<u8>, count: usize) -> Result<(), AllocError>
+    ensures { OnOk result (out.new.items ≡ out.old.items ++ difference_count count) }
+{
+    push_decimal(out, count as u128)?;
+    if count == 1 {
+        out.extend_from_slice(b" difference")
+    } else {
+        out.extend_from_slice(b" differences")
+    }
+}
+
+fn is_same_place(a: Where, b: Where) -> bool
+    ensures { result ≡ is_same_place_by a b }
+{
+    match (a, b) {
+        (Where::Port(port), Where::Port(other)) => port == other,
+        (Where::Controller, Where::Controller) => true,
+        _ => false,
+    }
+}
+
+fn is_among(places: &[Where], at: Where) -> bool
+    ensures { result ≡ list_any (is_same_place_by at) places.now }
+{
+    places.iter().any(|place| is_same_place(at, *place))
+}
+
+// Adds a place, once.
+fn add_place(places: &mut Vec<Where>, at: Where) -> Result<(), AllocError>
+    ensures { OnOk result (places.new.items ≡ with_where places.old.items at) }
+{
+    if is_among(places, at) {
+        return Ok(());
+    }
+    places.push(at)?;
+    Ok(())
+}
+
+// The places of differences, each once.
+fn places_of(alloc: Global, also: &[&Difference]) -> Result<Vec<Where>, AllocError>
+    ensures { IfOk result (λ places. places.items ≡ wheres_after [] also.now) }
+{
+    let mut places = Vec::new(alloc);
+    for difference in also {
+        add_place(&mut places, difference.at)?;
+    }
+    Ok(places)
+}
+
+#[tactic(auto, unfolding(crate::specs::DiffWords::further_place))]
+fn push_further_place(out: &mut Vec<u8>, at: Where) -> Result<(), AllocError>
+    ensures { OnOk result (out.new.items ≡ out.old.items ++ further_place at) }
+{
+    out.extend_from_slice(b", ")?;
+    push_place(out, at)
+}
+
+fn push_places(out: &mut Vec<u8>, places: &[Where]) -> Result<(), AllocError>
+    ensures { OnOk result (out.new.items ≡ out.old.items ++ flat_map further_place places.now) }
+{
+    for at in places {
+        push_further_place(out, *at)?;
+    }
+    Ok(())
+}
+
+#[tactic(auto, unfolding(crate::specs::DiffWords::also_words))]
+fn push_also(alloc: Global, out: &mut Vec<u8>, also: &[&Difference]) -> Result<(), AllocError>
+    ensures { OnOk result (out.new.items ≡ out.old.items ++ also_words also.now) }
+{
+    let places = places_of(alloc, also)?;
+    out.extend_from_slice(b"    also: ")?;
+    push_difference_count(out, also.len())?;
+    push_places(out, &places)?;
+    out.push(b'\n')?;
+    Ok(())
+}
+
+// Appends where further differences of the same changed entries are, if there are such.
+#[tactic(auto, unfolding(crate::specs::DiffWords::also_line))]
+fn push_also_line(alloc: Global, out: &mut Vec<u8>, also: &[&Difference]) -> Result<(), AllocError>
+    ensures { OnOk result (out.new.items ≡ out.old.items ++ also_line also.now) }
+{
+    if also.is_empty() {
+        Ok(())
+    } else {
+        push_also(alloc, out, also)
+    }
+}
+
+// Appends where something else leaves, a frame, and the region of its set.
+#[tactic(auto, unfolding(crate::specs::DiffWords::difference_head))]
+fn push_difference_head<L: Lookup>(
+    alloc: Global,
+    out: &mut Vec<u8>,
+    switch: &Switch<L>,
+    told: &Told<'_>,
+) -> Result<(), AllocError>
+    ensures { OnOk result (out.new.items ≡ out.old.items ++ difference_head switch.now.core.forwarding told.now) }
+{
+    let difference = told.difference;
+    let (port, frame) = (difference.in_port, difference.frame.as_slice());
+    push_where(out, difference.at)?;
+    push_heading(alloc, out, switch, port, frame)?;
+    push_frame_lines(alloc, out, port, frame)?;
+    push_region_line(out, &difference.sets, &told.region)
 }
 
 #[tactic(auto, unfolding(crate::specs::DiffWords::difference_words))]
@@ -144,34 +261,33 @@ fn push_difference<L: Lookup>(
     out: &mut Vec<u8>,
     first: &DiffSide<'_, L>,
     second: &DiffSide<'_, L>,
-    difference: &Difference,
+    told: &Told<'_>,
 ) -> Result<(), AllocError>
     ensures { OnOk result (out.new.items ≡ out.old.items ++
-        difference_words first.now.flows second.now.flows first.now.switch.now.core.forwarding second.now.switch.now.core.forwarding difference.now) }
+        difference_words first.now.flows second.now.flows first.now.switch.now.core.forwarding told.now) }
 {
-    let (port, frame) = (difference.in_port, difference.frame.as_slice());
-    push_where(out, difference.at)?;
-    push_heading(alloc, out, first.switch, port, frame)?;
-    push_frame_lines(alloc, out, port, frame)?;
+    let difference = told.difference;
+    push_difference_head(alloc, out, first.switch, told)?;
     push_switch(
         alloc,
         out,
         b"    first: ",
-        first,
-        port,
-        frame,
+        &first.flows,
+        &told.first.all,
+        &difference.frame,
         &difference.first,
     )?;
     push_switch(
         alloc,
         out,
         b"    second: ",
-        second,
-        port,
-        frame,
+        &second.flows,
+        &told.second.all,
+        &difference.frame,
         &difference.second,
     )?;
-    push_sets_line(out, difference.sets.len())
+    push_sets_line(out, difference.sets.len())?;
+    push_also_line(alloc, out, &told.also)
 }
 
 fn is_invalid(reason: PacketInReason) -> bool
@@ -203,20 +319,34 @@ fn expires(difference: &Difference) -> bool
     some_expire(&difference.first) || some_expire(&difference.second)
 }
 
-// Appends a difference, unless it is one of those that are only counted.
+fn all_of_expired(also: &[&Difference]) -> bool
+    ensures { result ≡ list_all is_expired_difference also.now }
+{
+    also.iter().all(|difference| expires(difference))
+}
+
+// Whether the TTL expires of each frame of those that are told together.
+#[tactic(auto, unfolding(crate::specs::DiffWords::are_of_expired))]
+fn all_expire(told: &Told<'_>) -> bool
+    ensures { result ≡ are_of_expired told.now }
+{
+    expires(told.difference) && all_of_expired(&told.also)
+}
+
+// Appends differences, unless they are some of those that are only counted.
 fn push_told<L: Lookup>(
     alloc: Global,
     out: &mut Vec<u8>,
     first: &DiffSide<'_, L>,
     second: &DiffSide<'_, L>,
     all: bool,
-    difference: &Difference,
+    told: &Told<'_>,
 ) -> Result<(), AllocError>
     ensures { OnOk result (out.new.items ≡ out.old.items ++ told_words all first.now.flows second.now.flows
-        first.now.switch.now.core.forwarding second.now.switch.now.core.forwarding difference.now) }
+        first.now.switch.now.core.forwarding told.now) }
 {
-    if all || !expires(difference) {
-        push_difference(alloc, out, first, second, difference)
+    if all || !all_expire(told) {
+        push_difference(alloc, out, first, second, told)
     } else {
         Ok(())
     }
@@ -228,26 +358,15 @@ fn push_differences<L: Lookup>(
     first: &DiffSide<'_, L>,
     second: &DiffSide<'_, L>,
     all: bool,
-    found: &[Difference],
+    told: &[Told<'_>],
 ) -> Result<(), AllocError>
     ensures { OnOk result (out.new.items ≡ out.old.items ++ flat_map (told_words all first.now.flows second.now.flows
-        first.now.switch.now.core.forwarding second.now.switch.now.core.forwarding) found.now) }
+        first.now.switch.now.core.forwarding) told.now) }
 {
-    for difference in found {
-        push_told(alloc, out, first, second, all, difference)?;
+    for one in told {
+        push_told(alloc, out, first, second, all, one)?;
     }
     Ok(())
-}
-
-fn push_difference_count(out: &mut Vec<u8>, count: usize) -> Result<(), AllocError>
-    ensures { OnOk result (out.new.items ≡ out.old.items ++ difference_count count) }
-{
-    push_decimal(out, count as u128)?;
-    if count == 1 {
-        out.extend_from_slice(b" difference")
-    } else {
-        out.extend_from_slice(b" differences")
-    }
 }
 
 #[tactic(auto, unfolding(crate::specs::DiffWords::such_port_words))]
@@ -297,48 +416,44 @@ fn push_first_expired(
     alloc: Global,
     out: &mut Vec<u8>,
     count: usize,
-    found: &[Difference],
+    told: &[Told<'_>],
 ) -> Result<(), AllocError>
-    ensures { OnOk result (out.new.items ≡ out.old.items ++ first_expired_words count found.now) }
+    ensures { OnOk result (out.new.items ≡ out.old.items ++ first_expired_words count told.now) }
 {
-    for difference in found {
-        if expires(difference) {
-            return push_expired(alloc, out, count, difference);
+    for one in told {
+        if all_expire(one) {
+            return push_expired(alloc, out, count, one.difference);
         }
     }
     Ok(())
 }
 
-fn count_expired(found: &[Difference]) -> usize
-    ensures { result ≡ expired_count found.now }
+fn count_expired(told: &[Told<'_>]) -> usize
+    ensures { result ≡ expired_count told.now }
 {
     let mut count = 0;
-    for difference in found {
-        if expires(difference) {
+    for one in told {
+        if all_expire(one) {
             count += 1;
         }
     }
     count
 }
 
-fn all_expire(found: &[Difference]) -> bool
-    ensures { result ≡ list_all is_of_expired found.now }
+fn all_told_expire(told: &[Told<'_>]) -> bool
+    ensures { result ≡ list_all are_of_expired told.now }
 {
-    found.iter().all(|difference| expires(difference))
+    told.iter().all(|one| all_expire(one))
 }
 
 // Appends a line about the differences that are only counted, if there are such.
-fn push_expired_line(
-    alloc: Global,
-    out: &mut Vec<u8>,
-    found: &[Difference],
-) -> Result<(), AllocError>
-    ensures { OnOk result (out.new.items ≡ out.old.items ++ expired_line found.now) }
+fn push_expired_line(alloc: Global, out: &mut Vec<u8>, told: &[Told<'_>]) -> Result<(), AllocError>
+    ensures { OnOk result (out.new.items ≡ out.old.items ++ expired_line told.now) }
 {
-    if all_expire(found) {
+    if all_told_expire(told) {
         return Ok(());
     }
-    push_first_expired(alloc, out, count_expired(found), found)
+    push_first_expired(alloc, out, count_expired(told), told)
 }
 
 // Whether a reason is the other one.
@@ -436,15 +551,20 @@ fn same_sentence(of: &Reserved<'_>) -> &'static [u8]
     }
 }
 
-// Appends how many differences and undecided sets of frames there are.
+// Appends how many differences are told, and how many undecided sets of frames there are.
 #[tactic(auto, unfolding(crate::specs::DiffWords::diff_summary))]
-fn push_summary(out: &mut Vec<u8>, of: &Reserved<'_>, found: &Differences) -> Result<(), AllocError>
-    ensures { OnOk result (out.new.items ≡ out.old.items ++ diff_summary of.now.missing.now of.now.limits found.now) }
+fn push_summary(
+    out: &mut Vec<u8>,
+    of: &Reserved<'_>,
+    told: usize,
+    found: &Differences,
+) -> Result<(), AllocError>
+    ensures { OnOk result (out.new.items ≡ out.old.items ++ diff_summary of.now.missing.now of.now.limits told found.now) }
 {
     if is_same(found) {
         out.extend_from_slice(same_sentence(of))?;
     } else {
-        push_difference_count(out, found.found.len())?;
+        push_difference_count(out, told)?;
         push_undecided_count(out, found.undecided.len())?;
     }
     out.push(b'\n')?;
@@ -458,19 +578,20 @@ pub fn differences_in_words<L: Lookup>(
     first: &DiffSide<'_, L>,
     second: &DiffSide<'_, L>,
     of: &Reserved<'_>,
+    told: &[Told<'_>],
     found: &Differences,
 ) -> Result<Vec<u8>, AllocError>
     ensures { IfOk result (λ text. text.items ≡ diff_words first.now.flows second.now.flows of.now.missing.now of.now.limits
-        first.now.switch.now.core.forwarding second.now.switch.now.core.forwarding found.now) }
+        first.now.switch.now.core.forwarding told.now found.now) }
 {
     let mut out = Vec::new(alloc);
-    let all = all_expire(&found.found);
+    let all = all_told_expire(told);
     push_missing(&mut out, of.missing)?;
     push_limits_line(&mut out, of.limits)?;
-    push_differences(alloc, &mut out, first, second, all, &found.found)?;
-    push_expired_line(alloc, &mut out, &found.found)?;
+    push_differences(alloc, &mut out, first, second, all, told)?;
+    push_expired_line(alloc, &mut out, told)?;
     push_undecided(&mut out, &found.undecided)?;
-    push_summary(&mut out, of, found)?;
+    push_summary(&mut out, of, told.len(), found)?;
     Ok(out)
 }
 

@@ -1,0 +1,307 @@
+//! What all frames of a set have in common, in words.
+ghost use Rattle.std.specs.Prelude.{◌≡◌, ℕ, ◌++◌, ◌∷◌, List, Option, IfOk, OnOk, true};
+ghost use Rattle.of_layers.specs.declared.field.Field.{Field as TheField};
+ghost use Rattle.of_oxm.specs.Relations.{matches_map};
+ghost use Rattle.of_regions.specs.declared.meeting.Meeting.TheVariants.{Whole};
+ghost use Rattle.of_regions.specs.Meeting.{Meets};
+ghost use Rattle.of_regions.specs.Searching.{InSome};
+ghost use Rattle.of_symbolic_run.specs.declared.frame_set.FrameSet.{FrameSet as AFrameSet};
+ghost use Rattle.of_diff_report.specs.RegionWords.{IsRegionOf, IsTrueOf, count_of_entries, is_of_entry as is_of_entry_by, is_port_block as is_port_block_by, lacks_part, matches_word, region_head, region_line, set_line, ttl_range_part, words_said};
+
+use of_frame_words::{NoFrame, read_conditions};
+use of_layers::Field;
+use of_ovs_words::text_for;
+use of_oxm::MatchField;
+use of_regions::{Meeting, Region};
+use of_symbolic_run::FrameSet;
+use of_values::{push_decimal, push_value_words};
+use std::alloc::{AllocError, Global};
+
+// ---- conditions
+
+fn has_all(region: &Region, fields: &[MatchField]) -> bool
+    ensures { result ≡ true → Meets region.now fields.now Whole }
+{
+    matches!(region.meet(fields), Meeting::Whole)
+}
+
+// Whether all packets of regions have these fields.
+fn all_match(regions: &[Region], fields: &[MatchField]) -> bool
+    ensures { result ≡ true → (map : TheField → Option ℕ) → InSome regions.now map → matches_map fields.now map ≡ true }
+{
+    for region in regions {
+        if !has_all(region, fields) {
+            return false;
+        }
+    }
+    true
+}
+
+// What is known of a field in a region, if a match can say it.
+fn known_condition(region: &Region, field: Field) -> Option<MatchField> {
+    let mask = region.masks.masks.get(field)?;
+    let value = region.known.get(field)?;
+    let row = field.row();
+    if mask == row.ones {
+        Some(MatchField {
+            field,
+            value,
+            mask: None,
+        })
+    } else if mask != 0 && row.maskable {
+        Some(MatchField {
+            field,
+            value,
+            mask: Some(mask),
+        })
+    } else {
+        None
+    }
+}
+
+// Adds what is known of a field in the first of some regions, if so it is in all of them.
+fn add_common(
+    conditions: &mut Vec<MatchField>,
+    regions: &[Region],
+    field: Field,
+) -> Result<(), AllocError> {
+    let Some(first) = regions.first() else {
+        return Ok(());
+    };
+    match known_condition(first, field) {
+        Some(e) if all_match(regions, &[e]) => {
+            conditions.push(e)?;
+            Ok(())
+        }
+        _ => Ok(()),
+    }
+}
+
+// What all packets of some regions have in common: the port, the type, and the other fields by their numbers. Frames that come in have no metadata.
+fn common_conditions(alloc: Global, regions: &[Region]) -> Result<Vec<MatchField>, AllocError> {
+    let mut conditions = Vec::new(alloc);
+    add_common(&mut conditions, regions, Field::InPort)?;
+    add_common(&mut conditions, regions, Field::EthType)?;
+    let fields: &[Field] = &Field::ALL;
+    for field in fields {
+        if !matches!(field, Field::InPort | Field::EthType | Field::Metadata) {
+            add_common(&mut conditions, regions, *field)?;
+        }
+    }
+    Ok(conditions)
+}
+
+// ---- words
+
+// The word for a type and a protocol, if there is one.
+fn protocol_word(ethertype: u128, protocol: Option<u128>) -> Option<&'static [u8]> {
+    match (ethertype, protocol) {
+        (0x0800, Some(1)) => Some(b"icmp"),
+        (0x0800, Some(6)) => Some(b"tcp"),
+        (0x0800, Some(17)) => Some(b"udp"),
+        (0x0800, _) => Some(b"ip"),
+        (0x86dd, Some(6)) => Some(b"tcp6"),
+        (0x86dd, Some(17)) => Some(b"udp6"),
+        (0x86dd, Some(58)) => Some(b"icmp6"),
+        (0x86dd, _) => Some(b"ipv6"),
+        (0x0806, _) => Some(b"arp"),
+        _ => None,
+    }
+}
+
+// The protocol that conditions say, if one of these words says it.
+fn protocol_among(conditions: &[MatchField]) -> Option<u128> {
+    let e = conditions.iter().find(|e| e.field == Field::IpProto)?;
+    match e.value {
+        1 | 6 | 17 | 58 => Some(e.value),
+        _ => None,
+    }
+}
+
+fn push_setting(out: &mut Vec<u8>, word: &[u8], e: &MatchField) -> Result<(), AllocError> {
+    out.extend_from_slice(word)?;
+    out.push(b'=')?;
+    push_value_words(out, e.field, e.value, e.mask)
+}
+
+// Appends what is known of a VLAN tag (OpenFlow 1.3.5, 7.2.3.7).
+fn push_tag(out: &mut Vec<u8>, e: &MatchField) -> Result<(), AllocError> {
+    match (e.value, e.mask) {
+        (0, None) => out.extend_from_slice(b"vlan_vid=0"),
+        (0x1000, Some(0x1000)) => out.extend_from_slice(b"vlan_vid=0x1000/0x1000"),
+        (_, Some(_)) => push_setting(out, b"vlan_vid", e),
+        (_, None) => push_setting(out, b"dl_vlan", e),
+    }
+}
+
+fn push_type(out: &mut Vec<u8>, e: &MatchField, protocol: Option<u128>) -> Result<(), AllocError> {
+    match (e.mask, protocol_word(e.value, protocol)) {
+        (None, Some(word)) => out.extend_from_slice(word),
+        _ => push_setting(out, text_for(e.field), e),
+    }
+}
+
+// Appends the word for a condition, behind a comma if it is not the first one.
+fn push_condition(
+    out: &mut Vec<u8>,
+    e: &MatchField,
+    protocol: Option<u128>,
+) -> Result<(), AllocError> {
+    if e.field == Field::IpProto && protocol.is_some() {
+        return Ok(());
+    }
+    if !out.is_empty() {
+        out.push(b',')?;
+    }
+    match e.field {
+        Field::EthType => push_type(out, e, protocol),
+        Field::VlanVid => push_tag(out, e),
+        Field::IpDscp => push_setting(out, b"ip_dscp", e),
+        _ => push_setting(out, text_for(e.field), e),
+    }
+}
+
+// The words for conditions, such as `in_port=1,tcp,nw_dst=10.0.0.0/8`.
+fn words_for(alloc: Global, conditions: &[MatchField]) -> Result<Vec<u8>, AllocError> {
+    let mut words = Vec::new(alloc);
+    let protocol = protocol_among(conditions);
+    for e in conditions {
+        push_condition(&mut words, e, protocol)?;
+    }
+    Ok(words)
+}
+
+// Whether words are read as conditions that all frames of a set fulfil.
+fn are_true_of(alloc: Global, words: &[u8], frames: &FrameSet) -> Result<bool, AllocError>
+    ensures { IfOk result (λ yes. yes ≡ true → IsTrueOf frames.now words.now) }
+{
+    match read_conditions(alloc, words) {
+        Ok(fields) => Ok(all_match(&frames.part.regions, &fields)),
+        Err(NoFrame::NoMemory) => Err(AllocError),
+        Err(NoFrame::Refused(_)) => Ok(false),
+    }
+}
+
+// Words for what all frames of a set have in common, if they are read as such.
+fn words_of_set(alloc: Global, frames: &FrameSet) -> Result<Option<Vec<u8>>, AllocError>
+    ensures { IfOk result (λ words. (sets : List AFrameSet) → IsRegionOf (frames.now ∷ sets) words) }
+{
+    let conditions = common_conditions(alloc, &frames.part.regions)?;
+    let words = words_for(alloc, &conditions)?;
+    if are_true_of(alloc, &words, frames)? {
+        Ok(Some(words))
+    } else {
+        Ok(None)
+    }
+}
+
+/// Words for the first of some sets of frames, such as `in_port=1,tcp,nw_dst=10.0.0.0/8`: `paths --match` reads them as conditions that each of its
+/// frames fulfils. The set may have fewer frames. None if there are no such words.
+pub fn region_words(alloc: Global, sets: &[FrameSet]) -> Result<Option<Vec<u8>>, AllocError>
+    ensures { IfOk result (IsRegionOf sets.now) }
+{
+    match sets {
+        [] => Ok(None),
+        [frames, ..] => words_of_set(alloc, frames),
+    }
+}
+
+// ---- the line
+
+fn said(words: &[u8]) -> &[u8]
+    ensures { result.now ≡ words_said words.now }
+{
+    if words.is_empty() {
+        b"all frames"
+    } else {
+        words
+    }
+}
+
+#[tactic(auto, unfolding(crate::specs::RegionWords::ttl_range_part))]
+fn push_ttl(out: &mut Vec<u8>, low: u8, high: u8) -> Result<(), AllocError>
+    ensures { OnOk result (out.new.items ≡ out.old.items ++ ttl_range_part low high) }
+{
+    if low == 0 && high == 255 {
+        return Ok(());
+    }
+    out.extend_from_slice(b" with nw_ttl ")?;
+    push_decimal(out, u128::from(low))?;
+    out.extend_from_slice(b" to ")?;
+    push_decimal(out, u128::from(high))
+}
+
+fn is_port_block(e: &MatchField) -> bool
+    ensures { result ≡ is_port_block_by e.now }
+{
+    e.field.number() == Field::InPort.number() && e.mask.is_some()
+}
+
+fn is_of_entry(conditions: &Vec<MatchField>) -> bool
+    ensures { result ≡ is_of_entry_by conditions.now }
+{
+    conditions.iter().any(|e| !is_port_block(e))
+}
+
+/// How many lists of conditions are those of entries: the others leave out the numbers of ports that the switches do not have.
+pub fn lacking(frames: &FrameSet) -> usize
+    ensures { result ≡ count_of_entries frames.now.part.lacks.items }
+{
+    frames
+        .part
+        .lacks
+        .iter()
+        .filter(|conditions| is_of_entry(conditions))
+        .count()
+}
+
+fn word_for_matches(count: usize) -> &'static [u8]
+    ensures { result.now ≡ matches_word count }
+{
+    if count == 1 { b" match" } else { b" matches" }
+}
+
+#[tactic(auto, unfolding(crate::specs::RegionWords::lacks_part))]
+fn push_lacks(out: &mut Vec<u8>, count: usize) -> Result<(), AllocError>
+    ensures { OnOk result (out.new.items ≡ out.old.items ++ lacks_part count) }
+{
+    if count == 0 {
+        return Ok(());
+    }
+    out.extend_from_slice(b" without ")?;
+    push_decimal(out, count as u128)?;
+    out.extend_from_slice(word_for_matches(count))
+}
+
+#[tactic(auto, unfolding(crate::specs::RegionWords::region_head))]
+fn push_region_head(out: &mut Vec<u8>, words: &[u8]) -> Result<(), AllocError>
+    ensures { OnOk result (out.new.items ≡ out.old.items ++ region_head words.now) }
+{
+    out.extend_from_slice(b"    region: ")?;
+    out.extend_from_slice(said(words))
+}
+
+#[tactic(auto, unfolding(crate::specs::RegionWords::set_line))]
+fn push_set(out: &mut Vec<u8>, words: &[u8], frames: &FrameSet) -> Result<(), AllocError>
+    ensures { OnOk result (out.new.items ≡ out.old.items ++ set_line words.now frames.now) }
+{
+    push_region_head(out, words)?;
+    push_ttl(out, frames.ttl_from, frames.ttl_to)?;
+    push_lacks(out, lacking(frames))?;
+    out.push(b'\n')?;
+    Ok(())
+}
+
+/// Appends a line with the region of the first of some sets of frames, if there are words for it.
+pub fn push_region_line(
+    out: &mut Vec<u8>,
+    sets: &[FrameSet],
+    region: &Option<Vec<u8>>,
+) -> Result<(), AllocError>
+    ensures { OnOk result (out.new.items ≡ out.old.items ++ region_line sets.now region.now) }
+{
+    match (region, sets) {
+        (Some(words), [frames, ..]) => push_set(out, words, frames),
+        _ => Ok(()),
+    }
+}
