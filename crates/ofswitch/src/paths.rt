@@ -36,14 +36,6 @@ fn asked_place(to: Option<Leading>) -> Option<Destination> {
     }
 }
 
-fn merging_of(each: bool) -> Merging {
-    if each {
-        Merging::Each
-    } else {
-        Merging::SameWay
-    }
-}
-
 fn form_of(json: bool) -> PathsForm {
     if json {
         PathsForm::Json
@@ -98,7 +90,11 @@ fn paths_within(
     let of_frames = Asked {
         port: asked.port,
         within,
-        merging: merging_of(asked.each),
+        merging: if asked.each {
+            Merging::Each
+        } else {
+            Merging::SameWay
+        },
         to: asked_place(asked.to),
         steps: asked.steps as usize,
     };
