@@ -44,4 +44,8 @@ pub before_more : {S : Type 0} (step : S → List ℕ → S) (s next : S) (rest 
 before_more step s next rest word name after h w a n e k =
     let so : begins_actions (word_name (word_in 0 rest)) ≡ false = ap (λ (x : List ℕ). begins_actions (word_name x)) (sym w) ∙ (ap begins_actions (sym n) ∙ e) in
     let outcome : step s (word_in 0 rest) ≡ next = ap (step s) (sym w) ∙ sym k in
-    ap (fold step s) (before_next rest h) ∙ rw (so, outcome, a) refl
+    let first = word_in 0 rest in
+    let others = words_before_actions (words_from 0 (after_word 0 rest)) in
+    ap (fold step s) (before_next rest h)
+    ∙ (ap (λ b. fold step s (cond b [] (first ∷ others))) so
+    ∙ (ap (λ x. fold step x others) outcome ∙ ap (λ (t : List ℕ). fold step next (words_before_actions (words_from 0 t))) (sym a)))

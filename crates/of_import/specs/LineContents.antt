@@ -61,14 +61,14 @@ abbrev pub words_before_actions : List (List ℕ) → List (List ℕ)
 words_before_actions [] = []
 words_before_actions (w ∷ ws) = if begins_actions (word_name w) then [] else w ∷ words_before_actions ws
 
-abbrev pub with_protocol_word : PartialFlow → List ℕ → PartialFlow
-with_protocol_word s word = if says_protocol word then with_flow_word s word else s
+abbrev pub with_word_of_protocol : PartialFlow → List ℕ → PartialFlow
+with_word_of_protocol s word = if says_protocol word then with_flow_word s word else s
 
 abbrev pub with_later_word : PartialFlow → List ℕ → PartialFlow
 with_later_word s word = if not s.in_actions && says_protocol word then s else with_flow_word s word
 
 abbrev pub with_all_words : PartialFlow → List (List ℕ) → PartialFlow
-with_all_words s words = with_words with_later_word (fold with_protocol_word s (words_before_actions words)) words
+with_all_words s words = with_words with_later_word (fold with_word_of_protocol s (words_before_actions words)) words
 
 abbrev pub parsed_flow : Mode → List ℕ → List ℕ → LineContent
 parsed_flow mode numbers text = flow_content (in_numbers numbers (with_all_words (blank mode) (words_from 0 text)))

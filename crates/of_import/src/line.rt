@@ -7,7 +7,7 @@ ghost use Rattle.of_ovs_words.specs.Words.{words_from};
 ghost use Rattle.of_import.specs.Finished.{in_numbers, new_table_number as renumbered_by};
 ghost use Rattle.of_import.specs.PartialFlows.{blank};
 ghost use Rattle.of_import.specs.PartialGroups.{no_group, with_group_word};
-ghost use Rattle.of_import.specs.LineContents.{begins_group as begins_group_so, flow_content, group_content, parsed_flow, parsed_group, is_command_name as is_command_word, is_heading as is_heading_text, names_group_id as names_group_so, parsed_line, parsed_text as parsed_text_of, says_protocol as says_protocol_so, with_later_word, with_protocol_word, with_words, words_before_actions, trimmed as trimmed_of};
+ghost use Rattle.of_import.specs.LineContents.{begins_group as begins_group_so, flow_content, group_content, parsed_flow, parsed_group, is_command_name as is_command_word, is_heading as is_heading_text, names_group_id as names_group_so, parsed_line, parsed_text as parsed_text_of, says_protocol as says_protocol_so, with_later_word, with_word_of_protocol, with_words, words_before_actions, trimmed as trimmed_of};
 ghost use Rattle.of_import.specs.Sound.{IsSoundContent};
 ghost use Rattle.of_import.specs.PartialFlowViews.{view_partial_flow};
 ghost use Rattle.of_import.specs.PartialGroupViews.{view_partial_group};
@@ -61,7 +61,7 @@ fn add_protocol_word(
     partial: &mut PartialFlow,
     word: &[u8],
 ) -> Result<(), AllocError>
-    ensures { OnOk result (view_partial_flow partial.new ≡ with_protocol_word (view_partial_flow partial.old) word.now) }
+    ensures { OnOk result (view_partial_flow partial.new ≡ with_word_of_protocol (view_partial_flow partial.old) word.now) }
 {
     if says_protocol(word) {
         partial.add_word(alloc, word)
@@ -76,7 +76,7 @@ fn add_protocol_words(
     partial: &mut PartialFlow,
     text: &[u8],
 ) -> Result<(), AllocError>
-    ensures { OnOk result (fold with_protocol_word (view_partial_flow partial.old) (words_before_actions (words_from 0 text.now)) ≡
+    ensures { OnOk result (fold with_word_of_protocol (view_partial_flow partial.old) (words_before_actions (words_from 0 text.now)) ≡
         view_partial_flow partial.new) }
 {
     let mut rest = text;

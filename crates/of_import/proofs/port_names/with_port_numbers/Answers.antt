@@ -4,7 +4,7 @@ use Rattle.of_import.proofs.PortNameLemmas.{numbers_at_end, numbers_step}
 use Rattle.of_import.proofs.port_names.with_port_numbers.Goals as goal
 
 pub loop-rest-preserved : goal.loop-rest-preserved
-loop-rest-preserved c = numbers_step (lines_of c.args.list.now) c.loop-rest.here c.comes_before_port.result c.loop-rest.out.items c.push_token.new.out.items _ c.loop-rest.rest.now c.cut_token.result.0.now c.cut_token.result.1.now c.cut_token.result.2.now (some_bytes c.loop-rest.rest.now c.is_empty.result c.is_empty.ensures c.loop-rest-test.true) c.cut_token.ensures.word c.cut_token.ensures.end c.cut_token.ensures.rest c.in_ok-push_token.ensures c.comes_before_port.ensures c.loop-rest.invariant
+loop-rest-preserved c = numbers_step (lines_of c.args.list.now) c.loop-rest.here c.comes_before_port-here.result c.loop-rest.out.items c.push_token.new.out.items _ c.loop-rest.rest.now c.cut_token.result.0.now c.cut_token.result.1.now c.cut_token.result.2.now (some_bytes c.loop-rest.rest.now c.is_empty.result c.is_empty.ensures c.loop-rest-test.true) c.cut_token.ensures.word c.cut_token.ensures.end c.cut_token.ensures.rest c.in_ok-push_token.ensures c.comes_before_port-here.ensures c.loop-rest.invariant
 
 pub returns : goal.returns
 returns c = numbers_at_end (lines_of c.args.list.now) c.loop-rest.here c.loop-rest.out.items _ c.loop-rest.rest.now (no_bytes c.loop-rest.rest.now c.is_empty.result c.is_empty.ensures c.loop-rest-test.false) c.loop-rest.invariant
