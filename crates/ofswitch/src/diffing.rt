@@ -20,13 +20,10 @@ fn contents_of<'a>(
     }
 }
 
-fn side_of(of: &FileSwitch<Lookups>) -> DiffSide<'_, Lookups> {
-    DiffSide {
-        flows: FileFlows {
-            config: &of.tables.config,
-            origins: &of.tables.origins,
-        },
-        switch: &of.switch,
+fn flows_of(of: &FileSwitch<Lookups>) -> FileFlows<'_> {
+    FileFlows {
+        config: &of.tables.config,
+        origins: &of.tables.origins,
     }
 }
 
@@ -38,14 +35,6 @@ fn form_of(json: bool) -> DiffForm {
     }
 }
 
-fn compared_of(frames: bool) -> Compared {
-    if frames {
-        Compared::Frames
-    } else {
-        Compared::All
-    }
-}
-
 // What is found between two switches.
 fn found_between(
     rt: &HostRuntime,
@@ -54,13 +43,28 @@ fn found_between(
     second: &FileSwitch<Lookups>,
     missing: &[u32],
 ) -> Result<DiffVerdict, Ended> {
+    let (left, right) = (
+        DiffSide {
+            flows: flows_of(first),
+            switch: &first.switch,
+        },
+        DiffSide {
+            flows: flows_of(second),
+            switch: &second.switch,
+        },
+    );
+    let compared = if asked.frames {
+        Compared::Frames
+    } else {
+        Compared::All
+    };
     let mut writer = WriterSink::new(rt.stdout());
     write_differences(
         rt.alloc(),
-        &side_of(first),
-        &side_of(second),
+        &left,
+        &right,
         missing,
-        compared_of(asked.frames),
+        compared,
         asked.steps as usize,
         form_of(asked.json),
         &mut writer,
