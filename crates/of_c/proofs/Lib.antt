@@ -1,2 +1,1 @@
 mod GivingLemmas
-pub mod Walking

@@ -1,5 +1,5 @@
 -- WHAT A CALLER IN C GETS: a text in a buffer of its own, the status that the command has, and the line that is at fault.
-use Rattle.std.specs.Prelude.{◌≡◌, ◌⊎◌, ◌++◌, ℕ, List, [], ◌∷◌, None, length, take, drop}
+use Rattle.std.specs.Prelude.{◌≡◌, ◌++◌, ℕ, List, [], ◌∷◌, None, length, take, drop}
 use Rattle.of_text.specs.declared.assembling.TextFault.TheVariants.{Syntax, Refused}
 use Rattle.of_import.specs.declared.import.ImportError.{ImportError}
 use Rattle.of_import.specs.declared.import.ImportError.TheVariants as import
@@ -12,9 +12,8 @@ use Rattle.of_replay.specs.Ended.{status_of}
 use Rattle.of_files.specs.declared.tables.FileTables.{FileTables}
 use Rattle.of_files.specs.declared.switches.NoContents.{NoContents}
 use Rattle.of_files.specs.declared.switches.NoContents.TheVariants as no
-use Rattle.of_files.specs.declared.switches.PortList.{PortList}
 use Rattle.of_files.specs.Contents.{content_of}
-use Rattle.of_files.specs.Switches.{AreContents, AreFlowsOf, ArePortsOfBoth, FileContents, HasNoContents, DescribesSwitch, switch_said}
+use Rattle.of_files.specs.Switches.{AreContents, AreFlowsOf, FileContents, HasNoContents, DescribesSwitch}
 use Rattle.of_c.specs.declared.answer.Answer.{Answer}
 
 -- as much of a text as there is room for goes to the front of a buffer
@@ -73,10 +72,6 @@ pub record IsUnread (file : List ℕ) (status line : ℕ) (text : List ℕ) : Ty
   pub line_is : line ≡ line_of_none why
   pub text_is : text ≡ []
 
--- one of two files describes none
-abbrev pub LacksSwitch : (first second : List ℕ) → NoContents → Type 0
-LacksSwitch first second why = HasNoContents None (content_of first) first why ⊎ HasNoContents None (content_of second) second why
-
 -- memory ran out, and there is no text
 pub record IsOutOfMemory (status line : ℕ) (text : List ℕ) : Type 0 where
   pub status_is : status ≡ 3
@@ -89,20 +84,3 @@ pub record AreTablesOf (file : List ℕ) (s : State) (missing : List ℕ) (table
   pub read : AreContents None (content_of file) file contents
   pub described : DescribesSwitch None contents s missing
   pub flows : AreFlowsOf contents tables
-
--- the switches of what two files are read as, with the same ports unless an event file says its own, and their flow entries
-pub record AreBetween (first second : FileContents) (s t : State) (flows others : FileTables) (missing : List ℕ) : Type 0 where
-  pub ports : PortList
-  pub ports_are : ArePortsOfBoth None first second ports
-  pub missing_is : missing ≡ ports.missing.items
-  pub first_is : s ≡ switch_said ports.ports.items first
-  pub second_is : t ≡ switch_said ports.ports.items second
-  pub first_flows : AreFlowsOf first flows
-  pub second_flows : AreFlowsOf second others
-
-pub record AreSwitchesOf (first second : List ℕ) (s t : State) (flows others : FileTables) (missing : List ℕ) : Type 0 where
-  pub one : FileContents
-  pub other : FileContents
-  pub first_read : AreContents None (content_of first) first one
-  pub second_read : AreContents None (content_of second) second other
-  pub between : AreBetween one other s t flows others missing
