@@ -16,6 +16,7 @@ use Rattle.of_diff.specs.declared.difference.Why.TheVariants.{OtherActions, Sear
 use Rattle.of_json.specs.LeavingJson.{controller_place, items_member, port_place}
 use Rattle.of_changes.specs.ChangesInJson.{changes_member}
 use Rattle.of_diff_report.specs.declared.hits.FileFlows.{FileFlows}
+use Rattle.of_diff_report.specs.declared.hits.SideHits.{SideHits}
 use Rattle.of_diff_report.specs.declared.reserved.Limits.{Limits}
 use Rattle.of_diff_report.specs.declared.telling.Told.{Told}
 use Rattle.of_diff_report.specs.EntryHits.{changed_member, hit_entries_member}
@@ -29,17 +30,18 @@ at_member (ByPort port) = port_place (codes "at") port
 at_member Controller = controller_place (codes "at")
 
 -- the entries that the frame hits at each switch, and which of them changed
+unfoldable pub side_hits_members : List ℕ → List ℕ → FileFlows → SideHits → List ℕ
+side_hits_members entries changed flows hits = hit_entries_member entries flows hits.all.items ++ changed_member changed hits.all.items
+
 unfoldable pub both_hits_members : FileFlows → FileFlows → Told → List ℕ
-both_hits_members a b t =
-    hit_entries_member (codes "first_entries") a t.first.all.items ++ changed_member (codes "first_changed") t.first.all.items
-    ++ hit_entries_member (codes "second_entries") b t.second.all.items ++ changed_member (codes "second_changed") t.second.all.items
+both_hits_members a b t = side_hits_members (codes "first_entries") (codes "first_changed") a t.first ++ side_hits_members (codes "second_entries") (codes "second_changed") b t.second
 
 -- the region of the first set of frames, if there are words for it: the range of the TTL, and how many matches of entries match none of its frames
-unfoldable pub ttl_member : FrameSet → List ℕ
-ttl_member s = array_member (codes "region_ttl") (decimal s.ttl_from ++ 44 ∷ decimal s.ttl_to)
+unfoldable pub ttl_members : FrameSet → List ℕ
+ttl_members s = number_member (codes "region_ttl_from") s.ttl_from ++ number_member (codes "region_ttl_to") s.ttl_to
 
 unfoldable pub set_members : List ℕ → FrameSet → List ℕ
-set_members words s = string_member (codes "region") words ++ ttl_member s ++ number_member (codes "region_without") (count_of_entries s.part.lacks.items)
+set_members words s = string_member (codes "region") words ++ ttl_members s ++ number_member (codes "region_without") (count_of_entries s.part.lacks.items)
 
 abbrev pub region_members : List FrameSet → Option (Vec ℕ) → List ℕ
 region_members sets None = []

@@ -116,12 +116,16 @@ difference_head f t =
     where_words t.difference.now.at ++ ended (heading f t.difference.now.in_port t.difference.now.frame.items)
     ++ frame_lines t.difference.now.in_port t.difference.now.frame.items ++ region_line t.difference.now.sets.items t.region
 
-unfoldable pub difference_words : FileFlows → FileFlows → Forwarding → Told → List ℕ
-difference_words a b f t =
-    difference_head f t
-    ++ switch_words (codes "    first: ") a t.first.all.items t.difference.now.frame.items t.difference.now.first.items
+unfoldable pub both_switches_words : FileFlows → FileFlows → Told → List ℕ
+both_switches_words a b t =
+    switch_words (codes "    first: ") a t.first.all.items t.difference.now.frame.items t.difference.now.first.items
     ++ switch_words (codes "    second: ") b t.second.all.items t.difference.now.frame.items t.difference.now.second.items
-    ++ sets_line (length t.difference.now.sets.items) ++ also_line t.also.items
+
+unfoldable pub further_words : Told → List ℕ
+further_words t = sets_line (length t.difference.now.sets.items) ++ also_line t.also.items
+
+unfoldable pub difference_words : FileFlows → FileFlows → Forwarding → Told → List ℕ
+difference_words a b f t = difference_head f t ++ both_switches_words a b t ++ further_words t
 
 -- ---- differences of frames whose TTL expires: `of frames whose TTL expires: 2 differences, such as --port 1 HEX`
 

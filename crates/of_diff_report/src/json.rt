@@ -2,9 +2,9 @@
 ghost use Rattle.std.specs.Prelude.{◌≡◌, ◌++◌, codes, decimal, IfOk, OnOk};
 ghost use Rattle.of_json.specs.Strings.{array_member};
 ghost use Rattle.of_changes.specs.ChangesInJson.{changes_member};
-ghost use Rattle.of_diff_report.specs.DiffJson.{also_member, also_object, at_member, both_hits_members, diff_document, diff_head, diff_json, difference_members, difference_object, differences_listed, limits_in_json, limits_member as limits_member_of, missing_member, other_ports_json, region_members, same_in_json, set_members, ttl_member, undecided_member, undecided_string, why_name};
+ghost use Rattle.of_diff_report.specs.DiffJson.{also_member, also_object, at_member, both_hits_members, diff_document, diff_head, diff_json, difference_members, difference_object, differences_listed, limits_in_json, limits_member as limits_member_of, missing_member, other_ports_json, region_members, same_in_json, set_members, side_hits_members, ttl_members, undecided_member, undecided_string, why_name};
 
-use crate::hits::{DiffSide, FileFlows, push_changed_member, push_hits_member};
+use crate::hits::{DiffSide, FileFlows, SideHits, push_changed_member, push_hits_member};
 use crate::region::lacking;
 use crate::reserved::{Limits, Reserved};
 use crate::telling::Told;
@@ -64,7 +64,22 @@ fn push_difference_members(
     push_number_member(out, b"sets", difference.sets.len() as u128)
 }
 
-// Appends the entries that a frame hits at each switch, and which of them changed.
+// Appends the entries that a frame hits at a switch, and which of them changed.
+#[tactic(auto, unfolding(crate::specs::DiffJson::side_hits_members))]
+fn push_side_hits(
+    out: &mut Vec<u8>,
+    entries: &[u8],
+    changed: &[u8],
+    flows: &FileFlows<'_>,
+    hits: &SideHits,
+) -> Result<(), AllocError>
+    ensures { OnOk result (out.new.items ≡ out.old.items ++ side_hits_members entries.now changed.now flows.now hits.now) }
+{
+    push_hits_member(out, entries, flows, &hits.all)?;
+    push_changed_member(out, changed, &hits.all)
+}
+
+// The same for both switches.
 #[tactic(auto, unfolding(crate::specs::DiffJson::both_hits_members))]
 fn push_both_hits(
     out: &mut Vec<u8>,
@@ -74,22 +89,22 @@ fn push_both_hits(
 ) -> Result<(), AllocError>
     ensures { OnOk result (out.new.items ≡ out.old.items ++ both_hits_members first.now second.now told.now) }
 {
-    push_hits_member(out, b"first_entries", first, &told.first.all)?;
-    push_changed_member(out, b"first_changed", &told.first.all)?;
-    push_hits_member(out, b"second_entries", second, &told.second.all)?;
-    push_changed_member(out, b"second_changed", &told.second.all)
+    push_side_hits(out, b"first_entries", b"first_changed", first, &told.first)?;
+    push_side_hits(
+        out,
+        b"second_entries",
+        b"second_changed",
+        second,
+        &told.second,
+    )
 }
 
-#[tactic(auto, unfolding(crate::specs::DiffJson::ttl_member))]
-fn push_ttl_member(out: &mut Vec<u8>, frames: &FrameSet) -> Result<(), AllocError>
-    ensures { OnOk result (out.new.items ≡ out.old.items ++ ttl_member frames.now) }
+#[tactic(auto, unfolding(crate::specs::DiffJson::ttl_members))]
+fn push_ttl_members(out: &mut Vec<u8>, frames: &FrameSet) -> Result<(), AllocError>
+    ensures { OnOk result (out.new.items ≡ out.old.items ++ ttl_members frames.now) }
 {
-    begin_array(out, b"region_ttl")?;
-    push_decimal(out, u128::from(frames.ttl_from))?;
-    out.push(b',')?;
-    push_decimal(out, u128::from(frames.ttl_to))?;
-    out.push(b']')?;
-    Ok(())
+    push_number_member(out, b"region_ttl_from", u128::from(frames.ttl_from))?;
+    push_number_member(out, b"region_ttl_to", u128::from(frames.ttl_to))
 }
 
 #[tactic(auto, unfolding(crate::specs::DiffJson::set_members))]
@@ -97,7 +112,7 @@ fn push_set_members(out: &mut Vec<u8>, words: &[u8], frames: &FrameSet) -> Resul
     ensures { OnOk result (out.new.items ≡ out.old.items ++ set_members words.now frames.now) }
 {
     push_string_member(out, b"region", words)?;
-    push_ttl_member(out, frames)?;
+    push_ttl_members(out, frames)?;
     push_number_member(out, b"region_without", lacking(frames) as u128)
 }
 

@@ -1,7 +1,7 @@
 //! What is found about two switches, in words.
 ghost use Rattle.std.specs.Prelude.{◌≡◌, ◌++◌, ◌∷◌, [], IfOk, OnOk, filter, length};
 ghost use Rattle.std.specs.List.{flat_map, list_all, list_any};
-ghost use Rattle.of_diff_report.specs.DiffWords.{also_line, also_words, are_of_expired, are_same, are_same_with, both_limits_words, first_limit_words, further_place, is_expired_difference, is_same_place as is_same_place_by, at_words, wheres_after, second_limit_words, such_port_words, expired_count_words, count_why, diff_summary, diff_words, difference_count, difference_head, difference_words, expired_count, expired_line, expired_words, first_expired_words, such_as_words, is_expired_item, is_invalid_ttl, is_of_expired, is_why, limits_line, limits_words, missing_line, missing_lines, other_ports_words, same_unless, same_words, sets_line, sets_words, switch_words, told_words, undecided_line, undecided_words, where_words, undecided_why, with_where};
+ghost use Rattle.of_diff_report.specs.DiffWords.{also_line, also_words, are_of_expired, are_same, are_same_with, both_limits_words, first_limit_words, further_place, is_expired_difference, is_same_place as is_same_place_by, at_words, wheres_after, second_limit_words, such_port_words, expired_count_words, count_why, diff_summary, diff_words, difference_count, both_switches_words, difference_head, difference_words, further_words, expired_count, expired_line, expired_words, first_expired_words, such_as_words, is_expired_item, is_invalid_ttl, is_of_expired, is_why, limits_line, limits_words, missing_line, missing_lines, other_ports_words, same_unless, same_words, sets_line, sets_words, switch_words, told_words, undecided_line, undecided_words, where_words, undecided_why, with_where};
 
 use crate::hits::{DiffSide, FileFlows, MarkedHit, push_hit_lines};
 use crate::region::push_region_line;
@@ -255,6 +255,47 @@ fn push_difference_head<L: Lookup>(
     push_region_line(out, &difference.sets, &told.region)
 }
 
+// Appends what both switches do with a frame.
+#[tactic(auto, unfolding(crate::specs::DiffWords::both_switches_words))]
+fn push_both_switches(
+    alloc: Global,
+    out: &mut Vec<u8>,
+    first: &FileFlows<'_>,
+    second: &FileFlows<'_>,
+    told: &Told<'_>,
+) -> Result<(), AllocError>
+    ensures { OnOk result (out.new.items ≡ out.old.items ++ both_switches_words first.now second.now told.now) }
+{
+    let difference = told.difference;
+    push_switch(
+        alloc,
+        out,
+        b"    first: ",
+        first,
+        &told.first.all,
+        &difference.frame,
+        &difference.first,
+    )?;
+    push_switch(
+        alloc,
+        out,
+        b"    second: ",
+        second,
+        &told.second.all,
+        &difference.frame,
+        &difference.second,
+    )
+}
+
+// Appends how many sets of frames a difference has, and what is told with it.
+#[tactic(auto, unfolding(crate::specs::DiffWords::further_words))]
+fn push_further(alloc: Global, out: &mut Vec<u8>, told: &Told<'_>) -> Result<(), AllocError>
+    ensures { OnOk result (out.new.items ≡ out.old.items ++ further_words told.now) }
+{
+    push_sets_line(out, told.difference.sets.len())?;
+    push_also_line(alloc, out, &told.also)
+}
+
 #[tactic(auto, unfolding(crate::specs::DiffWords::difference_words))]
 fn push_difference<L: Lookup>(
     alloc: Global,
@@ -266,28 +307,9 @@ fn push_difference<L: Lookup>(
     ensures { OnOk result (out.new.items ≡ out.old.items ++
         difference_words first.now.flows second.now.flows first.now.switch.now.core.forwarding told.now) }
 {
-    let difference = told.difference;
     push_difference_head(alloc, out, first.switch, told)?;
-    push_switch(
-        alloc,
-        out,
-        b"    first: ",
-        &first.flows,
-        &told.first.all,
-        &difference.frame,
-        &difference.first,
-    )?;
-    push_switch(
-        alloc,
-        out,
-        b"    second: ",
-        &second.flows,
-        &told.second.all,
-        &difference.frame,
-        &difference.second,
-    )?;
-    push_sets_line(out, difference.sets.len())?;
-    push_also_line(alloc, out, &told.also)
+    push_both_switches(alloc, out, &first.flows, &second.flows, told)?;
+    push_further(alloc, out, told)
 }
 
 fn is_invalid(reason: PacketInReason) -> bool
