@@ -14,9 +14,9 @@ abbrev pub AreOthers : Told → List Told → Type 0
 AreOthers t told = (b : Told) → Contains told b → is_of_kind b t ≡ false
 
 pub one_other : (t : Told) (told : List Told) (i : ℕ) (b : Told) → b ≡ get_or told i b → i < length told → is_of_kind b t ≡ false → AreOthers t (take i told) → AreOthers t (take (i + 1) told)
-one_other t told i b is lt no old x there = elim (first_or_next told i b x is lt there) as (λ w. is_of_kind x t ≡ false) [
+one_other t told i b is lt other old x there = elim (first_or_next told i b x is lt there) as (λ w. is_of_kind x t ≡ false) [
   | inl first ↦ old x first
-  | inr same ↦ subst (λ (y : Told). is_of_kind y t ≡ false) same no
+  | inr same ↦ subst (λ (y : Told). is_of_kind y t ≡ false) same other
 ]
 
 -- one more

@@ -84,6 +84,16 @@ fn is_changed<L: Lookup>(own: &Switch<L>, other: &Switch<L>, hit: Hit) -> bool
     }
 }
 
+fn mark<L: Lookup>(own: &Switch<L>, other: &Switch<L>, hit: &Hit) -> MarkedHit
+    ensures hit { result.hit ≡ hit.now }
+    ensures marked { IsMarked own.now.core.forwarding other.now.core.forwarding result }
+{
+    MarkedHit {
+        hit: *hit,
+        changed: is_changed(own, other, *hit),
+    }
+}
+
 fn marked<L: Lookup>(
     alloc: Global,
     own: &Switch<L>,
@@ -95,10 +105,7 @@ fn marked<L: Lookup>(
 {
     let mut all = Vec::new(alloc);
     for hit in hits {
-        all.push(MarkedHit {
-            hit: *hit,
-            changed: is_changed(own, other, *hit),
-        })?;
+        all.push(mark(own, other, hit))?;
     }
     Ok(all)
 }
@@ -135,12 +142,19 @@ pub fn side_hits<L: Lookup>(
 pub fn are_same_hits(a: &[Hit], b: &[Hit]) -> bool
     ensures { result ≡ are_same_hits_by a.now b.now }
 {
-    match (a, b) {
-        ([], []) => true,
-        ([hit, hits @ ..], [other, others @ ..]) => {
-            hit.table == other.table && hit.number == other.number && are_same_hits(hits, others)
-        }
-        _ => false,
+    match a {
+        [] => match b {
+            [] => true,
+            [_, ..] => false,
+        },
+        [hit, hits @ ..] => match b {
+            [] => false,
+            [other, others @ ..] => {
+                hit.table == other.table
+                    && hit.number == other.number
+                    && are_same_hits(hits, others)
+            }
+        },
     }
 }
 
