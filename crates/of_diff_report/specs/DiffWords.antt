@@ -121,11 +121,11 @@ both_switches_words a b t =
     switch_words (codes "    first: ") a t.first.all.items t.difference.now.frame.items t.difference.now.first.items
     ++ switch_words (codes "    second: ") b t.second.all.items t.difference.now.frame.items t.difference.now.second.items
 
-unfoldable pub further_words : Told → List ℕ
-further_words t = sets_line (length t.difference.now.sets.items) ++ also_line t.also.items
+unfoldable pub sets_and_also_words : Told → List ℕ
+sets_and_also_words t = sets_line (length t.difference.now.sets.items) ++ also_line t.also.items
 
 unfoldable pub difference_words : FileFlows → FileFlows → Forwarding → Told → List ℕ
-difference_words a b f t = difference_head f t ++ both_switches_words a b t ++ further_words t
+difference_words a b f t = difference_head f t ++ both_switches_words a b t ++ sets_and_also_words t
 
 -- ---- differences of frames whose TTL expires: `of frames whose TTL expires: 2 differences, such as --port 1 HEX`
 

@@ -1,7 +1,7 @@
 //! What is found about two switches, in words.
 ghost use Rattle.std.specs.Prelude.{◌≡◌, ◌++◌, ◌∷◌, [], IfOk, OnOk, filter, length};
 ghost use Rattle.std.specs.List.{flat_map, list_all, list_any};
-ghost use Rattle.of_diff_report.specs.DiffWords.{also_line, also_words, are_of_expired, are_same, are_same_with, both_limits_words, first_limit_words, further_place, is_expired_difference, is_same_place as is_same_place_by, at_words, wheres_after, second_limit_words, such_port_words, expired_count_words, count_why, diff_summary, diff_words, difference_count, both_switches_words, difference_head, difference_words, further_words, expired_count, expired_line, expired_words, first_expired_words, such_as_words, is_expired_item, is_invalid_ttl, is_of_expired, is_why, limits_line, limits_words, missing_line, missing_lines, other_ports_words, same_unless, same_words, sets_line, sets_words, switch_words, told_words, undecided_line, undecided_words, where_words, undecided_why, with_where};
+ghost use Rattle.of_diff_report.specs.DiffWords.{also_line, also_words, are_of_expired, are_same, are_same_with, both_limits_words, first_limit_words, further_place, is_expired_difference, is_same_place as is_same_place_by, at_words, wheres_after, second_limit_words, such_port_words, expired_count_words, count_why, diff_summary, diff_words, difference_count, both_switches_words, difference_head, difference_words, sets_and_also_words, expired_count, expired_line, expired_words, first_expired_words, such_as_words, is_expired_item, is_invalid_ttl, is_of_expired, is_why, limits_line, limits_words, missing_line, missing_lines, other_ports_words, same_unless, same_words, sets_line, sets_words, switch_words, told_words, undecided_line, undecided_words, where_words, undecided_why, with_where};
 
 use crate::hits::{DiffSide, FileFlows, MarkedHit, push_hit_lines};
 use crate::region::push_region_line;
@@ -288,9 +288,9 @@ fn push_both_switches(
 }
 
 // Appends how many sets of frames a difference has, and what is told with it.
-#[tactic(auto, unfolding(crate::specs::DiffWords::further_words))]
+#[tactic(auto, unfolding(crate::specs::DiffWords::sets_and_also_words))]
 fn push_further(alloc: Global, out: &mut Vec<u8>, told: &Told<'_>) -> Result<(), AllocError>
-    ensures { OnOk result (out.new.items ≡ out.old.items ++ further_words told.now) }
+    ensures { OnOk result (out.new.items ≡ out.old.items ++ sets_and_also_words told.now) }
 {
     push_sets_line(out, told.difference.sets.len())?;
     push_also_line(alloc, out, &told.also)
