@@ -7,7 +7,8 @@ use of_hints::{Seen, end, end_file};
 use of_mask_groups::MaskGroups;
 use of_replay::streams::{ReaderSource, WriterSink};
 use of_replay::{Ended, Plain, asm, dis, print_file};
-use std::fs;
+use std::fs::{self, File};
+use std::io::{self, ErrorKind};
 use std::process::ExitCode;
 
 /// How the running switch looks entries up.
@@ -59,12 +60,19 @@ fn run_file(rt: &HostRuntime, command: Command, path: &str) -> ExitCode {
             let ended = run(rt, command, seen.bytes());
             end_file(rt, path, &seen, &ended)
         }
-        Err(error) => {
-            let code = end(rt, &Ended::ReadFault);
-            let _ = eprintln!(rt; "cannot open {path}: {error}");
-            code
-        }
+        Err(error) if error.kind() == ErrorKind::OutOfMemory => end(rt, &Ended::NoMemory),
+        Err(error) => end_unread(rt, path, &error),
     }
+}
+
+// A file that does not open, or, as a folder, not give its bytes.
+fn end_unread(rt: &HostRuntime, path: &str, error: &io::Error) -> ExitCode {
+    if File::open(rt, path).is_ok() {
+        return end_file(rt, path, &Seen::nothing(rt.alloc()), &Ended::ReadFault);
+    }
+    let code = end(rt, &Ended::ReadFault);
+    let _ = eprintln!(rt; "cannot open {path}: {error}");
+    code
 }
 
 fn main(rt: HostRuntime) -> ExitCode {
