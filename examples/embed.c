@@ -1,62 +1,54 @@
-/* What becomes of a frame: the flow table of a file is read, a frame in hexadecimal is traced, and the JSON is printed.
+/* A switch inside a program. With two words the rows of an event file happen to a living switch, one by one, and what each gives is printed. With four
+   words the flow table of a file is read, a frame in hexadecimal is traced, and the JSON is printed.
 
        tools/library /tmp/library
        cc -I/tmp/library examples/embed.c -L/tmp/library -Wl,-rpath,/tmp/library -lofswitch -o /tmp/embed
+       /tmp/embed examples/first-path.events
        /tmp/embed examples/router.flows 1 0200000000020200000000010806
 */
 #include <ofswitch.h>
 #include <stdio.h>
-#include <stdlib.h>
 #include <string.h>
 
-/* The bytes of a file, and how many there are; NULL if it cannot be read. */
-static uint8_t *read_file(const char *path, size_t *length) {
-    FILE *file = fopen(path, "rb");
-    uint8_t *bytes = malloc(1 << 24);
-    if (file == NULL || bytes == NULL)
-        return NULL;
-    *length = fread(bytes, 1, 1 << 24, file);
-    fclose(file);
-    return bytes;
+static uint8_t file[1 << 24], frame[9216], text[1 << 20];
+
+/* A longer text would need a larger buffer, and the call once more. */
+static void print_text(const struct ofswitch_answer *answer) {
+    fwrite(text, 1, answer->length < sizeof text ? answer->length : sizeof text, stdout);
 }
 
-static size_t read_hex(const char *text, uint8_t *bytes, size_t room) {
-    size_t count = strlen(text) / 2 < room ? strlen(text) / 2 : room;
-    for (size_t at = 0; at < count; at++) {
-        unsigned byte;
-        if (sscanf(text + 2 * at, "%2x", &byte) != 1)
-            return at;
-        bytes[at] = (uint8_t)byte;
+static int live(size_t length) {
+    struct ofswitch_switch *at = ofswitch_new(1);
+    struct ofswitch_answer answer = {.status = at == NULL ? OFSWITCH_NO_MEMORY : OFSWITCH_DONE};
+    for (size_t begin = 0, end; begin < length && answer.status == OFSWITCH_DONE; begin = end + 1) {
+        for (end = begin; end < length && file[end] != '\n';)
+            end++;
+        ofswitch_row(at, file + begin, end - begin, text, sizeof text, &answer);
+        print_text(&answer);
     }
-    return count;
+    ofswitch_free(at);
+    return answer.status;
+}
+
+static int trace(size_t length, uint32_t port, const char *hex) {
+    struct ofswitch_answer answer = {0};
+    size_t size = 0, digits = strlen(hex);
+    for (unsigned byte; size < sizeof frame && 2 * size + 1 < digits && sscanf(hex + 2 * size, "%2x", &byte) == 1; size++)
+        frame[size] = (uint8_t)byte;
+    ofswitch_trace(file, length, port, frame, size, false, text, sizeof text, &answer);
+    print_text(&answer);
+    if (answer.line != 0)
+        fprintf(stderr, "line %llu is at fault\n", (unsigned long long)answer.line);
+    return answer.status;
 }
 
 int main(int count, char **words) {
-    if (count != 4) {
-        fprintf(stderr, "usage: %s FILE PORT FRAME\n", words[0]);
+    FILE *from = count == 2 || count == 4 ? fopen(words[1], "rb") : NULL;
+    if (from == NULL) {
+        fprintf(stderr, "usage: %s EVENTS\n       %s FILE PORT FRAME\n", words[0], words[0]);
         return 1;
     }
-    size_t length, room = 1 << 12;
-    uint8_t *file = read_file(words[1], &length);
-    if (file == NULL) {
-        perror(words[1]);
-        return 3;
-    }
-    static uint8_t frame[9216];
-    size_t size = read_hex(words[3], frame, sizeof frame);
-    struct ofswitch_answer answer = {0};
-    uint8_t *text = malloc(room);
-    for (;;) {
-        ofswitch_trace(file, length, (uint32_t)strtoul(words[2], NULL, 0), frame, size, text, room, &answer);
-        if (answer.length <= room)
-            break;
-        room = answer.length;
-        text = realloc(text, room);
-    }
-    fwrite(text, 1, answer.length, stdout);
-    if (answer.line != 0)
-        fprintf(stderr, "%s:%llu: a fault\n", words[1], (unsigned long long)answer.line);
-    free(text);
-    free(file);
-    return answer.status;
+    size_t length = fread(file, 1, sizeof file, from);
+    fclose(from);
+    return count == 2 ? live(length) : trace(length, (uint32_t)strtoul(words[2], NULL, 0), words[3]);
 }

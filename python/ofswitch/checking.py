@@ -5,7 +5,8 @@ from __future__ import annotations
 import os
 from typing import Any
 
-from .program import StrPath, document_of, file_of, find
+from . import library
+from .program import StrPath, answered, document_of, file_of, find
 
 # Exit statuses: a file has a fault; something was found; a port is named that the switch does not have.
 _BAD_FILE = 2
@@ -21,6 +22,10 @@ def check(
     The switch is a text, or the path of a file (a `pathlib.Path`): flow text, an event file, or what `ovs-ofctl` prints. `steps` is
     that of `--steps`. ValueError if the text has a fault.
     """
-    options = ["--json", *([] if steps is None else ["--steps", str(steps)])]
-    with file_of(switch) as file:
-        return document_of([find(program), "check", *options, file], timeout, (0, _FOUND, _MISSING_PORTS), (_BAD_FILE,))
+
+    def by_program() -> dict[str, Any]:
+        options = ["--json", *([] if steps is None else ["--steps", str(steps)])]
+        with file_of(switch) as file:
+            return document_of([find(program), "check", *options, file], timeout, (0, _FOUND, _MISSING_PORTS), (_BAD_FILE,))
+
+    return answered(program, lambda it: it.check(library.content_of(switch), steps), by_program)

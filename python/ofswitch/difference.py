@@ -5,7 +5,8 @@ from __future__ import annotations
 import os
 from typing import Any
 
-from .program import StrPath, document_of, file_of, find
+from . import library
+from .program import StrPath, answered, document_of, file_of, find
 
 # Exit statuses: a file has a fault; the switches differ, or their ports do; frames are undecided, or a port is missing.
 _BAD_FILE = 2
@@ -29,6 +30,10 @@ def diff(
     `frames` only frames that leave by ports are compared, and not packets to the controller; `steps` is that of `--steps`.
     ValueError, with the name of the file, if a text has a fault.
     """
-    options = ["--json", *(["--frames"] if frames else []), *([] if steps is None else ["--steps", str(steps)])]
-    with file_of(first) as one, file_of(second) as other:
-        return document_of([find(program), "diff", *options, one, other], timeout, (0, _DIFFERS, _UNDECIDED), (_BAD_FILE,))
+
+    def by_program() -> dict[str, Any]:
+        options = ["--json", *(["--frames"] if frames else []), *([] if steps is None else ["--steps", str(steps)])]
+        with file_of(first) as one, file_of(second) as other:
+            return document_of([find(program), "diff", *options, one, other], timeout, (0, _DIFFERS, _UNDECIDED), (_BAD_FILE,))
+
+    return answered(program, lambda it: it.diff(library.content_of(first), library.content_of(second), frames, steps), by_program)

@@ -5,12 +5,16 @@ from __future__ import annotations
 import os
 from typing import Any
 
-from .program import StrPath, document_of, file_of, find
+from . import library
+from .program import StrPath, answered, document_of, file_of, find
 
 # Exit statuses: an argument or a file has a fault; frames are undecided.
 _BAD_ARGUMENT = 1
 _BAD_FILE = 2
 _UNDECIDED = 5
+
+# The highest number of a port (OpenFlow 1.3.5, 7.2.1: OFPP_MAX).
+MOST_PORT = 0xFFFFFF00
 
 
 def paths(
@@ -33,9 +37,21 @@ def paths(
     number of a port, `"controller"` or `"drop"`. `ports` are those of a switch of flow text or `ovs-ofctl` (`"1-8,100"`; by default
     1 to 4 and those that it names), and `steps` is that of `--steps`. ValueError if an argument or the text has a fault.
     """
-    given = {"--port": port, "--match": match, "--to": to, "--steps": steps, "--ports": ports}
-    options = [word for name, value in given.items() if value is not None for word in (name, str(value))]
-    if each:
-        options.append("--each")
-    with file_of(switch) as file:
-        return document_of([find(program), "paths", "--json", *options, file], timeout, (0, _UNDECIDED), (_BAD_ARGUMENT, _BAD_FILE))
+
+    def by_program() -> dict[str, Any]:
+        given = {"--port": port, "--match": match, "--to": to, "--steps": steps, "--ports": ports}
+        options = [word for name, value in given.items() if value is not None for word in (name, str(value))]
+        if each:
+            options.append("--each")
+        with file_of(switch) as file:
+            return document_of([find(program), "paths", "--json", *options, file], timeout, (0, _UNDECIDED), (_BAD_ARGUMENT, _BAD_FILE))
+
+    # the library has no such argument, and takes ports that may be numbers of ports
+    if ports is not None or not is_place(to) or not (port is None or 0 < port < 1 << 32):
+        return by_program()
+    return answered(program, lambda it: it.paths(library.content_of(switch), port, match or "", to, each, steps), by_program)
+
+
+def is_place(to: int | str | None) -> bool:
+    """Whether paths may be asked to lead there."""
+    return 0 < to <= MOST_PORT if isinstance(to, int) else to in (None, "controller", "drop")

@@ -12,8 +12,10 @@ import subprocess
 import sysconfig
 import tempfile
 import weakref
-from collections.abc import Iterator
+from collections.abc import Callable, Iterator
 from typing import Any, Union
+
+from .library import Fault, Library, load
 
 StrPath = Union[str, "os.PathLike[str]"]
 
@@ -87,6 +89,28 @@ def document_of(command: list[str], timeout: float, good: tuple[int, ...], bad: 
         raise ValueError(fault.said) from None
     document: dict[str, Any] = json.loads(found)
     return document
+
+
+def answered(
+    program: StrPath | None, by_library: Callable[[Library], dict[str, Any]], by_program: Callable[[], dict[str, Any]]
+) -> dict[str, Any]:
+    """An answer of the C library, if it is installed and no program is given, or else of the program.
+
+    The program says in words what is wrong with a text, so it is asked again about one with a fault, if there is a program.
+    """
+    found = load() if program is None else None
+    if found is None:
+        return by_program()
+    try:
+        return by_library(found)
+    except Fault:
+        try:
+            find(None)
+        except ProgramError:
+            pass
+        else:
+            return by_program()
+        raise
 
 
 @contextlib.contextmanager

@@ -19,6 +19,7 @@ from .difference import diff
 from .dividing import paths
 from .effects import Answer, Closed, Effect, Refused, effect_of
 from .histories import history
+from .library import Fault, load
 from .program import MARK_ROW, MOST_READS, ProgramError, Run, StrPath, file_of, find, reads_of, received, run_to_end
 from .requiring import require, unmet
 from .rows import Octets
@@ -79,6 +80,7 @@ class Switch:
         Raises ProgramError if an answer takes longer than `timeout` seconds.
         """
         self._program = find(program)
+        self._library = load() if program is None else None
         self._dpid = rows.dpid(dpid)
         self._options = [] if dpid == 1 else ["--dpid", str(dpid)]
         self._timeout = timeout
@@ -238,6 +240,10 @@ class Switch:
         if "in_port" in words:
             raise ValueError("in_port: the port is an argument of its own")
         if words.isascii() and words.isprintable() and not _DIGITS.fullmatch(words):
+            if self._library is not None:
+                # what is wrong with words is left to the program
+                with contextlib.suppress(Fault):
+                    return self._library.frame_in_words(words)[1]
             answer = self._answer(f"bytes {words}").rstrip()
             if _DIGITS.fullmatch(answer):
                 return bytes.fromhex(answer)

@@ -467,7 +467,7 @@ def test_frames_of_a_file_are_divided():
 
 
 def test_faults_of_texts_are_told(switch):
-    with pytest.raises(ValueError, match=r"line 2: syntax\nword 3: "):
+    with pytest.raises(ValueError, match=r"line 2: syntax\n.*:2:3: "):
         switch.load("flow 0 1 0x0000000000000000 0 0 0\nmatch in_port 1")
     with pytest.raises(ValueError, match="OFPFMFC_OVERLAP"):
         switch.load("flow 0 1 0x0000000000000000 0 0 0\n" * 2)

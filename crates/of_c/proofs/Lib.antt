@@ -1,1 +1,3 @@
+mod AskedLemmas
 mod GivingLemmas
+pub mod Walking

@@ -1,10 +1,11 @@
 -- WHAT A CALLER IN C GETS: a text in a buffer of its own, the status that the command has, and the line that is at fault.
-use Rattle.std.specs.Prelude.{◌≡◌, ◌++◌, ℕ, List, [], ◌∷◌, None, length, take, drop}
+use Rattle.std.specs.Prelude.{◌≡◌, ◌⊎◌, ◌++◌, ℕ, Bool, true, List, [], ◌∷◌, Option, Some, None, length, take, drop}
 use Rattle.of_text.specs.declared.assembling.TextFault.TheVariants.{Syntax, Refused}
 use Rattle.of_import.specs.declared.import.ImportError.{ImportError}
 use Rattle.of_import.specs.declared.import.ImportError.TheVariants as import
 use Rattle.of_import.specs.declared.kept.LineRefusal.{LineRefusal}
 use Rattle.of_import.specs.declared.parsed_lines.LineFaults.{LineFaults}
+use Rattle.of_ports.specs.Ports.{has_port}
 use Rattle.of_switch.specs.State.{State}
 use Rattle.of_replay.specs.declared.event_file.Ended.{Ended}
 use Rattle.of_replay.specs.declared.event_file.Ended.TheVariants.{BadRow, Text}
@@ -12,8 +13,9 @@ use Rattle.of_replay.specs.Ended.{status_of}
 use Rattle.of_files.specs.declared.tables.FileTables.{FileTables}
 use Rattle.of_files.specs.declared.switches.NoContents.{NoContents}
 use Rattle.of_files.specs.declared.switches.NoContents.TheVariants as no
+use Rattle.of_files.specs.declared.switches.PortList.{PortList}
 use Rattle.of_files.specs.Contents.{content_of}
-use Rattle.of_files.specs.Switches.{AreContents, AreFlowsOf, FileContents, HasNoContents, DescribesSwitch}
+use Rattle.of_files.specs.Switches.{AreContents, AreFlowsOf, ArePortsOfBoth, FileContents, HasNoContents, DescribesSwitch, switch_said}
 use Rattle.of_c.specs.declared.answer.Answer.{Answer}
 
 -- as much of a text as there is room for goes to the front of a buffer
@@ -64,6 +66,11 @@ pub record IsSwitchOf (file : List ℕ) (s : State) (missing : List ℕ) : Type 
   pub read : AreContents None (content_of file) file contents
   pub described : DescribesSwitch None contents s missing
 
+-- it has a port, if one is asked for
+abbrev pub has_port_asked : Option ℕ → State → Bool
+has_port_asked None s = true
+has_port_asked (Some port) s = has_port port s.core.forwarding.ports
+
 -- a file that describes none gives no text
 pub record IsUnread (file : List ℕ) (status line : ℕ) (text : List ℕ) : Type 0 where
   pub why : NoContents
@@ -71,6 +78,10 @@ pub record IsUnread (file : List ℕ) (status line : ℕ) (text : List ℕ) : Ty
   pub status_is : status ≡ status_of_none why
   pub line_is : line ≡ line_of_none why
   pub text_is : text ≡ []
+
+-- one of two files describes none
+abbrev pub LacksSwitch : (first second : List ℕ) → NoContents → Type 0
+LacksSwitch first second why = HasNoContents None (content_of first) first why ⊎ HasNoContents None (content_of second) second why
 
 -- memory ran out, and there is no text
 pub record IsOutOfMemory (status line : ℕ) (text : List ℕ) : Type 0 where
@@ -84,3 +95,20 @@ pub record AreTablesOf (file : List ℕ) (s : State) (missing : List ℕ) (table
   pub read : AreContents None (content_of file) file contents
   pub described : DescribesSwitch None contents s missing
   pub flows : AreFlowsOf contents tables
+
+-- the switches of what two files are read as, with the same ports unless an event file says its own, and their flow entries
+pub record AreBetween (first second : FileContents) (s t : State) (flows others : FileTables) (missing : List ℕ) : Type 0 where
+  pub ports : PortList
+  pub ports_are : ArePortsOfBoth None first second ports
+  pub missing_is : missing ≡ ports.missing.items
+  pub first_is : s ≡ switch_said ports.ports.items first
+  pub second_is : t ≡ switch_said ports.ports.items second
+  pub first_flows : AreFlowsOf first flows
+  pub second_flows : AreFlowsOf second others
+
+pub record AreSwitchesOf (first second : List ℕ) (s t : State) (flows others : FileTables) (missing : List ℕ) : Type 0 where
+  pub one : FileContents
+  pub other : FileContents
+  pub first_read : AreContents None (content_of first) first one
+  pub second_read : AreContents None (content_of second) second other
+  pub between : AreBetween one other s t flows others missing

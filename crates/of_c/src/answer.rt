@@ -18,7 +18,7 @@ pub struct Answer {
     pub length: usize,
     /// The line of the file that is at fault, from 1; 0: none.
     pub line: u64,
-    /// The exit status of the command: 0 if all is well, 2 if the file is at fault, 3 if memory ran out, 4 and 5 as the command has them.
+    /// The exit status of the command: 0 if all is well, 1 if the switch lacks the port, 2 if the file is at fault, 3 if memory ran out, 4 and 5 as the command has them.
     pub status: u8,
 }
 
@@ -29,8 +29,11 @@ pub struct Outcome {
     pub line: u64,
 }
 
-/// The exit status if a file is at fault.
-const BAD_FILE: u8 = 2;
+/// The exit status if a file, a row or words are at fault.
+pub const BAD_FILE: u8 = 2;
+
+/// The exit status if the switch does not have the port that is asked for.
+pub const NO_PORT: u8 = 1;
 
 /// The exit status if memory ran out.
 pub const NO_MEMORY: u8 = 3;

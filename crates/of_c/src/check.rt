@@ -3,7 +3,7 @@ ghost use Rattle.std.specs.Prelude.{◌≡◌, [], None, IfErr, IfOk};
 ghost use Rattle.of_files.specs.Contents.{content_of};
 ghost use Rattle.of_files.specs.Switches.{AreFlowsOf, HasNoContents, DescribesSwitch, view_contents};
 ghost use Rattle.of_c.specs.Answers.{AreTablesOf, Gives};
-ghost use Rattle.of_c.specs.Calls.{IsChecked, status_of_found as status_for};
+ghost use Rattle.of_c.specs.Calls.{IsChecked, report_form as form_for, status_of_found as status_for};
 
 use crate::answer::{Answer, Outcome, give, sink, unread};
 use crate::switch::Lookups;
@@ -16,11 +16,18 @@ use of_replay::{Ended, status};
 use of_report::{Form, write_report};
 use std::alloc::{AllocError, Global};
 
-/// A switch with its flow entries, and the ports that its file names and that it does not have.
+/// A switch with its flow entries, and the ports that are named and that it does not have.
 #[derive(Drop)]
-struct Tables {
-    of: FileSwitch<Lookups>,
-    missing: Vec<u32>,
+pub struct Tables {
+    pub of: FileSwitch<Lookups>,
+    pub missing: Vec<u32>,
+}
+
+/// How a report is written.
+pub fn form_of(words: bool) -> Form
+    ensures { result ≡ form_for words }
+{
+    if words { Form::Findings } else { Form::Json }
 }
 
 fn tables_of(alloc: Global, contents: Contents<Lookups>) -> Result<Tables, AllocError>
@@ -53,10 +60,10 @@ fn status_of_found(found: &Result<bool, Ended>) -> u8
     }
 }
 
-fn reported(alloc: Global, file: &[u8], steps: usize, out: &mut MemorySink) -> Outcome
+fn reported(alloc: Global, file: &[u8], steps: usize, words: bool, out: &mut MemorySink) -> Outcome
     requires fresh { out.old.bytes.items ≡ [] }
     requires well { out.old.failures ≡ 0 }
-    ensures { IsChecked file.now steps result.status result.line out.new.bytes.items }
+    ensures { IsChecked file.now steps words result.status result.line out.new.bytes.items }
 {
     match read_tables(alloc, file) {
         Ok(found) => {
@@ -67,7 +74,7 @@ fn reported(alloc: Global, file: &[u8], steps: usize, out: &mut MemorySink) -> O
                 &tables.config,
                 &tables.origins,
                 steps,
-                Form::Json,
+                form_of(words),
                 &[],
                 out,
             );
@@ -80,7 +87,8 @@ fn reported(alloc: Global, file: &[u8], steps: usize, out: &mut MemorySink) -> O
     }
 }
 
-/// The report on the flow tables of a file, as `check --json` gives it (docs/JSON.md): which entries never win, with what shadows them, and remarks.
+/// The report on the flow tables of a file, as `check --json` gives it (docs/JSON.md), or in the words of `check`: which entries never win, with what
+/// shadows them, and remarks.
 /// The search for each entry takes so many steps at most.
 ///
 /// Status 4: something is found. 5: ports are named that the switch does not have. 2: the file is at fault, and there is no text. 3: memory ran out.
@@ -89,12 +97,13 @@ pub extern "C" fn ofswitch_check(
     alloc: Global,
     file: &[u8],
     steps: usize,
+    words: bool,
     text: &mut [u8],
     answer: &mut Answer,
 )
-    ensures { Gives (IsChecked file.now steps) answer.new text.old text.new }
+    ensures { Gives (IsChecked file.now steps words) answer.new text.old text.new }
 {
     let mut out = sink(alloc);
-    let outcome = reported(alloc, file, steps, &mut out);
+    let outcome = reported(alloc, file, steps, words, &mut out);
     give(out.bytes(), outcome, text, answer);
 }

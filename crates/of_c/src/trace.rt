@@ -1,14 +1,14 @@
 //! Traces.
 ghost use Rattle.std.specs.Prelude.{◌≡◌, []};
 ghost use Rattle.of_c.specs.Answers.{Gives};
-ghost use Rattle.of_c.specs.Calls.{IsTraced, status_with as with_status};
+ghost use Rattle.of_c.specs.Calls.{IsTraced, output_of as output_for, status_with as with_status};
 
-use crate::answer::{Answer, Outcome, give, sink, unread};
-use crate::switch::switch_in;
+use crate::answer::{Answer, NO_PORT, Outcome, give, sink, unread};
+use crate::switch::{has_port_asked, switch_in};
 use of_files::Described;
 use of_replay::memory::MemorySink;
 use of_replay::status;
-use of_trace::{Output, write_trace};
+use of_trace::{Form, Output, write_trace};
 use std::alloc::Global;
 
 /// The exit status if ports are named that the switch does not have.
@@ -25,39 +25,62 @@ pub fn status_with(missing: &[u32], status: u8) -> u8
     }
 }
 
-fn traced(alloc: Global, file: &[u8], port: u32, frame: &[u8], out: &mut MemorySink) -> Outcome
-    requires fresh { out.old.bytes.items ≡ [] }
-    requires well { out.old.failures ≡ 0 }
-    ensures { IsTraced file.now port frame.now result.status result.line out.new.bytes.items }
+fn output_of(words: bool) -> Output
+    ensures { result ≡ output_for words }
 {
-    match switch_in(alloc, file) {
-        Ok(Described { switch, missing }) => {
-            let ended = write_trace(alloc, &switch, port, frame, Output::Json, out);
-            Outcome {
-                status: status_with(&missing, status(&ended)),
-                line: 0,
-            }
-        }
-        Err(why) => unread(&why),
+    if words {
+        Output::Words(Form::Plain)
+    } else {
+        Output::Json
     }
 }
 
-/// What becomes of a frame that the switch of a file receives at a port, as `trace --json` says it (docs/JSON.md).
+fn traced(
+    alloc: Global,
+    file: &[u8],
+    port: u32,
+    frame: &[u8],
+    words: bool,
+    out: &mut MemorySink,
+) -> Outcome
+    requires fresh { out.old.bytes.items ≡ [] }
+    requires well { out.old.failures ≡ 0 }
+    ensures { IsTraced file.now port frame.now words result.status result.line out.new.bytes.items }
+{
+    let Described { switch, missing } = match switch_in(alloc, file) {
+        Ok(described) => described,
+        Err(why) => return unread(&why),
+    };
+    if !has_port_asked(&switch, Some(port)) {
+        return Outcome {
+            status: NO_PORT,
+            line: 0,
+        };
+    }
+    let ended = write_trace(alloc, &switch, port, frame, output_of(words), out);
+    Outcome {
+        status: status_with(&missing, status(&ended)),
+        line: 0,
+    }
+}
+
+/// What becomes of a frame that the switch of a file receives at a port: as `trace --json` says it (docs/JSON.md), or in the words of `trace`.
 ///
 /// The file is a flow text, an event file, or what ovs-ofctl prints, as its first line says; a switch of groups and flows has ports 1 to 4 and those
-/// that they name. Status 5: ports are named that it does not have. 2: the file is at fault, and there is no text. 3: memory ran out.
+/// that they name. Status 5: ports are named that it does not have. 1: it does not have the port. 2: the file is at fault. 3: memory ran out. With 1 and 2 there is no text.
 #[unsafe(no_mangle)]
 pub extern "C" fn ofswitch_trace(
     alloc: Global,
     file: &[u8],
     port: u32,
     frame: &[u8],
+    words: bool,
     text: &mut [u8],
     answer: &mut Answer,
 )
-    ensures { Gives (IsTraced file.now port frame.now) answer.new text.old text.new }
+    ensures { Gives (IsTraced file.now port frame.now words) answer.new text.old text.new }
 {
     let mut out = sink(alloc);
-    let outcome = traced(alloc, file, port, frame, &mut out);
+    let outcome = traced(alloc, file, port, frame, words, &mut out);
     give(out.bytes(), outcome, text, answer);
 }

@@ -1,32 +1,8 @@
 //! What `-h` prints: the usage, and the commands or the options by their names, in few lines.
 
+use crate::columns::Lines;
 use crate::command::{ABOUT, Argument, Kind, SUBCOMMANDS, Subcommand};
 use std::alloc::{AllocError, Global};
-
-/// How long a line of options is at most.
-const COLUMNS: usize = 80;
-
-// Lines of words, of which each but the first begins below the others if it has no place behind them.
-#[derive(Drop)]
-struct Lines {
-    text: String,
-    column: usize,
-}
-
-impl Lines {
-    fn push(&mut self, word: &str) -> Result<(), AllocError> {
-        let after = self.column.saturating_add(2).saturating_add(word.len());
-        if after > COLUMNS {
-            self.text.push_str("\n ")?;
-            self.column = word.len().saturating_add(2);
-        } else {
-            self.text.push_str(" ")?;
-            self.column = after;
-        }
-        self.text.push_str(" ")?;
-        self.text.push_str(word)
-    }
-}
 
 // How an option is written; None for what is written by its place.
 fn option_text(alloc: Global, kind: &Kind) -> Result<Option<String>, AllocError> {
@@ -53,7 +29,7 @@ fn push_options(
 ) -> Result<(), AllocError> {
     for argument in arguments {
         if let Some(text) = option_text(alloc, &argument.kind)? {
-            lines.push(text.as_str())?;
+            lines.push(2, text.as_str())?;
         }
     }
     Ok(())
@@ -77,7 +53,8 @@ fn usage_in(help: &str) -> &str {
 fn about_subcommand(alloc: Global, row: &Subcommand, usage: &str) -> Result<String, AllocError> {
     let mut lines = Lines {
         text: format!(in alloc; "{}\n{usage}", row.about)?,
-        column: COLUMNS,
+        column: usize::MAX,
+        indent: 2,
     };
     push_options(alloc, &mut lines, row.arguments)?;
     let last = format!(in alloc; "\n`ofswitch {} --help` says more.\n", row.name)?;

@@ -1,6 +1,6 @@
 //! What `check` is asked for.
 
-use crate::command::{Argument, Kind, PORT_NAMES};
+use crate::command::{Argument, COLOR, Kind, PORT_NAMES};
 use crate::{
     Check, CheckOutput, NoRequest, SwitchFile, refused, steps_of, switch_file_of, text_of,
 };
@@ -9,22 +9,27 @@ use std::alloc::Global;
 
 /// What the help of `check` says.
 pub(crate) const CHECKS: &str =
-    "FILE is a flow text (`ofswitch asm --help`), an event file (`ofswitch replay --help`), or what ovs-ofctl prints
-(`ofswitch import --help`). The first word that is not in a comment says which; --flows, --events and --ovs override this.
-The report has first what was found, then a summary, then, with --all, the flows that win, each with a packet. A flow of a dump
-is named with its counters, such as n_packets=0.
+    "FILE is a flow text (`ofswitch asm --help`), an event file (`ofswitch replay
+--help`), or what ovs-ofctl prints (`ofswitch import --help`). The first word
+that is not in a comment says which; --flows, --events and --ovs override this.
+The report has first what was found, then a summary, then, with --all, the
+flows that win, each with a packet. A flow of a dump is named with its
+counters, such as n_packets=0.
 
-  table 0 entry 2 (line 7, priority 5, eth_type 0x0800, ipv4_dst 10.1.0.0/16) never wins: shadowed by
-      table 0 entry 0 (line 1, priority 9, eth_type 0x0800, ipv4_dst 10.0.0.0/8)
+  table 0 entry 2 (line 7, priority 5, ipv4_dst 10.1.0.0/16) never wins: ...
+      table 0 entry 0 (line 1, priority 9, ipv4_dst 10.0.0.0/8)
   table 3 is unreachable: no goto leads to it from table 0
   12 flows: 9 win, 3 never win, 0 undecided
 
-The entries that shadow a flow have precedence and match together all that it matches, whatever the frame, the port and the
-metadata. A flow is undecided if the search ended after N steps. Whether packets reach a flow also depends on the tables
-before it. A table without a table-miss entry is reported if a goto leads to it, or with --all. A flow that is not
-reported does not necessarily do what was intended.
+The entries that shadow a flow have precedence and match together all that it
+matches, whatever the frame, the port and the metadata. A flow is undecided if
+the search ended after N steps. Whether packets reach a flow also depends on
+the tables before it. A table without a table-miss entry is reported if a goto
+leads to it, or with --all. A flow that is not reported does not necessarily do
+what was intended.
 
-With --require, each line of REQ is a requirement of the switch, which is proved for all frames that it receives:
+With --require, each line of REQ is a requirement of the switch, which is
+proved for all frames that it receives:
 
   no frame ip,nw_src=10.0.9.0/24 leaves by 2,3,4
   each frame in_port=1,ip,nw_dst=10.0.1.0/24 leaves by 2 except ttl
@@ -32,8 +37,9 @@ With --require, each line of REQ is a requirement of the switch, which is proved
   each frame ip passes table 1
   some frame in_port=1,tcp,tp_dst=80 leaves by 2
 
-Exit status: 4 if something is found: a flow that never wins or is undecided, a likely mistake, or a requirement that fails; 5 if
-nothing is found and a requirement is undecided; 0 if nothing is found.
+Exit status: 4 if something is found: a flow that never wins or is undecided, a
+likely mistake, or a requirement that fails; 5 if nothing is found and a
+requirement is undecided; 0 if nothing is found.
 
   ofswitch check examples/office.txt
   ofswitch check --all examples/router.flows
@@ -42,7 +48,7 @@ nothing is found and a requirement is undecided; 0 if nothing is found.
   ofswitch check examples/office.txt --require examples/office.req";
 
 /// The arguments of `check`.
-pub(crate) const CHECK: [Argument; 12] = [
+pub(crate) const CHECK: [Argument; 13] = [
     Argument {
         name: "FILE",
         kind: Kind::Place,
@@ -99,6 +105,7 @@ pub(crate) const CHECK: [Argument; 12] = [
         kind: Kind::Optional("ports", "LIST"),
         help: "The ports of the switch of FILE, such as 1-8,100 (by default 1 to 4 and those that its flows and groups name)",
     },
+    COLOR,
 ];
 
 // Which report is printed.

@@ -2,15 +2,26 @@
 
 use crate::checking::{CHECK, CHECKS};
 use crate::history::{HISTORIES, HISTORY};
+use crate::serving::{LIVE, LIVE_ARGUMENTS, SERVE, SERVING};
 use clap::{Arg, ArgAction, ArgGroup, Command};
 use std::alloc::{AllocError, Global};
 
-const STATUSES: &str =
-    "Exit status: 0 done; 1 bad arguments; 2 a bad FILE: standard error has `line N: bad row` for an event file, \
-`line N: syntax` or `line N: type T code C` for a flow text, and `line N: WORD: ...` for each line that `import` refuses \
-(`replay` has printed the effects of the rows before that line, the other commands print nothing); 3 `read fault`, `write fault` or \
-`no memory`; 4 `check` found something, `diff` found a difference, or `import --skip` left lines out; 5 `diff` found no difference, \
-or `paths` found paths, but frames are undecided; or a port is named that the switch does not have.";
+const STATUSES: &str = "Exit status:
+  0     done
+  1     bad arguments
+  2     a bad FILE: standard error has `line N: bad row` for an event file,
+        `line N: syntax` or `line N: type T code C` for a flow text, and
+        `line N: WORD: ...` for each line that `import` refuses (`replay` has
+        printed the effects of the rows before that line, the other commands
+        print nothing)
+  3     `read fault`, `write fault` or `no memory`
+  4     `check` found something, `diff` found a difference, or `import --skip`
+        left lines out
+  5     `diff` found no difference, or `paths` found paths, but frames are
+        undecided; or a port is named that the switch does not have
+
+If the reader of standard output has gone, as `head` does, the status is that
+of the work that was done.";
 
 const EVENT_FILES: &str = "An event file has one event per line. Words are separated by one space:
 
@@ -22,13 +33,17 @@ const EVENT_FILES: &str = "An event file has one event per line. Words are separ
   t 9000000000                      the time is 9 seconds after the start, in nanoseconds
   # ...                             a comment
 
-It prints the messages to the controller (`a HEX`), the frames that leave (`s PORT HEX`), `closed` if the switch ends the
-connection, and `refused N` if an event is not possible: 3 not connected, 4 already connected, 5 the port exists, 6 the
-port does not exist, 7 too many ports, 8 bad port number. With --explain it prints each row behind the number of its line,
-and below it what the row did, in words: answers by name with their fields, errors by the standard's names, and the path of
-each frame. Of `t` rows one after the other that do nothing it prints the last one. With --json beside it, each row is a JSON
-object in one line. The effects of all rows that were read are printed before the next read, so a program can send rows to
-`replay -` one by one, and read the effects of each.
+It prints the messages to the controller (`a HEX`), the frames that leave (`s
+PORT HEX`), `closed` if the switch ends the connection, and `refused N` if an
+event is not possible: 3 not connected, 4 already connected, 5 the port exists,
+6 the port does not exist, 7 too many ports, 8 bad port number. With --explain
+it prints each row behind the number of its line, and below it what the row
+did, in words: answers by name with their fields, errors by the standard's
+names, and the path of each frame. Of `t` rows one after the other that do
+nothing it prints the last one. With --json beside it, each row is a JSON
+object in one line. The effects of all rows that were read are printed before
+the next read, so a program can send rows to `replay -` one by one, and read
+the effects of each.
 
   ofswitch replay examples/first-path.events
   ofswitch replay --explain examples/first-path.events
@@ -36,7 +51,8 @@ object in one line. The effects of all rows that were read are printed before th
   ofswitch replay --dpid 0x2a examples/first-path.events";
 
 const FLOW_TEXT: &str =
-    "Flow text has groups and then flows, each on several lines. Words are separated by one space:
+    "Flow text has groups and then flows, each on several lines. Words are separated
+by one space:
 
   group 1 ff                            number, and all, indirect or ff
   bucket 0 2 4294967295                 weight, and the port and the group that it watches; its actions follow
@@ -46,32 +62,36 @@ const FLOW_TEXT: &str =
   output 2 0                            an action of that instruction: port and max_len
   # ...                                 a comment
 
-The event file connects a controller, which sends HELLO, a GROUP_MOD for each group, and a FLOW_MOD for each flow.
+The event file connects a controller, which sends HELLO, a GROUP_MOD for each
+group, and a FLOW_MOD for each flow.
 
   ofswitch asm examples/router.flows > router.events";
 
 const DISASSEMBLY: &str =
-    "Plays the rows as `replay` does, without printing their effects. Then it prints the switch's groups by number and its
-flows by table, oldest first, as flow text (`ofswitch asm --help`), without counters and times. If the file has a bad
+    "Plays the rows as `replay` does, without printing their effects. Then it prints
+the switch's groups by number and its flows by table, oldest first, as flow
+text (`ofswitch asm --help`), without counters and times. If the file has a bad
 row, nothing is printed.
 
   ofswitch asm examples/router.flows | ofswitch dis -";
 
-const TRACES: &str =
-    "FILE is a flow text (`ofswitch asm --help`), an event file (`ofswitch replay --help`), or what ovs-ofctl prints
-(`ofswitch import --help`). The first word that is not in a comment says which; --flows, --events and --ovs override this. For
-flow text or ovs-ofctl output, the switch has its groups and flows, and ports 1 to 4 and those that they name, all of whose links
-are up; --ports gives it others. For an event file, it is the switch after the rows, with its ports and its connection, or with
---at ROW the switch before that line. The trace is in words: the frame, then the steps, with the priority and the match of each
+const TRACES: &str = "FILE is a flow text (`ofswitch asm --help`), an event file (`ofswitch replay
+--help`), or what ovs-ofctl prints (`ofswitch import --help`). The first word
+that is not in a comment says which; --flows, --events and --ovs override this.
+For flow text or ovs-ofctl output, the switch has its groups and flows, and
+ports 1 to 4 and those that they name, all of whose links are up; --ports gives
+it others. For an event file, it is the switch after the rows, with its ports
+and its connection, or with --at ROW the switch before that line. The trace is
+in words: the frame, then the steps, with the priority and the match of each
 entry that won, then what leaves:
 
-  in_port 1, eth 02:00:00:00:01:02 > 02:00:00:00:00:a1, eth_type 0x0800, ipv4 10.0.0.1 > 10.1.1.9, ip_proto 253, ttl 64
+  in_port 1, eth 02:00:00:00:01:02 > 02:00:00:00:00:a1, eth_type 0x0800, ...
   table 0: entry 1, priority 20, eth_dst 02:00:00:00:00:a1, eth_type 0x0800
   go to table 1
   ...
 
-With --lines there is one line per step, for programs. `trace --flows FILE --port N HEX` prints these lines, too, on a switch
-with ports 1 to 64:
+With --lines there is one line per step, for programs. `trace --flows FILE
+--port N HEX` prints these lines, too, on a switch with ports 1 to 64:
 
   lookup 0 entry 2                      a table, and the entry that won, by age from 0 (or miss)
   apply, write, clear, metadata, goto   an instruction
@@ -80,165 +100,152 @@ with ports 1 to 64:
   end                                   the packet's processing ends
   s 2 HEX                               at the end: what leaves (and `a HEX` to a connected controller)
 
-With --explain there are notes below the lines: below a lookup the entry that won, as flow text, and the fields that the
-table sees; below an action what it changed, why an output sends nothing, and which buckets of a group run. With --why all,
-or --why \"0 100\" for the entries of table 0 that have priority 100, they also say why entries won or lost.
+With --explain there are notes below the lines: below a lookup the entry that
+won, as flow text, and the fields that the table sees; below an action what it
+changed, why an output sends nothing, and which buckets of a group run. With
+--why all, or --why \"0 100\" for the entries of table 0 that have priority
+100, they also say why entries won or lost.
 
-FRAME may be in words, as `ovs-appctl ofproto/trace` takes it: the words of a match (ovs-fields(7)), without masks, and nw_ttl. Fields
-of its headers that no word says are 0, the TTL is 64, lengths and checksums are right. Then --port may be left out, if in_port says it.
+FRAME may be in words, as `ovs-appctl ofproto/trace` takes it: the words of a
+match (ovs-fields(7)), without masks, and nw_ttl. Fields of its headers that no
+word says are 0, the TTL is 64, lengths and checksums are right. Then --port
+may be left out, if in_port says it.
 
-  ofswitch trace examples/router.flows in_port=1,dl_dst=02:00:00:00:00:a1,ip,nw_src=10.0.0.1,nw_dst=10.1.1.9
-  ofswitch trace examples/router.flows --port 1 0200000000a10200000000010800450000140000000040fd64e30a0000010a010109
-  ofswitch trace --lines examples/router.flows --port 1 0200000000a10200000000010800450000140000000040fd64e30a0000010a010109
-  ofswitch trace --events examples/failover.events --at 14 --port 1 02000000000202000000000188b5";
+  ofswitch trace examples/router.flows \\
+      in_port=1,dl_dst=02:00:00:00:00:a1,ip,nw_src=10.0.0.1,nw_dst=10.1.1.9
+  ofswitch trace examples/router.flows --port 1 0200000000a102000000000188b5
+  ofswitch trace --lines examples/router.flows in_port=1,arp
+  ofswitch trace --events examples/failover.events --at 14 \\
+      --port 1 02000000000202000000000188b5";
 
-const DIFFS: &str =
-    "A and B are flow texts (`ofswitch asm --help`), event files (`ofswitch replay --help`), or what ovs-ofctl prints (`ofswitch import
---help`); the first word that is not in a comment says which. One of them may be -, standard input. For an event file, the switch
-is the one after its rows. For flow text or ovs-ofctl output, it has its groups and flows, and ports, all of whose links are up:
-those of --ports; else those that the switch of the other file has, if that is an event file; else ports 1 to 4 and those that A
-and B name. It prints frames for which the two switches send different output; it ran each frame on both:
+const DIFFS: &str = "A and B are flow texts (`ofswitch asm --help`), event files (`ofswitch replay
+--help`), or what ovs-ofctl prints (`ofswitch import --help`); the first word
+that is not in a comment says which. One of them may be -, standard input. For
+an event file, the switch is the one after its rows. For flow text or ovs-ofctl
+output, it has its groups and flows, and ports, all of whose links are up:
+those of --ports; else those that the switch of the other file has, if that is
+an event file; else ports 1 to 4 and those that A and B name. It prints frames
+for which the two switches send different output; it ran each frame on both:
 
-  differs by port 3: in_port 1, eth 00:00:00:00:00:00 > 02:00:00:00:00:a1, eth_type 0x0800, ipv4 0.0.0.0 > 10.2.128.0, ip_proto 0, ttl 64
-      frame: --port 1 0200000000a1...   the frame, as `trace` takes it
-      in words: in_port=1,ip,...        words that `trace` takes for it, if there are such
-      first: hits table 1 entry 2 (line 9, priority 20, ...)   the flow entries that it hits at the switch of A
-      first: out by port 3: 0200...     what leaves that switch: a frame, a packet to the controller, or nothing
+  differs by port 3: in_port 1, eth 00:00:00:00:00:00 > 02:00:00:00:00:a1, ...
+      frame: --port 1 0200...      the frame, as `trace` takes it
+      in words: in_port=1,ip,...   words that `trace` takes, if there are such
+      region: ip,nw_dst=10.2.0.0/16   what all frames of its set have in common
+      first: hits table 1 entry 2 (line 9, priority 20, ...), changed
+                                   a flow entry of A that it hits; B lacks it
+      first: out by port 3: 02...  what leaves the switch of A: a frame, a packet
+                                   to the controller, or nothing
+      first: changed: nw_ttl 64 -> 63   what the switch of A changed in it
       second: hits table 1 entry 4 (line 11, priority 0)
       second: to the controller: action, table 1, the first 128 bytes: 0200...
-  undecided: 2 sets of frames: ...      why it is not known whether frames are treated alike
-  1 difference, 2 undecided             or `same: all frames are treated alike`
+      also: 1 difference, by port 2   others whose frames hit the same changed
+                                   entries
+  undecided: 2 sets of frames: ..  why it is not known if frames are treated alike
+  1 difference, 2 undecided        or `same: all frames are treated alike`
 
-Each difference is of a set of frames, of which one is printed, or of several sets that differ likewise: then a line has their
-number, `sets of frames: 2`. If it prints `same`, the two switches treat each frame alike: by each port the same frames leave in the
-same order, and the controller gets the same packets, with the same reason, table, cookie and metadata. With --frames, packets to
-the controller are not compared. Counters, timeouts and the time are not compared. Switches with different ports are not compared:
-`the switches have different ports`. If A or B names a port that the switches do not have, the first line says so, and it does not
-print `same`.
+Each difference is of a set of frames, of which one is printed, or of several
+sets that differ likewise: then a line has their number, `sets of frames: 2`.
+If it prints `same`, the two switches treat each frame alike: by each port the
+same frames leave in the same order, and the controller gets the same packets,
+with the same reason, table, cookie and metadata. With --frames, packets to the
+controller are not compared. Counters, timeouts and the time are not compared.
+Switches with different ports are not compared: `the switches have different
+ports`. If A or B names a port that the switches do not have, the first line
+says so, and it does not print `same`.
 
-Exit status: 0 all frames are treated alike; 4 there is a difference, or the ports differ; 5 no difference was found, but frames
-are undecided, or a port is named that the switches do not have. If a file is at fault, the status is 1, 2 or 3, and the name of
-the file is before the fault.
+Exit status: 0 all frames are treated alike; 4 there is a difference, or the
+ports differ; 5 no difference was found, but frames are undecided, or a port is
+named that the switches do not have. If a file is at fault, the status is 1, 2
+or 3, and the name of the file is before the fault.
 
   ofswitch diff examples/router.flows examples/router2.flows
   ovs-ofctl -O OpenFlow13 --no-names dump-flows br0 | ofswitch diff br0.flows -";
 
-const PATHS: &str =
-    "FILE is a flow text (`ofswitch asm --help`), an event file (`ofswitch replay --help`), or what ovs-ofctl prints (`ofswitch import
---help`); the first word that is not in a comment says which. For flow text or ovs-ofctl output, the switch has its groups and
-flows, and ports 1 to 4 and those that they name, all of whose links are up; --ports gives it others. For an event file, it is the
-switch after the rows. All frames that it receives are divided into sets whose frames take the same steps. Sets whose steps differ
-only in which entries are hit are one path; with --each, each set is a path of its own:
+const PATHS: &str = "FILE is a flow text (`ofswitch asm --help`), an event file (`ofswitch replay
+--help`), or what ovs-ofctl prints (`ofswitch import --help`); the first word
+that is not in a comment says which. For flow text or ovs-ofctl output, the
+switch has its groups and flows, and ports 1 to 4 and those that they name, all
+of whose links are up; --ports gives it others. For an event file, it is the
+switch after the rows. All frames that it receives are divided into sets whose
+frames take the same steps. Sets whose steps differ only in which entries are
+hit are one path; with --each, each set is a path of its own:
 
-  path: in_port 1, eth 00:00:00:00:00:00 > 02:00:00:00:00:a1, eth_type 0x0806, ...
-      frame: --port 1 0200000000a1...   a frame of the first set, as `trace` takes it; it was run
-      in words: in_port=1,arp,...       words that `trace` takes for it, if there are such
-      lookup 0 entry 2                  its steps, in the lines of `trace --lines`
+  path: in_port 1, eth 00:00:00:00:00:00 > 02:00:00:00:00:a1, ...
+      frame: --port 1 0200...      a frame of the first set, as `trace` takes it,
+                                   which was run
+      in words: in_port=1,arp,...  words that `trace` takes, if there are such
+      lookup 0 entry 2             its steps, in the lines of `trace --lines`
       apply
       output 2 0
       end
-      out by port 2: 0200...            what leaves: a frame, a packet to the controller, or nothing
+      out by port 2: 0200...       what leaves: a frame, a packet to the
+                                   controller, or nothing
       and 2 more sets of frames, by other entries: 0:3, 0:4
-  undecided: 2 sets of frames: ...      why it is not known which steps frames take
+  undecided: 2 sets of frames: ..  why it is not known which steps frames take
   7 paths, 2 undecided
 
-An entry is named by its table and its number by age, from 0. With --port, only frames that come in by this port are divided, and
-with --match only those that match, in the words of a match of ovs-ofctl. With --to, only paths are printed whose frames leave by that
-port, go to the controller, or are dropped; without --port, the frames of each ingress port are divided apart then. With --json, the
-report is one JSON document, which names the entries that each set of frames hits.
+An entry is named by its table and its number by age, from 0. With --port, only
+frames that come in by this port are divided, and with --match only those that
+match, in the words of a match of ovs-ofctl. With --to, only paths are printed
+whose frames leave by that port, go to the controller, or are dropped; without
+--port, the frames of each ingress port are divided apart then. With --json,
+the report is one JSON document, which names the entries that each set of
+frames hits.
 
-Exit status: 0 each frame is in a path; 5 frames are undecided, or a port is named that the switch does not have; 2 the words of
---match are not a match that a flow may have. If the file is at fault, the status is 1, 2 or 3, and the name of the file is before
-the fault.
+Exit status: 0 each frame is in a path; 5 frames are undecided, or a port is
+named that the switch does not have; 2 the words of --match are not a match
+that a flow may have. If the file is at fault, the status is 1, 2 or 3, and the
+name of the file is before the fault.
 
   ofswitch paths examples/router.flows
   ofswitch paths --to drop examples/router.flows
   ofswitch paths --match ip,nw_dst=10.1.0.0/16 examples/router.flows
   ofswitch paths --port 1 --to controller examples/office.txt
-  ofswitch paths --json examples/router.flows | jq '.paths[] | select(.items == []) | .frame'";
+  ofswitch paths --json examples/router.flows |
+      jq '.paths[] | select(.items == []) | .frame'";
 
 const IMPORTS: &str =
-    "FILE has flows and groups, one per line, as `ovs-ofctl -O OpenFlow13 --no-names dump-flows` and `dump-groups` print them, or
-as `ovs-ofctl add-flows` and `add-groups` read them. Groups and flows may be in one file. Statistics, the heading lines of
-dumps, comments and empty lines are skipped. A flow that has the table, the priority and the match of an earlier flow
-replaces it, as an ADD would. A resubmit to a later table becomes GOTO_TABLE if it is the last action.
+    "FILE has flows and groups, one per line, as `ovs-ofctl -O OpenFlow13 --no-names
+dump-flows` and `dump-groups` print them, or as `ovs-ofctl add-flows` and
+`add-groups` read them. Groups and flows may be in one file. Statistics, the
+heading lines of dumps, comments and empty lines are skipped. A flow that has
+the table, the priority and the match of an earlier flow replaces it, as an ADD
+would. A resubmit to a later table becomes GOTO_TABLE if it is the last action.
 
-It prints flow text (`ofswitch asm --help`), which `asm`, `trace` and `check` read: groups by number, flows
-by table, and in a table in the order of FILE. If a line uses something that this switch does not support, standard error
-names the line and the words, and nothing is printed, unless --skip leaves such lines out. Comments before the flow text say
-what was left out or changed; the first one is `# part of a table: N lines left out`. With --json it prints one JSON document
-about the import instead, or about the lines that are refused, and nothing on standard error.
+It prints flow text (`ofswitch asm --help`), which `asm`, `trace` and `check`
+read: groups by number, flows by table, and in a table in the order of FILE. If
+a line uses something that this switch does not support, standard error names
+the line and the words, and nothing is printed, unless --skip leaves such lines
+out. Comments before the flow text say what was left out or changed; the first
+one is `# part of a table: N lines left out`. With --json it prints one JSON
+document about the import instead, or about the lines that are refused, and
+nothing on standard error.
 
-Ports are numbers. With --port-names, names are read as well, as in_port=\"s1-eth1\" or output:s1-eth1.
+Ports are numbers. With --port-names, names are read as well, as
+in_port=\"s1-eth1\" or output:s1-eth1.
 
   ofswitch import examples/ovs-router.txt
-  ovs-ofctl -O OpenFlow13 --no-names dump-flows br0 | ofswitch import - > br0.flows
+  ovs-ofctl -O OpenFlow13 --no-names dump-flows br0 |
+      ofswitch import - > br0.flows
   ofswitch import --skip --renumber br-int.txt > br-int.flows
   ovs-ofctl -O OpenFlow13 --no-names dump-ports-desc br0 > br0.ports
   ofswitch import --port-names br0.ports dump.txt
-  ofswitch import --skip --json br-int.txt | jq '.flows[] | select(.counters.n_packets == \"0\") | .line'
+  ofswitch import --skip --json br-int.txt |
+      jq '.flows[] | select(.counters.n_packets == \"0\") | .line'
   ofswitch check br0.flows";
 
-const SAYING: &str =
-    "FILE is one or more OpenFlow 1.3 messages, one after the other: hexadecimal digits on the command line, or a file that has
-hexadecimal digits, with white space between them or not, or the bytes themselves. It does not matter which side sends them.
+const SAYING: &str = "FILE is one or more OpenFlow 1.3 messages, one after the other: hexadecimal
+digits on the command line, or a file that has hexadecimal digits, with white
+space between them or not, or the bytes themselves. It does not matter which
+side sends them.
 
-Each message is a line: its type, its transaction id, its fields, and how many bytes it has, as `replay --explain` prints them.
-Below it are its match, actions or group in flow text, or the rows of a multipart reply. Bytes after the last whole message
-end with status 2.
+Each message is a line: its type, its transaction id, its fields, and how many
+bytes it has, as `replay --explain` prints them. Below it are its match,
+actions or group in flow text, or the rows of a multipart reply. Bytes after
+the last whole message end with status 2.
 
   ofswitch say 0400000800000001
   ofswitch say message.bin";
-
-const SERVING: &str =
-    "A controller connects over TCP (`--listen`), or the switch connects to it (`--connect`), and reconnects whenever the
-connection is lost. It serves one controller at a time: another one that connects meanwhile is closed at once, unless nothing was
-heard of the first for 15 seconds. Without a HELLO a connection is closed after 10 seconds. The switch keeps its flows between
-connections, but its time advances only while there is one.
-
-  ofswitch serve                                     wait at 127.0.0.1:6653
-  ofswitch serve --connect 10.0.0.1:6653             connect to a controller that listens
-  ofswitch serve --events ports.events               with ports and frames
-  ofswitch serve --tables br0.flows                  with groups and flows
-
-The event file has the rows of `replay`, except `connect`, `lost` and `c`, which are bad rows here. It is read completely
-before a controller connects. A row happens as soon as a controller is connected and each `t` row before it is due, in
-nanoseconds since the start. Frames that leave are printed (`s PORT HEX`); a line on standard error reports
-each connection and its end. The log is an event file of all that happens (`ofswitch live --help`).
-
-With --tables the switch begins with the groups and flows that `check` would read from that file: as if, before all else, a
-controller had sent the messages that `asm` prints, and had gone. The log has their rows in front.
-
-A turn is an accept, or one read of at most 65,536 bytes that waits at most 2 seconds.";
-
-const LIVE: &str =
-    "The switch forwards the frames of a network. Port N is VXLAN network N (RFC 7348): what comes in a datagram of that network is
-received at port N, and what leaves by port N is sent to the peer of that network. A peer is the address that the network's last
-datagram came from, or the one that `--peer` sets. Linux, Open vSwitch and containers have VXLAN interfaces, so the switch needs
-no network interface of its own, and no privileges.
-
-  ofswitch live --ports 2                                     ports 1 and 2, at UDP port 4789; a controller connects to 127.0.0.1:6653
-  ofswitch live --ports 2 --connect 10.0.0.1:6653             the switch connects to a controller
-  ofswitch live --ports 4 --peer 1=10.0.0.7 --log run.events  port 1 is at 10.0.0.7; everything that happens is logged
-  ofswitch live --ports 2 --tables br0.flows                  with groups and flows from the start
-  ip link add vx1 type vxlan id 1 remote SWITCH dstport 4789  a host's interface at port 1 (then: ip link set vx1 up)
-
-Without a controller the switch goes on forwarding, and flows expire by the clock. One controller is served at a time: another one
-that connects meanwhile is closed at once, unless nothing was heard of the first for 15 seconds. Without a HELLO a connection is
-closed after 10 seconds, and so is one that reads nothing for 10 seconds, or for which more than 256 MiB wait. If nothing was
-heard for 60 seconds of a controller that the switch connected to, the switch connects once more, and takes the new connection.
-
-The event file has the rows of `replay`, except `connect`, `lost` and `c`; its rows happen as soon as the time of each `t` row
-before them has come, in nanoseconds since the start. With `--rows -`, rows `f` and `port` on standard input happen as soon as
-they are read, such as `port link 1 down`. Standard error reports bad rows and refused rows; the switch goes on. For --tables see
-`ofswitch serve --help`.
-
-The log is an event file of all that happens, and a row is written before anything goes out for it. Its first line says how to
-replay it, such as `# replay with --dpid 2`. So `replay LOG` prints the
-frames that the switch sent (and those for ports whose peer was not known), `dis LOG` its flow tables, and `trace --events LOG` and
-`check --events LOG` say why.
-
-A turn is one thing that comes: the time, a datagram, a row, or bytes of the controller.";
 
 const VERSION: &str = "0.1.0";
 
@@ -283,6 +290,19 @@ pub(crate) const PORT_NAMES: Argument = Argument {
     name: "port-names",
     kind: Kind::Optional("port-names", "FILE"),
     help: "Read names of ports in what ovs-ofctl prints as the numbers in FILE, which `ovs-ofctl dump-ports-desc` prints",
+};
+
+// Of each command whose report in words has colors.
+pub(crate) const COLOR: Argument = Argument {
+    name: "color",
+    kind: Kind::Optional("color", "WHEN"),
+    help: "Print in color: auto (the default: on a terminal, unless NO_COLOR is set), always or never",
+};
+
+pub(crate) const DATAPATH_ID: Argument = Argument {
+    name: "dpid",
+    kind: Kind::Optional("dpid", "N"),
+    help: "The datapath_id, decimal or 0x and hexadecimal digits (by default 1)",
 };
 
 const REPLAY: [Argument; 6] = [
@@ -356,7 +376,7 @@ const SAY: [Argument; 1] = [Argument {
     help: "Messages in hexadecimal digits, or a file with such digits or with the bytes; - is standard input",
 }];
 
-const TRACE: [Argument; 14] = [
+const TRACE: [Argument; 15] = [
     Argument {
         name: "FILE",
         kind: Kind::Free,
@@ -423,9 +443,10 @@ const TRACE: [Argument; 14] = [
         kind: Kind::Optional("ports", "LIST"),
         help: "The ports of the switch of FILE, such as 1-8,100 (by default 1 to 4 and those that its flows and groups name)",
     },
+    COLOR,
 ];
 
-const DIFF: [Argument; 7] = [
+const DIFF: [Argument; 8] = [
     Argument {
         name: "A",
         kind: Kind::Positional,
@@ -457,9 +478,10 @@ const DIFF: [Argument; 7] = [
         kind: Kind::Optional("ports", "LIST"),
         help: "The ports of the switches, such as 1-8,100 (by default 1 to 4 and those that flows and groups of both files name)",
     },
+    COLOR,
 ];
 
-const PATHS_ARGUMENTS: [Argument; 9] = [
+const PATHS_ARGUMENTS: [Argument; 10] = [
     Argument {
         name: "FILE",
         kind: Kind::Positional,
@@ -501,107 +523,7 @@ const PATHS_ARGUMENTS: [Argument; 9] = [
         kind: Kind::Optional("ports", "LIST"),
         help: "The ports of the switch of FILE, such as 1-8,100 (by default 1 to 4 and those that its flows and groups name)",
     },
-];
-
-// Of `serve` and of `live`.
-const LISTEN: Argument = Argument {
-    name: "listen",
-    kind: Kind::Optional("listen", "ADDR"),
-    help: "The address at which to wait for a controller, such as 127.0.0.1:6653 (the default) or [::]:6653",
-};
-
-const CONNECT: Argument = Argument {
-    name: "connect",
-    kind: Kind::Excluded("connect", "ADDR", "listen"),
-    help: "The controller to connect to, such as 10.0.0.1:6653",
-};
-
-const IDLE: Argument = Argument {
-    name: "idle",
-    kind: Kind::Optional("idle", "S"),
-    help: "Close a connection of which nothing was heard for S seconds (by default never)",
-};
-
-const TABLES: Argument = Argument {
-    name: "tables",
-    kind: Kind::Optional("tables", "FILE"),
-    help: "Begin with the groups and flows of a flow text, of what ovs-ofctl prints, or of an event file",
-};
-
-const EVENTS: Argument = Argument {
-    name: "FILE",
-    kind: Kind::Optional("events", "FILE"),
-    help: "An event file with ports and frames",
-};
-
-const LOG: Argument = Argument {
-    name: "log",
-    kind: Kind::Optional("log", "FILE"),
-    help: "Log all events to this event file",
-};
-
-const DATAPATH_ID: Argument = Argument {
-    name: "dpid",
-    kind: Kind::Optional("dpid", "N"),
-    help: "The datapath_id, decimal or 0x and hexadecimal digits (by default 1)",
-};
-
-const QUIET: Argument = Argument {
-    name: "quiet",
-    kind: Kind::Flag("quiet"),
-    help: "Do not report connections on standard error",
-};
-
-const SERVE: [Argument; 9] = [
-    LISTEN,
-    CONNECT,
-    IDLE,
-    TABLES,
-    EVENTS,
-    LOG,
-    Argument {
-        name: "turns",
-        kind: Kind::Optional("turns", "N"),
-        help: "End after N turns (by default 1000000)",
-    },
-    DATAPATH_ID,
-    QUIET,
-];
-
-const LIVE_ARGUMENTS: [Argument; 13] = [
-    Argument {
-        name: "vxlan",
-        kind: Kind::Optional("vxlan", "ADDR[:PORT]"),
-        help: "The address and UDP port at which to receive datagrams (by default 0.0.0.0:4789)",
-    },
-    LISTEN,
-    CONNECT,
-    IDLE,
-    Argument {
-        name: "ports",
-        kind: Kind::Optional("ports", "N"),
-        help: "Add the ports 1 to N, whose links are up (by default 0)",
-    },
-    TABLES,
-    EVENTS,
-    Argument {
-        name: "rows",
-        kind: Kind::Optional("rows", "-"),
-        help: "Take rows of frames and ports from standard input while the switch runs",
-    },
-    Argument {
-        name: "peer",
-        kind: Kind::Repeated("peer", "N=ADDR[:PORT]"),
-        help: "The address of the peer of port N (by default the sender of its last datagram)",
-    },
-    LOG,
-    Argument {
-        name: "turns",
-        kind: Kind::Optional("turns", "N"),
-        help: "End after N turns (by default never)",
-    },
-    DATAPATH_ID,
-    QUIET,
+    COLOR,
 ];
 
 // A subcommand: its name, its help before and after the arguments, and its arguments.
@@ -621,13 +543,13 @@ pub(crate) const SUBCOMMANDS: [Subcommand; 12] = [
     },
     Subcommand {
         name: "asm",
-        about: "Prints an event file that builds the groups and flow tables of a flow text",
+        about: "Prints an event file that builds the groups and flows of a flow text",
         text: FLOW_TEXT,
         arguments: &ASSEMBLE,
     },
     Subcommand {
         name: "dis",
-        about: "Runs an event file on a new switch and prints its groups and flow tables as flow text",
+        about: "Prints the groups and flows that an event file makes, as flow text",
         text: DISASSEMBLY,
         arguments: &DISASSEMBLE,
     },
@@ -651,7 +573,7 @@ pub(crate) const SUBCOMMANDS: [Subcommand; 12] = [
     },
     Subcommand {
         name: "history",
-        about: "Finds where in an event file the fate of a frame or flow entries change, and what changed them",
+        about: "Finds where in an event file the fate of a frame or of flows changes",
         text: HISTORIES,
         arguments: &HISTORY,
     },
@@ -737,27 +659,26 @@ fn is_free(kind: &Kind) -> bool {
     }
 }
 
+// A number below 0 is a value, too, which is refused as such.
+fn valued<'a>(named: Arg<'a>, option: &'a str, value: &'a str) -> Arg<'a> {
+    named
+        .long(option)
+        .value_name(value)
+        .allow_negative_numbers(true)
+}
+
 fn argument_of<'a>(alloc: Global, argument: &Argument) -> Result<Arg<'a>, AllocError> {
     let named = Arg::new(alloc, argument.name).help(argument.help);
     match argument.kind {
         Kind::Positional => Ok(named.required(true)),
         Kind::Place | Kind::Free => Ok(named),
         Kind::Required(option) => Ok(named.long(option).required(true)),
-        Kind::Alternative(option, value) | Kind::Optional(option, value) => Ok(
-            named.long(option).value_name(value),
-        ),
-        Kind::Repeated(option, value) => Ok(
-            named
-                .long(option)
-                .value_name(value)
-                .action(ArgAction::Append),
-        ),
-        Kind::Excluded(option, value, other) => {
-            named.long(option).value_name(value).conflicts_with(other)
-        },
-        Kind::ExcludedByBoth(option, value, one, other) => named
-            .long(option)
-            .value_name(value)
+        Kind::Alternative(option, value) | Kind::Optional(option, value) => Ok(valued(
+            named, option, value,
+        )),
+        Kind::Repeated(option, value) => Ok(valued(named, option, value).action(ArgAction::Append)),
+        Kind::Excluded(option, value, other) => valued(named, option, value).conflicts_with(other),
+        Kind::ExcludedByBoth(option, value, one, other) => valued(named, option, value)
             .conflicts_with(one)?
             .conflicts_with(other),
         Kind::Flag(option) => Ok(named.long(option).action(ArgAction::SetTrue)),

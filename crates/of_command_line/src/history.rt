@@ -1,6 +1,6 @@
 //! What `history` is about.
 
-use crate::command::{Argument, Kind};
+use crate::command::{Argument, COLOR, Kind};
 use crate::received::received_of;
 use crate::{FileKind, NoRequest, dpid_of, long_number_in, number_in, row_of};
 use clap::ArgMatches;
@@ -11,9 +11,11 @@ use std::alloc::Global;
 
 /// What the help of `history` says.
 pub(crate) const HISTORIES: &str =
-    "FILE is an event file (`ofswitch replay --help`), such as a log of `live`. Its rows are played on a new switch, and after each
-message of the controller, each change of a port and each time, the fate of the frame is looked at: the steps that it would take and
-what would leave, if it were received then at that port. Where the fate has changed, it says what happened, and both fates:
+    "FILE is an event file (`ofswitch replay --help`), such as a log of `live`. Its
+rows are played on a new switch, and after each message of the controller, each
+change of a port and each time, the fate of the frame is looked at: the steps
+that it would take and what would leave, if it were received then at that port.
+Where the fate has changed, it says what happened, and both fates:
 
   in_port=2,dl_src=02:00:00:00:00:02,dl_dst=02:00:00:00:00:01
   line 14, message 1
@@ -25,25 +27,33 @@ what would leave, if it were received then at that port. Where the fate has chan
       ...
       + out by port 1: 020000000001...
 
-Lines with - are of the fate before it, lines with + of the fate after it, and lines without a mark of both. Between two changes that
-are printed the fate is the same. The first fate is that on a switch without ports. Connections do not matter: what goes to the
-controller is a packet, whether one is connected or not. With --row the frame is the one of a row `f PORT HEX`, and the history
-ends there: the last change says why the frame went where it went. FRAME and --port are as `trace` takes them.
+Lines with - are of the fate before it, lines with + of the fate after it, and
+lines without a mark of both. Between two changes that are printed the fate is
+the same. The first fate is that on a switch without ports. Connections do not
+matter: what goes to the controller is a packet, whether one is connected or
+not. With --row the frame is the one of a row `f PORT HEX`, and the history
+ends there: the last change says why the frame went where it went. FRAME and
+--port are as `trace` takes them.
 
-With --flow it is the history of flow entries: those whose match is at least as specific as the words, such as ip,nw_dst=10.0.0.0/8.
-Words may also be table=N, priority=N, and cookie=N or cookie=N/MASK. Each entry is a line, with - if it went and + if it came: one
-that is modified or replaced has both. Counters do not matter.
+With --flow it is the history of flow entries: those whose match is at least as
+specific as the words, such as ip,nw_dst=10.0.0.0/8. Words may also be table=N,
+priority=N, and cookie=N or cookie=N/MASK. Each entry is a line, with - if it
+went and + if it came: one that is modified or replaced has both. Counters do
+not matter.
 
   line 30: t 9000000000
-      - table 0, priority 1, in_port 2, cookie 0x0, idle 5, hard 0, flags 0, added at 0, apply actions, output 1
+      - table 0, priority 1, in_port 2, cookie 0x0, idle 5, hard 0, flags 0, ...
 
-  ofswitch history examples/moved-host.events in_port=2,dl_src=02:00:00:00:00:02,dl_dst=02:00:00:00:00:01
+  ofswitch history examples/moved-host.events \\
+      in_port=2,dl_src=02:00:00:00:00:02,dl_dst=02:00:00:00:00:01
   ofswitch history examples/moved-host.events --row 21
-  ofswitch history examples/moved-host.events --flow priority=1,dl_dst=02:00:00:00:00:01
-  ofswitch history examples/failover.events --port 1 02000000000202000000000188b5";
+  ofswitch history examples/moved-host.events \\
+      --flow priority=1,dl_dst=02:00:00:00:00:01
+  ofswitch history examples/failover.events \\
+      --port 1 02000000000202000000000188b5";
 
 /// Its arguments.
-pub(crate) const HISTORY: [Argument; 7] = [
+pub(crate) const HISTORY: [Argument; 8] = [
     Argument {
         name: "FILE",
         kind: Kind::Positional,
@@ -79,6 +89,7 @@ pub(crate) const HISTORY: [Argument; 7] = [
         kind: Kind::Flag("json"),
         help: "Print a JSON object for each change, in a line of its own (docs/JSON.md)",
     },
+    COLOR,
 ];
 
 /// Of what a history is.
@@ -129,11 +140,10 @@ fn fields_of(alloc: Global, words: &str) -> Result<Vec<MatchField>, NoRequest> {
     match read_conditions(alloc, words.as_bytes()) {
         Ok(fields) => Ok(fields),
         Err(NoFrame::NoMemory) => Err(NoRequest::NoMemory),
-        Err(NoFrame::Refused(refusal)) => {
-            let word = std::str::from_utf8(&refusal.word).unwrap_or("?");
-            let why = refusal.why;
-            Err(NoRequest::Refused(format!(in alloc; "bad flow: {word}: {why}\n")?))
-        }
+        Err(NoFrame::Refused(refusal)) => Err(NoRequest::Words {
+            what: "bad flow",
+            refusal,
+        }),
     }
 }
 

@@ -3,12 +3,16 @@
 
 mod brief;
 mod checking;
+mod color;
+mod columns;
 mod command;
+mod counts;
 mod history;
 mod inputs;
 mod paths;
 mod port_list;
 mod received;
+mod serving;
 
 ghost use Rattle.std.specs.Prelude.{◌≡◌};
 ghost use Rattle.std.specs.Iterator.{IsFinite};
@@ -18,10 +22,15 @@ use brief::brief_help;
 use checking::check_of;
 use clap::ArgMatches;
 use clap::error::{Error, ErrorKind};
+pub use color::Colors;
+use color::colors_of;
+use columns::in_columns;
 use command::command;
+use counts::{DEFAULT_READS, idle_of, live_turns_of, reads_of, turns_of};
 use history::history_of;
 pub use history::{EntriesAsked, HistoryAsked, HistoryOf};
 use inputs::{log_of, running_rows_of, tables_of};
+use of_frame_words::Refusal;
 use of_wire::limits::TABLES;
 pub use paths::{Leading, PathsAsked};
 use paths::{paths_of, steps_of};
@@ -44,10 +53,6 @@ const DEFAULT_ADDRESS: &str = "127.0.0.1:6653";
 const DEFAULT_TUNNEL: &str = "0.0.0.0:4789";
 
 const VXLAN_PORT: u16 = 4789;
-
-const DEFAULT_TURNS: u32 = 1_000_000;
-
-const DEFAULT_READS: u32 = 1_000_000;
 
 const DEFAULT_DPID: u64 = 1;
 
@@ -75,6 +80,13 @@ pub enum Run {
     Assemble,
     /// An event file runs on a new switch, and the groups and flows that it has then are printed as flow text.
     Disassemble,
+}
+
+/// What the words of a command line say.
+#[derive(PartialEq, Eq, Drop)]
+pub struct CommandLine {
+    pub request: Request,
+    pub colors: Colors,
 }
 
 /// What the user asks for.
@@ -283,12 +295,17 @@ pub enum Meeting {
 }
 
 /// Why the words are no request.
-#[derive(PartialEq, Eq, Drop)]
+#[derive(Drop)]
 pub enum NoRequest {
     /// They ask for help or the version, which is this text.
     Asked(String),
     /// They are not understood; the text says why.
     Refused(String),
+    /// A word of a frame or of a match is refused.
+    Words {
+        what: &'static str,
+        refusal: Refusal,
+    },
     /// Memory ran out.
     NoMemory,
 }
@@ -306,18 +323,18 @@ pub fn read_request<N: Net>(
     alloc: Global,
     net: &N,
     words: &[String],
-) -> Result<Request, NoRequest> {
+) -> Result<CommandLine, NoRequest> {
     match command(alloc)?.try_get_matches_from(words) {
-        Ok(matches) => request_of(alloc, net, &matches),
+        Ok(matches) => command_line_of(alloc, net, &matches),
         Err(error) => Err(refusal_of(alloc, words, &error)?),
     }
 }
 
-fn request_of<N: Net>(
+fn command_line_of<N: Net>(
     alloc: Global,
     net: &N,
     matches: &ArgMatches<'_>,
-) -> Result<Request, NoRequest> {
+) -> Result<CommandLine, NoRequest> {
     let Some((name, matches)) = matches.subcommand() else {
         let run = Run::Replay {
             dpid: DEFAULT_DPID,
@@ -326,8 +343,23 @@ fn request_of<N: Net>(
             reads: DEFAULT_READS,
         };
         let file = "-".to_string(alloc)?;
-        return Ok(Request::File(FileRun { file, run }));
+        return Ok(CommandLine {
+            request: Request::File(FileRun { file, run }),
+            colors: Colors::Auto,
+        });
     };
+    Ok(CommandLine {
+        request: request_of(alloc, net, name, matches)?,
+        colors: colors_of(alloc, matches.get_str("color"))?,
+    })
+}
+
+fn request_of<N: Net>(
+    alloc: Global,
+    net: &N,
+    name: &str,
+    matches: &ArgMatches<'_>,
+) -> Result<Request, NoRequest> {
     match name {
         "serve" => Ok(Request::Serve(serve_of(alloc, net, matches)?)),
         "live" => Ok(Request::Live(live_of(alloc, net, matches)?)),
@@ -669,25 +701,6 @@ fn peers_of(alloc: Global, tunnel: SocketAddr, words: &[&str]) -> Result<Vec<Por
     Ok(peers)
 }
 
-// Seconds, as nanoseconds.
-fn idle_of(alloc: Global, word: Option<&str>) -> Result<Option<u64>, NoRequest> {
-    match word.map(number_in) {
-        None => Ok(None),
-        Some(Some(seconds)) if seconds > 0 => Ok(Some(u64::from(seconds) * 1_000_000_000)),
-        Some(_) => Err(refused(alloc, "bad idle: it is a number of seconds, at least 1\n")?),
-    }
-}
-
-fn live_turns_of(alloc: Global, word: Option<&str>) -> Result<u64, NoRequest> {
-    let Some(word) = word else {
-        return Ok(u64::MAX);
-    };
-    match number_in(word) {
-        Some(turns) => Ok(u64::from(turns)),
-        None => Err(refused(alloc, "bad turns: a 32-bit number\n")?),
-    }
-}
-
 // The parts of a host's name and a port.
 fn name_in(word: &str) -> Option<(&str, u16)> {
     let (host, port) = word.split_once(':')?;
@@ -741,26 +754,6 @@ fn address_of<N: Net>(alloc: Global, net: &N, word: &str) -> Result<SocketAddr, 
     }
 }
 
-fn turns_of(alloc: Global, word: Option<&str>) -> Result<u32, NoRequest> {
-    let Some(word) = word else {
-        return Ok(DEFAULT_TURNS);
-    };
-    match number_in(word) {
-        Some(turns) => Ok(turns),
-        None => Err(refused(alloc, "bad turns: a 32-bit number\n")?),
-    }
-}
-
-fn reads_of(alloc: Global, word: Option<&str>) -> Result<u32, NoRequest> {
-    let Some(word) = word else {
-        return Ok(DEFAULT_READS);
-    };
-    match number_in(word) {
-        Some(reads) => Ok(reads),
-        None => Err(refused(alloc, "bad reads: a 32-bit number\n")?),
-    }
-}
-
 // A number of 64 bits: decimal, or hexadecimal after 0x.
 fn long_number_in(word: &str) -> Option<u64> {
     match word.strip_prefix("0x") {
@@ -788,8 +781,14 @@ fn refusal_of(alloc: Global, words: &[String], error: &Error) -> Result<NoReques
         return Ok(NoRequest::NoMemory);
     }
     let text = format!(in alloc; "{error}")?;
-    if error.kind() == ErrorKind::DisplayHelp && words.iter().any(|word| word.as_str() == "-h") {
-        Ok(NoRequest::Asked(brief_help(alloc, words, text.as_str())?))
+    if error.kind() == ErrorKind::DisplayHelp {
+        let is_brief = words.iter().any(|word| word.as_str() == "-h");
+        let help = if is_brief {
+            brief_help(alloc, words, text.as_str())?
+        } else {
+            text
+        };
+        Ok(NoRequest::Asked(in_columns(alloc, help.as_str())?))
     } else if error.exit_code() == 0 {
         Ok(NoRequest::Asked(text))
     } else {

@@ -97,11 +97,10 @@ fn said_of(
             Ok(received)
         }
         Err(NoFrame::NoMemory) => Err(NoRequest::NoMemory),
-        Err(NoFrame::Refused(refusal)) => {
-            let word = std::str::from_utf8(&refusal.word).unwrap_or("?");
-            let why = refusal.why;
-            Err(NoRequest::Refused(format!(in alloc; "bad frame: {word}: {why}\n")?))
-        }
+        Err(NoFrame::Refused(refusal)) => Err(NoRequest::Words {
+            what: "bad frame",
+            refusal,
+        }),
     }
 }
 

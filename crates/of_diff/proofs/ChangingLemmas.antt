@@ -29,6 +29,7 @@ use Rattle.of_symbolic.specs.Parts.{NoneOfMatches, received_fields}
 use Rattle.of_symbolic_run.specs.declared.frame_set.FrameSet.{FrameSet}
 use Rattle.of_symbolic_run.specs.declared.state.SymbolicTask.{SymbolicTask}
 use Rattle.of_symbolic_run.specs.Received.{IsReceivedAt, items_at}
+use Rattle.of_symbolic_run.proofs.ReceivedLemmas.{fewer_received}
 use Rattle.of_symbolic_run.specs.FrameSets.{AreFramesMatching, AreFramesWithout, InFrames}
 use Rattle.of_symbolic_run.specs.declared.advance.Advance.TheVariants as advances
 use Rattle.of_symbolic_run.specs.States.{answer_to_tasks, items_for, packet_for, task_for, work_for}
@@ -204,11 +205,16 @@ module _ (w v : TheWorld) (old : Pair) where
   pairs_of_more sets sets' frames pairs pairs' is adds h = record {
     hold = λ states within p c. elim (Contains-append_cases pairs adds.more p (subst (λ (l : List Pair). Contains l p) adds.added c)) as (λ x. AreStatesOfRuns w v p) [
       | inl before ↦ h.hold states (λ s there. within s (rw is (Contains-append_left sets (frames ∷ []) s there))) p before
-      | inr one ↦ (λ frame port is_frame inside.
+      | inr one ↦ (
           let e = of_case (IsByFirst old.second) adds.cases adds.more adds.by p one in
-          let mine : InFrames e.c.frames frame port = rw (sym e.own.0) inside in
-          let at = states frame port is_frame (within frames (rw is (Contains-push sets frames)) frame port (adds.are.within e.c e.there frame port mine)) in
-          (rw e.own.1 (adds.are.at e.c e.there frame port is_frame mine at.0), copy_at v frame port old.second p.second e.own.2 at.1))
+          let old_within : (frame : List ℕ) (port : ℕ) → InFrames e.c.frames frame port → InFrames old.frames frame port = λ frame port h. within frames (rw is (Contains-push sets frames)) frame port (adds.are.within e.c e.there frame port h) in
+          record {
+            at = λ frame port is_frame inside.
+                let mine : InFrames e.c.frames frame port = rw (sym e.own.0) inside in
+                let at = states.at frame port is_frame (old_within frame port mine) in
+                (rw e.own.1 (adds.are.at e.c e.there frame port is_frame mine at.0), copy_at v frame port old.second p.second e.own.2 at.1);
+            received = rw e.own.0 (fewer_received w.ports old.frames e.c.frames old_within states.received);
+          })
     ];
     all = λ s there frame port is_frame inside. elim (Contains-push_cases sets frames s (subst (λ (l : List FrameSet). Contains l s) is there)) as (λ x. InPairs pairs' frame port) [
       | inl before ↦ (let p = h.all s before frame port is_frame inside in (p.0, subst (λ (l : List Pair). Contains l p.0) (sym adds.added) (Contains-append_left pairs adds.more p.0 p.1), p.2))
@@ -348,7 +354,7 @@ module _ (c : Compared) (f g : Forwarding) (sound : IsSound (world_of f)) (sound
     pub unmatched_alike : IsTreatedAlike c (world_of f) (world_of g) frame port
     unfolding after
     unmatched_alike =
-        let at = states frame port received.frame_is within in
+        let at = states.at frame port received.frame_is within in
         let copies = same_tasks frame port pair.first.tasks.items pair.second.tasks.items here.same in
         let one = step_of (world_of f) (after (world_of f) at.0.steps (starting (entering frame port) (Lookup 0 ∷ []))) p work rest (at.0.tasks ∙ looked) in
         let two = step_of (world_of g) (after (world_of g) at.1.steps (starting (entering frame port) (Lookup 0 ∷ []))) p work rest (at.1.tasks ∙ (copies ∙ looked)) in

@@ -34,7 +34,7 @@ module _ (c : Compared) (w v : TheWorld) (n : ℕ) (sound : IsSound w) (sound' :
   pub go_on_treated_alike : (pair : Pair) → GoOnAlike n pair.first pair.second → LeaveAlike c w.ports pair.frames pair.first.emitted.items pair.second.emitted.items →
       AreStatesOfRuns w v pair → (frame : List ℕ) (port : ℕ) → IsReceivedAt w frame port → InFrames pair.frames frame port → IsTreatedAlike c w v frame port
   go_on_treated_alike pair go sent states frame port received within =
-      let at = states frame port received.frame_is within in
+      let at = states.at frame port received.frame_is within in
       let same = same_tasks frame port pair.first.tasks.items pair.second.tasks.items go.same in
       let from : AllFrom n (map (task_for frame port) pair.first.tasks.items) = go.from frame port in
       let r = rests_agree n w v sound sound' agree (entering frame port) refl at.0.steps at.1.steps (at.0.tasks ∙ (sym same ∙ sym at.1.tasks)) (subst (AllFrom n) (sym at.0.tasks) from) in

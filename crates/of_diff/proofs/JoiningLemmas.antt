@@ -19,6 +19,7 @@ use Rattle.of_symbolic_run.specs.declared.advance.Advance.TheVariants as advance
 use Rattle.of_symbolic_run.specs.declared.joint.JointCase.{JointCase}
 use Rattle.of_symbolic_run.specs.declared.state.SymbolicState.{SymbolicState}
 use Rattle.of_symbolic_run.specs.Cases.{AreCases, IsTableOf}
+use Rattle.of_symbolic_run.proofs.ReceivedLemmas.{fewer_received}
 use Rattle.of_symbolic_run.specs.FrameSets.{InFrames}
 use Rattle.of_symbolic_run.specs.NextStates.{AreNextStates, IsNextState, chosen_row}
 use Rattle.of_symbolic_run.specs.States.{IsAt, answer_to_tasks, answer_to_works, items_for, packet_for, task_for}
@@ -115,15 +116,20 @@ joint_are_pairs c f g table sound same old cases first second =
     let one = first w (record { winner = λ fields. refl; flow = λ place. refl }) in
     let two = second other (has_entries f g table same) in
     record {
-      hold = λ states p there frame port is within.
+      hold = λ states p there.
           let i = image_of pair_of_case cases p there in
-          let inside = subst (λ (q : Pair). InFrames q.frames frame port) (sym i.is) within in
           let mine = in_image first_case cases i.x i.there in
           let yours = in_image second_case cases i.x i.there in
-          let at = states frame port is (one.within (first_case i.x) mine frame port inside) in
-          let left = one.at (first_case i.x) mine frame port is inside at.0 in
-          let right = at_one v other sound agree ports frame port i.x.second (two.at (second_case i.x) yours frame port is inside (at_other v other sound agree ports frame port old.second at.1)) in
-          subst (λ (q : Pair). IsAt w frame port q.first × IsAt v frame port q.second) i.is (left, right);
+          let frames : i.x.frames ≡ p.frames = ap (λ (q : Pair). q.frames) i.is in
+          record {
+            at = λ frame port is within.
+                let inside = subst (λ (q : Pair). InFrames q.frames frame port) (sym i.is) within in
+                let at = states.at frame port is (one.within (first_case i.x) mine frame port inside) in
+                let left = one.at (first_case i.x) mine frame port is inside at.0 in
+                let right = at_one v other sound agree ports frame port i.x.second (two.at (second_case i.x) yours frame port is inside (at_other v other sound agree ports frame port old.second at.1)) in
+                subst (λ (q : Pair). IsAt w frame port q.first × IsAt v frame port q.second) i.is (left, right);
+            received = rw (sym frames) (fewer_received w.ports old.frames i.x.frames (one.within (first_case i.x) mine) states.received);
+          };
       all = λ states frame port received within.
           let a = one.all frame port received.frame_is within in
           let i = image_of first_case cases a.0 a.1 in

@@ -10,6 +10,7 @@ use Rattle.of_symbolic_run.specs.declared.state.SymbolicState.{SymbolicState}
 use Rattle.of_symbolic_run.specs.declared.state.SymbolicTask.{SymbolicTask}
 use Rattle.of_symbolic_run.specs.Cases.{AreCases}
 use Rattle.of_symbolic_run.specs.FrameSets.{InFrames}
+use Rattle.of_symbolic_run.proofs.ReceivedLemmas.{fewer_received}
 use Rattle.of_symbolic_run.specs.NextStates.{AreNextStates, IsNextState}
 use Rattle.of_symbolic_run.specs.States.{AreTaskCopies, IsAt, IsStateCopy, task_for}
 use Rattle.of_symbolic_run.proofs.NextLemmas.{some_same}
@@ -97,18 +98,28 @@ module _ (c : Compared) (w v : TheWorld) where
   }
 
   pub first_advanced : (old new : Pair) → new.frames ≡ old.frames → new.second ≡ old.second → ((frame : List ℕ) (port : ℕ) → IsAt w frame port old.first → IsAt w frame port new.first) → ArePairs c w v old (new ∷ [])
-  first_advanced old new frames second step = alone old new frames (λ h frame port is within. (let at = h frame port is (rw (sym frames) within) in (step frame port at.0, rw second at.1)))
+  first_advanced old new frames second step = alone old new frames (λ h. record {
+    at = λ frame port is within. (let at = h.at frame port is (rw (sym frames) within) in (step frame port at.0, rw second at.1));
+    received = rw frames h.received;
+  })
 
   pub second_advanced : (old new : Pair) → new.frames ≡ old.frames → new.first ≡ old.first → ((frame : List ℕ) (port : ℕ) → IsAt v frame port old.second → IsAt v frame port new.second) → ArePairs c w v old (new ∷ [])
-  second_advanced old new frames first step = alone old new frames (λ h frame port is within. (let at = h frame port is (rw (sym frames) within) in (rw first at.0, step frame port at.1)))
+  second_advanced old new frames first step = alone old new frames (λ h. record {
+    at = λ frame port is within. (let at = h.at frame port is (rw (sym frames) within) in (rw first at.0, step frame port at.1));
+    received = rw frames h.received;
+  })
 
   pub first_divided : (old : Pair) (cases : List Case) (pairs : List Pair) → AreCases w old.frames old.first cases → AreByFirst cases old.second pairs → ArePairs c w v old pairs
   first_divided old cases pairs are by = record {
-    hold = λ h p there frame port is within.
+    hold = λ h p there.
         let e = of_case (IsByFirst old.second) cases pairs by p there in
-        let inside : InFrames e.c.frames frame port = rw (sym e.own.0) within in
-        let at = h frame port is (are.within e.c e.there frame port inside) in
-        (rw e.own.1 (are.at e.c e.there frame port is inside at.0), copy_at v frame port old.second p.second e.own.2 at.1);
+        record {
+          at = λ frame port is within.
+              let inside : InFrames e.c.frames frame port = rw (sym e.own.0) within in
+              let at = h.at frame port is (are.within e.c e.there frame port inside) in
+              (rw e.own.1 (are.at e.c e.there frame port is inside at.0), copy_at v frame port old.second p.second e.own.2 at.1);
+          received = rw e.own.0 (fewer_received w.ports old.frames e.c.frames (are.within e.c e.there) h.received);
+        };
     all = λ h frame port received within.
         let a = are.all frame port received.frame_is within in
         let b = has_pair (IsByFirst old.second) cases pairs by a.0 a.1 in
@@ -117,11 +128,15 @@ module _ (c : Compared) (w v : TheWorld) where
 
   pub second_divided : (old : Pair) (cases : List Case) (pairs : List Pair) → AreCases v old.frames old.second cases → AreBySecond old.first cases pairs → ArePairs c w v old pairs
   second_divided old cases pairs are by = record {
-    hold = λ h p there frame port is within.
+    hold = λ h p there.
         let e = of_case (IsBySecond old.first) cases pairs by p there in
-        let inside : InFrames e.c.frames frame port = rw (sym e.own.0) within in
-        let at = h frame port is (are.within e.c e.there frame port inside) in
-        (copy_at w frame port old.first p.first e.own.2 at.0, rw e.own.1 (are.at e.c e.there frame port is inside at.1));
+        record {
+          at = λ frame port is within.
+              let inside : InFrames e.c.frames frame port = rw (sym e.own.0) within in
+              let at = h.at frame port is (are.within e.c e.there frame port inside) in
+              (copy_at w frame port old.first p.first e.own.2 at.0, rw e.own.1 (are.at e.c e.there frame port is inside at.1));
+          received = rw e.own.0 (fewer_received w.ports old.frames e.c.frames (are.within e.c e.there) h.received);
+        };
     all = λ h frame port received within.
         let a = are.all frame port received.frame_is within in
         let b = has_pair (IsBySecond old.first) cases pairs by a.0 a.1 in

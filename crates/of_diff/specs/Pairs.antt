@@ -8,16 +8,17 @@ use Rattle.of_symbolic_run.specs.declared.joint.JointCase.{JointCase}
 use Rattle.of_symbolic_run.specs.declared.state.SymbolicState.{SymbolicState}
 use Rattle.of_symbolic_run.specs.FrameSets.{InFrames}
 use Rattle.of_symbolic_run.specs.States.{IsAt, IsStateCopy}
-use Rattle.of_symbolic_run.specs.Received.{IsReceivedAt}
+use Rattle.of_symbolic_run.specs.Received.{AreReceived, IsReceivedAt}
 use Rattle.of_diff.specs.Differences.{InDifferences, InSets, IsTreatedAlike, IsDifference}
 use Rattle.of_alike.specs.declared.alike.Compared.{Compared}
 use Rattle.of_alike.specs.declared.alike.Where.{Where}
 use Rattle.of_diff.specs.declared.difference.Difference.{Difference}
 use Rattle.of_diff.specs.declared.pair.Pair.{Pair}
 
--- both states are those of the runs of each frame
-abbrev pub AreStatesOfRuns : TheWorld → TheWorld → Pair → Type 0
-AreStatesOfRuns w v p = (frame : List ℕ) (port : ℕ) → IsFrame frame → InFrames p.frames frame port → IsAt w frame port p.first × IsAt v frame port p.second
+-- both states are those of the runs of each frame, and each frame comes in by a port that receives
+pub record AreStatesOfRuns (w v : TheWorld) (p : Pair) : Type 0 where
+  pub at : (frame : List ℕ) (port : ℕ) → IsFrame frame → InFrames p.frames frame port → IsAt w frame port p.first × IsAt v frame port p.second
+  pub received : AreReceived w.ports p.frames
 
 abbrev pub InPairs : List Pair → List ℕ → ℕ → Type 0
 InPairs pairs frame port = (p : Pair) × Contains pairs p × InFrames p.frames frame port

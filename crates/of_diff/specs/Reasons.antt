@@ -3,11 +3,11 @@ use Rattle.std.specs.Prelude.{◌≡◌, ◌≢◌, ◌≤◌, ◌⊎◌, ◌++�
 use Rattle.std.specs.List.{Contains}
 use Rattle.of_machine.specs.TheWorld.{TheWorld}
 use Rattle.of_symbolic_run.specs.declared.frame_set.FrameSet.{FrameSet}
-use Rattle.of_symbolic_run.specs.FrameSets.{InFrames}
+use Rattle.of_symbolic_run.specs.declared.finding.FrameFound.TheVariants as found
+use Rattle.of_symbolic_run.specs.FrameSets.{FindsFrame, InFrames}
 use Rattle.of_symbolic_run.specs.NextStates.{IsFirstState}
 use Rattle.of_symbolic_run.specs.Received.{IsReceivedAt}
 use Rattle.of_symbolic_run.specs.Sides.{IsUnknownLookup}
-use Rattle.of_symbolic_run.specs.Unfound.{FindsNone}
 use Rattle.of_alike.specs.Agreeing.{AgreeFrom, GoOnAlike}
 use Rattle.of_diff.specs.Differences.{IsDifference, IsTreatedAlike}
 use Rattle.of_diff.specs.NextPairs.{AreNextPairs}
@@ -34,11 +34,11 @@ pub record SomeIsAlike (c : Compared) (w v : TheWorld) (s : FrameSet) : Type 0 w
   pub second : IsReceivedAt v frame port
   pub alike : IsTreatedAlike c w v frame port
 
--- what a search among the frames of a set gave: none that both switches receive, or one that is treated alike
+-- what a search among the frames of a set gave: none, or one that is treated alike
 abbrev pub IsTriedReason : Compared → TheWorld → TheWorld → ℕ → FrameSet → Why → Type 0
 IsTriedReason c w v steps s why.UnknownTag = ⊥
 IsTriedReason c w v steps s why.Steps = ⊥
-IsTriedReason c w v steps s why.Search = FindsNone w steps s ⊎ FindsNone v steps s
+IsTriedReason c w v steps s why.Search = FindsFrame s steps found.Undecided
 IsTriedReason c w v steps s why.OtherActions = SomeIsAlike c w v s
 
 -- it is not known what a lookup of one of the two finds; or all the steps were taken; or both runs are settled, and that is all that a search gave; if some
@@ -51,7 +51,7 @@ IsReasonOfPair c w v steps taken p why.OtherActions = AreSettled w v p × IsTrie
 
 -- ---- steps of all runs together
 
--- the beginning: one set of all frames that are received, with the first state of both runs
+-- the beginning: one set of the frames that are received, with the first state of both runs
 pub record IsFirstPair (w v : TheWorld) (p : Pair) : Type 0 where
   pub runs : AreStatesOfRuns w v p
   pub first : IsFirstState p.first

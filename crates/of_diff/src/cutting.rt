@@ -8,6 +8,7 @@ ghost use Rattle.of_alike.specs.Emitting.{LeaveAlike};
 ghost use Rattle.of_diff.specs.Reasons.{AreSettled};
 ghost use Rattle.of_alike.specs.SamePorts.{SamePorts};
 ghost use Rattle.of_diff.specs.SoFar.{NextIs};
+ghost use Rattle.of_symbolic_run.specs.Received.{AreReceived};
 
 use crate::ending::try_pair;
 use crate::pair::{Next, Pair};
@@ -26,6 +27,8 @@ fn compare_sent<'a, L: Lookup>(
     pair: Pair<'a>,
     steps: usize,
 ) -> Result<Next<'a>, AllocError>
+    requires ports { SamePorts first.now.ports second.now.ports }
+    requires received { AreReceived (world_of (forwarding_of first.now)).ports pair.frames }
     requires settled { AreSettled (world_of (forwarding_of first.now)) (world_of (forwarding_of second.now)) pair }
     requires alike { LeaveAlike compared (world_of (forwarding_of first.now)).ports pair.frames pair.first.emitted.items pair.second.emitted.items →
         NextIs compared (world_of (forwarding_of first.now)) (world_of (forwarding_of second.now)) steps pair AllAlike }
@@ -56,6 +59,7 @@ pub fn compare_rests<'a, L: Lookup>(
     steps: usize,
 ) -> Result<Next<'a>, AllocError>
     requires ports { SamePorts first.now.ports second.now.ports }
+    requires received { AreReceived (world_of (forwarding_of first.now)).ports pair.frames }
     requires agree { AgreeFrom table (world_of (forwarding_of first.now)) (world_of (forwarding_of second.now)) }
     requires alike { GoOnAlike table pair.first pair.second }
     ensures { IfOk result (NextIs compared (world_of (forwarding_of first.now)) (world_of (forwarding_of second.now)) steps pair.entry) }
@@ -75,6 +79,7 @@ pub fn compare_ended<'a, L: Lookup>(
     steps: usize,
 ) -> Result<Next<'a>, AllocError>
     requires ports { SamePorts first.now.ports second.now.ports }
+    requires received { AreReceived (world_of (forwarding_of first.now)).ports pair.frames }
     requires first { pair.first.tasks.items ≡ [] }
     requires second { pair.second.tasks.items ≡ [] }
     ensures { IfOk result (NextIs compared (world_of (forwarding_of first.now)) (world_of (forwarding_of second.now)) steps pair.entry) }

@@ -69,7 +69,7 @@ fn give_up<'a>(pairs: Vec<Pair<'a>>, so_far: &mut Differences) -> Result<(), All
 
 // The pair before any step.
 fn first_pair<'a, L: Lookup>(alloc: Global, datapath: &Datapath<L>) -> Result<Pair<'a>, AllocError>
-    ensures holds { IfOk result (λ pair. (w v : TheWorld) → AreStatesOfRuns w v pair) }
+    ensures holds { IfOk result (λ pair. (v : TheWorld) → AreStatesOfRuns (world_of (forwarding_of datapath.now)) v pair) }
     ensures first { IfOk result (λ pair. IsFirstState pair.first) }
     ensures second { IfOk result (λ pair. IsFirstState pair.second) }
     ensures all { IfOk result (λ pair. (frame : List ℕ) (port : ℕ) →

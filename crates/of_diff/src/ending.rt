@@ -6,6 +6,9 @@ ghost use Rattle.of_datapath.specs.Numbers.{forwarding_of};
 ghost use Rattle.of_machine.specs.TheWorld.{TheWorld};
 ghost use Rattle.of_regions.specs.Conditions.{AreConditions};
 ghost use Rattle.of_symbolic_run.specs.FrameSets.{InFrames};
+ghost use Rattle.of_symbolic_run.specs.PortNumbers.{IsReceivingPort};
+ghost use Rattle.of_symbolic_run.specs.Received.{AreReceived};
+ghost use Rattle.of_alike.specs.SamePorts.{SamePorts};
 ghost use Rattle.of_alike.specs.declared.alike.Compared.{Compared as WhatIsCompared};
 ghost use Rattle.of_diff.specs.declared.pair.Pair.{Pair as ThePair};
 ghost use Rattle.of_diff.specs.Reasons.{AreSettled, IsReasonOfPair, SomeIsAlike};
@@ -20,7 +23,7 @@ use of_classifier::Lookup;
 use of_datapath::Datapath;
 use of_machine::{Items, NoLog};
 use of_oxm::MatchField;
-use of_symbolic_run::{FrameFound, FrameSet, receiving_port};
+use of_symbolic_run::{FrameFound, FrameSet};
 use std::alloc::{AllocError, Global};
 
 /// A frame for which something else leaves, and where.
@@ -106,15 +109,11 @@ fn run_both<L: Lookup>(
     requires frame_is { IsFrame frame.items }
     requires short { length frame.items ≤ 9216 }
     requires within { InFrames frames.now frame.items in_port }
+    requires first { IsReceivingPort (world_of (forwarding_of first.now)).ports in_port }
+    requires second { IsReceivingPort (world_of (forwarding_of second.now)).ports in_port }
     ensures { IfOk result (λ tried. (steps : ℕ) →
         TriedIs compared (world_of (forwarding_of first.now)) (world_of (forwarding_of second.now)) steps frames.now tried) }
 {
-    if !receiving_port(first.port_list(), in_port) {
-        return Ok(Tried::Undecided(Why::Search));
-    }
-    if !receiving_port(second.port_list(), in_port) {
-        return Ok(Tried::Undecided(Why::Search));
-    }
     let left = first.received_items(alloc, in_port, &frame, &mut NoLog)?;
     let right = second.received_items(alloc, in_port, &frame, &mut NoLog)?;
     match first_difference(alloc, compared, &left, &right)? {
@@ -138,6 +137,8 @@ fn try_frame<L: Lookup>(
     frames: &FrameSet,
     steps: usize,
 ) -> Result<Tried, AllocError>
+    requires ports { SamePorts first.now.ports second.now.ports }
+    requires received { AreReceived (world_of (forwarding_of first.now)).ports frames.now }
     ensures { IfOk result (TriedIs compared (world_of (forwarding_of first.now)) (world_of (forwarding_of second.now)) steps frames.now) }
 {
     match frames.find(alloc, steps)? {
@@ -159,6 +160,8 @@ fn try_frame_with<L: Lookup>(
     condition: MatchField,
     steps: usize,
 ) -> Result<Tried, AllocError>
+    requires ports { SamePorts first.now.ports second.now.ports }
+    requires received { AreReceived (world_of (forwarding_of first.now)).ports frames.now }
     requires alike { SomeIsAlike compared (world_of (forwarding_of first.now)) (world_of (forwarding_of second.now)) frames.now }
     requires condition { AreConditions (condition ∷ []) }
     ensures { IfOk result (TriedIs compared (world_of (forwarding_of first.now)) (world_of (forwarding_of second.now)) steps frames.now) }
@@ -180,6 +183,8 @@ fn try_conditions<L: Lookup>(
     conditions: &[MatchField],
     steps: usize,
 ) -> Result<Tried, AllocError>
+    requires ports { SamePorts first.now.ports second.now.ports }
+    requires received { AreReceived (world_of (forwarding_of first.now)).ports frames.now }
     requires alike { SomeIsAlike compared (world_of (forwarding_of first.now)) (world_of (forwarding_of second.now)) frames.now }
     requires conditions { AreConditions conditions.now }
     ensures { IfOk result (TriedIs compared (world_of (forwarding_of first.now)) (world_of (forwarding_of second.now)) steps frames.now) }
@@ -203,6 +208,8 @@ fn try_frames<L: Lookup>(
     ingress: u32,
     steps: usize,
 ) -> Result<Tried, AllocError>
+    requires ports { SamePorts first.now.ports second.now.ports }
+    requires received { AreReceived (world_of (forwarding_of first.now)).ports pair.now.frames }
     ensures { IfOk result (TriedIs compared (world_of (forwarding_of first.now)) (world_of (forwarding_of second.now)) steps pair.now.frames) }
 {
     match try_frame(alloc, first, second, compared, &pair.frames, steps)? {
@@ -226,6 +233,8 @@ pub fn try_pair<'a, L: Lookup>(
     ingress: u32,
     steps: usize,
 ) -> Result<Next<'a>, AllocError>
+    requires ports { SamePorts first.now.ports second.now.ports }
+    requires received { AreReceived (world_of (forwarding_of first.now)).ports pair.frames }
     requires settled { AreSettled (world_of (forwarding_of first.now)) (world_of (forwarding_of second.now)) pair }
     requires differ { pair.first.emitted.items ≢ pair.second.emitted.items }
     ensures { IfOk result (NextIs compared (world_of (forwarding_of first.now)) (world_of (forwarding_of second.now)) steps pair.entry) }

@@ -5,6 +5,7 @@ ghost use Rattle.of_datapath.specs.Numbers.{forwarding_of};
 ghost use Rattle.of_diff.specs.Changing.{IsAgreement};
 ghost use Rattle.of_alike.specs.SamePorts.{SamePorts};
 ghost use Rattle.of_diff.specs.SoFar.{NextIs};
+ghost use Rattle.of_symbolic_run.specs.Received.{AreReceived};
 ghost use Rattle.of_alike.specs.declared.alike.Compared.{Compared as WhatIsCompared};
 ghost use Rattle.of_symbolic_run.specs.States.{answer_to_tasks};
 ghost use Rattle.of_symbolic_run.specs.declared.advance.Advance.TheVariants.{Lookup as WantsLookup};
@@ -87,7 +88,8 @@ fn step_one<'a, L: Lookup>(
     pair: Pair<'a>,
     steps: usize,
 ) -> Result<Next<'a>, AllocError>
-    requires { SamePorts first.now.ports second.now.ports }
+    requires ports { SamePorts first.now.ports second.now.ports }
+    requires received { AreReceived (world_of (forwarding_of first.now)).ports pair.frames }
     ensures { IfOk result (NextIs compared (world_of (forwarding_of first.now)) (world_of (forwarding_of second.now)) steps pair.entry) }
 {
     match next_turn(&pair.first.tasks, &pair.second.tasks) {
@@ -108,6 +110,7 @@ pub fn step_pair<'a, L: Lookup>(
     steps: usize,
 ) -> Result<Next<'a>, AllocError>
     requires ports { SamePorts first.now.ports second.now.ports }
+    requires received { AreReceived (world_of (forwarding_of first.now)).ports pair.frames }
     requires agreement { IfSome agreement.now (IsAgreement (forwarding_of first.now) (forwarding_of second.now)) }
     ensures { IfOk result (NextIs compared (world_of (forwarding_of first.now)) (world_of (forwarding_of second.now)) steps pair.entry) }
 {

@@ -6,6 +6,7 @@ use Rattle.std.specs.List.{Contains}
 use Rattle.of_datapath.specs.Datapath.{Forwarding, world_of}
 use Rattle.of_diff.specs.Comparing.{AreDifferences}
 use Rattle.of_diff.specs.Differences.{InDifferences, InUndecided}
+use Rattle.of_diff.specs.SameSwitches.{IsNothing}
 use Rattle.of_alike.specs.declared.alike.Compared.{Compared}
 use Rattle.of_diff.specs.declared.difference.Difference.{Difference}
 use Rattle.of_diff.specs.declared.difference.Differences.{Differences}
@@ -37,8 +38,8 @@ by_lists c steps f g missing limits true e ds [] undecided a b h = rw (e, a) tt
 by_lists c steps f g missing limits true e ds (d ∷ others) undecided a b h = rw (e, a, some_more (length others)) (d, h.real d (rw a (0, omega arith, refl)))
 
 pub verdict_means : (c : Compared) (steps : ℕ) (f g : Forwarding) (missing : List ℕ) (limits : Option Limits) (found : Option Differences) → AreFoundBetween c steps f g found → IsVerdict c f g (diff_verdict missing limits found)
-verdict_means c steps f g missing limits None h = h
-verdict_means c steps f g missing limits (Some ds) h = by_lists c steps f g missing limits (is_reserved missing limits) refl ds ds.found.items ds.undecided.items refl refl h
+verdict_means c steps f g missing limits None h = h.all
+verdict_means c steps f g missing limits (Some ds) h = by_lists c steps f g missing limits (is_reserved missing limits) refl ds ds.found.items ds.undecided.items refl refl h.all
 
 -- all frames are treated alike for certain only if no port is missing and the miss_send_len are the same
 open_or_differs : (none : Bool) → (if none then Open else Differs) ≡ Same → ⊥
@@ -56,3 +57,8 @@ none_there (port ∷ ports) h = absurd (let some : is_reserved (port ∷ ports) 
 pub same_misses_none : (missing : List ℕ) (limits : Option Limits) (ds : Differences) → verdict_on missing limits ds ≡ Same → (missing ≡ []) × (limits ≡ None)
 same_misses_none missing None ds h = (none_there missing (unreserved missing None ds (is_reserved missing None) refl h), refl)
 same_misses_none missing (Some l) ds h = absurd (let none : is_reserved missing (Some l) ≡ false = unreserved missing (Some l) ds (is_reserved missing (Some l)) refl h in cc)
+
+-- nothing is found, no port is missing, and the miss_send_len are the same
+pub nothing_is_same : (missing : List ℕ) (limits : Option Limits) (found : Option Differences) → IsNothing found → missing ≡ [] → limits ≡ None → diff_verdict missing limits found ≡ Same
+nothing_is_same missing limits None nothing none same = absurd nothing
+nothing_is_same missing limits (Some ds) nothing none same = rw (none, same, nothing.0, nothing.1) refl

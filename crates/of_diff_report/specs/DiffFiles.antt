@@ -6,6 +6,7 @@ use Rattle.of_replay.specs.declared.event_file.Ended.TheVariants.{Done}
 use Rattle.of_symbolic_run.specs.Received.{IsReceivedAt}
 use Rattle.of_diff.specs.Comparing.{AreDifferences}
 use Rattle.of_diff.specs.Differences.{IsDifference, IsTreatedAlike}
+use Rattle.of_diff.specs.SameSwitches.{AreSameSwitches, IsNothing}
 use Rattle.of_alike.specs.SamePorts.{SamePorts}
 use Rattle.of_alike.specs.declared.alike.Compared.{Compared}
 use Rattle.of_diff.specs.declared.difference.Difference.{Difference}
@@ -21,10 +22,15 @@ use Rattle.of_diff_report.specs.declared.telling.Told.{Told}
 use Rattle.of_diff_report.specs.DiffJson.{diff_json, other_ports_json}
 use Rattle.of_diff_report.specs.Telling.{AreTold}
 
--- what is found about two switches: nothing if their ports differ, else the differences, and for all other frames that they are treated alike or undecided
-abbrev pub AreFoundBetween : Compared → ℕ → Forwarding → Forwarding → Option Differences → Type 0
-AreFoundBetween c steps f g None = SamePorts f.ports g.ports → ⊥
-AreFoundBetween c steps f g (Some ds) = AreDifferences c (world_of f) (world_of g) steps ds
+-- none if their ports differ, else the differences, and for all other frames that they are treated alike or undecided
+abbrev pub AreAllBetween : Compared → ℕ → Forwarding → Forwarding → Option Differences → Type 0
+AreAllBetween c steps f g None = SamePorts f.ports g.ports → ⊥
+AreAllBetween c steps f g (Some ds) = AreDifferences c (world_of f) (world_of g) steps ds
+
+-- what is found about two switches; if they say the same, no frame is treated otherwise, and none is undecided
+pub record AreFoundBetween (c : Compared) (steps : ℕ) (f g : Forwarding) (found : Option Differences) : Type 0 where
+  pub all : AreAllBetween c steps f g found
+  pub same : AreSameSwitches f g → IsNothing found
 
 -- in words or as JSON, with the flow entries of both switches, the ports that are named and missing, and the miss_send_len if they differ
 abbrev pub diff_text : DiffForm → FileFlows → FileFlows → List ℕ → Option Limits → Forwarding → List Told → Differences → List ℕ

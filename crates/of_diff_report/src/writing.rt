@@ -4,6 +4,7 @@ ghost use Rattle.of_datapath.specs.Datapath.{Forwarding, world_of};
 ghost use Rattle.of_replay.specs.FileRuns.{Writes, ended_as};
 ghost use Rattle.of_symbolic_run.specs.Received.{IsReceivedAt};
 ghost use Rattle.of_diff.specs.Differences.{IsDifference, IsTreatedAlike};
+ghost use Rattle.of_diff.specs.SameSwitches.{AreSameSwitches, IsNothing};
 ghost use Rattle.of_alike.specs.declared.alike.Compared.{Compared as WhatIsCompared};
 ghost use Rattle.of_diff_report.specs.DiffFiles.{AreFoundBetween, IsDiffReport, IsTextFound, IsVerdict, diff_text, diff_verdict, other_ports_text, verdict_on};
 ghost use Rattle.of_diff_report.specs.DiffWords.{other_limits};
@@ -136,6 +137,7 @@ fn verdict_of(of: &Reserved<'_>, found: &Option<Differences>) -> DiffVerdict
     ensures means { (c : WhatIsCompared) (steps : ℕ) (f g : Forwarding) → AreFoundBetween c steps f g found.now → IsVerdict c f g result }
     ensures none_missing { result ≡ DiffVerdict.Same → of.now.missing.now ≡ [] }
     ensures same_limits { result ≡ DiffVerdict.Same → of.now.limits ≡ None }
+    ensures nothing { IsNothing found.now → of.now.missing.now ≡ [] → of.now.limits ≡ None → result ≡ DiffVerdict.Same }
 {
     match found {
         None => DiffVerdict::OtherPorts,
@@ -176,6 +178,9 @@ pub fn write_differences<L: Lookup, W: Sink>(
     ensures none_missing { result ≡ Ok DiffVerdict.Same → missing.now ≡ [] }
     ensures same_limits { result ≡ Ok DiffVerdict.Same →
         other_limits compared first.now.switch.now.core.control.config.miss_send_len second.now.switch.now.core.control.config.miss_send_len ≡ None }
+    ensures same_switches { AreSameSwitches first.now.switch.now.core.forwarding second.now.switch.now.core.forwarding → missing.now ≡ [] →
+        other_limits compared first.now.switch.now.core.control.config.miss_send_len second.now.switch.now.core.control.config.miss_send_len ≡ None →
+        IfOk result (λ verdict. verdict ≡ DiffVerdict.Same) }
     ensures write_fault { (ended_as result ≡ Ended.WriteFault) ↔ (0 < W.failures writer.new) }
 {
     let of = Reserved {

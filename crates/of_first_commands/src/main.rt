@@ -3,7 +3,7 @@
 #![tactic(auto)]
 
 use of_cache::Cached;
-use of_hints::{Seen, end, end_file};
+use of_hints::{OutputReader, Seen, Stream, end, end_file};
 use of_mask_groups::MaskGroups;
 use of_replay::streams::{ReaderSource, WriterSink};
 use of_replay::{Ended, Plain, asm, dis, print_file};
@@ -43,14 +43,16 @@ fn command_of(word: &str) -> Option<Command> {
 fn run(rt: &HostRuntime, command: Command, bytes: &[u8]) -> Ended {
     let alloc = rt.alloc();
     let mut reader = ReaderSource::new(bytes);
-    let mut writer = WriterSink::new(rt.stdout());
-    match command {
+    let output = OutputReader::new();
+    let mut writer = WriterSink::new(Stream::new(rt.stdout(), &output));
+    let ended = match command {
         Command::Replay => {
             print_file::<Lookups, _, _, _>(alloc, DPID, READS, &Plain, &mut reader, &mut writer)
         }
         Command::Assemble => asm(alloc, &mut reader, &mut writer),
         Command::Disassemble => dis::<Lookups, _, _>(alloc, &mut reader, &mut writer),
-    }
+    };
+    output.end(ended)
 }
 
 fn run_file(rt: &HostRuntime, command: Command, path: &str) -> ExitCode {

@@ -5,6 +5,7 @@ ghost use Rattle.std.specs.Prelude.{IfSome};
 use crate::action_lines::{ActionWords, action_of};
 use crate::forms::{EVENT_ROWS, FLOW_LINES, Form, LineNames, RowNames, form_of};
 use crate::layout::{LayoutFault, layout_fault, text_fault};
+use crate::marked::Place;
 use crate::words::{WordFault, action_fault, words_fault};
 use of_text::is_passed_over;
 use thiserror::Error;
@@ -32,6 +33,26 @@ pub enum Hint {
     Controller,
     #[error("the words are right, but the line is out of place: {0}")]
     Order(&'static str),
+}
+
+impl Hint {
+    /// The number of the word that is wrong, from 1; None if it is no single one.
+    pub fn word(&self) -> Option<usize> {
+        match self {
+            Hint::Words(WordFault::Word { place, .. }) => Some(*place),
+            _ => None,
+        }
+    }
+
+    /// Where it is in the line.
+    pub fn place(&self, line: &[u8]) -> Place {
+        match self {
+            Hint::Words(WordFault::Word { place, .. }) => Place::of_word(line, *place),
+            Hint::UnknownRow(_) | Hint::UnknownLine(_, _) => Place::of_word(line, 1),
+            Hint::Comment => Place::of_part(line, b"#"),
+            _ => Place::whole(line),
+        }
+    }
 }
 
 // Whether a word before an equals sign is one that lines of ovs-ofctl have.
@@ -105,13 +126,30 @@ pub fn event_row_hint(line: &[u8]) -> Hint
     fault(line, &EVENT_ROWS, Some(other_than_row(line))).unwrap_or(Hint::Controller)
 }
 
+// The rule of the order of lines for a line of this name.
+fn order_of(line: &[u8]) -> &'static str {
+    let name = match form_of(line, &FLOW_LINES) {
+        Some((form, _)) => std::str::from_utf8(form.name).unwrap_or(""),
+        None => "",
+    };
+    match name {
+        "group" => "groups come before all flows, in ascending order of number",
+        "bucket" => "a bucket comes below its group, behind the buckets before it",
+        "match" => {
+            "the matches of a flow come below it, in the order of fields, each once; a mask of all ones is left out, and so is a field whose mask is 0"
+        }
+        "" => "an action comes below the bucket, apply or write that it belongs to",
+        _ => {
+            "the instructions of a flow come below its matches, in the order apply, clear, write, metadata, goto, each once"
+        }
+    }
+}
+
 /// What is wrong with a line of a flow text that is a syntax fault.
 pub fn flow_line_hint(line: &[u8]) -> Hint
     ensures { IsSo result line.now }
 {
-    fault(line, &FLOW_LINES, other_line(line)).unwrap_or(Hint::Order(
-        "groups in ascending order of number, each with its buckets and their actions; then flows, each with its match in the order of fields, and apply, clear, write, metadata, goto, once each; a mask of all ones is left out, and so is a field whose mask is 0",
-    ))
+    fault(line, &FLOW_LINES, other_line(line)).unwrap_or(Hint::Order(order_of(line)))
 }
 
 /// What is wrong with a text that is to be imported, apart from its words.

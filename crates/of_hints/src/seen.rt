@@ -3,6 +3,12 @@ use of_wire::front_of;
 use std::alloc::{AllocError, Global};
 use std::io::{self, Read};
 
+/// The line of that number in a text, counted from 1.
+pub fn line_in(text: &[u8], number: u64) -> Option<&[u8]> {
+    let place = usize::try_from(number.checked_sub(1)?).ok()?;
+    text.split(|byte| *byte == b'\n').nth(place)
+}
+
 /// Lines that were read, of which one may be at fault.
 #[derive(Drop)]
 pub struct Seen {
@@ -36,10 +42,7 @@ impl Seen {
         if self.lost {
             return None;
         }
-        let place = number.checked_sub(self.before)?.checked_sub(1)?;
-        self.bytes
-            .split(|byte| *byte == b'\n')
-            .nth(usize::try_from(place).ok()?)
+        line_in(&self.bytes, number.checked_sub(self.before)?)
     }
 
     // Forgets the lines that have ended.

@@ -70,18 +70,52 @@ fn with_colons(word: &[u8]) -> Option<u64> {
     Some(value)
 }
 
-/// The value of a field of so many digits that is written as a decimal number or an address.
-pub fn value_in(word: &[u8], digits: usize) -> Option<u64> {
+// The value of hexadecimal digits: capital ones, fewer than there have to be, or all of them without 0x.
+fn hexadecimal(word: &[u8], digits: usize) -> Option<u64> {
+    let rest = match word.strip_prefix(b"0x") {
+        Some(rest) => rest,
+        None if word.len() == digits && (digits == 12 || !is_decimal(word)) => word,
+        None => return None,
+    };
+    if rest.is_empty() || rest.len() > digits {
+        return None;
+    }
+    let mut value = 0_u64;
+    for digit in rest {
+        value = value.checked_mul(16)?.checked_add(hex_digit(*digit)?)?;
+    }
+    Some(value)
+}
+
+// The largest number of so many hexadecimal digits.
+fn largest_of(digits: usize) -> Option<u64> {
     match digits {
-        4 if is_decimal(word) => value_of(word).filter(|value| *value <= 0xffff),
-        8 if is_decimal(word) => value_of(word).filter(|value| *value <= 0xffff_ffff),
+        2 => Some(0xff),
+        4 => Some(0xffff),
+        8 => Some(0xffff_ffff),
+        12 => Some(0xffff_ffff_ffff),
+        16 => Some(u64::MAX),
+        _ => None,
+    }
+}
+
+/// The value of a field of so many digits that is written as a number in another form, or as an address.
+pub fn value_in(word: &[u8], digits: usize) -> Option<u64> {
+    let largest = largest_of(digits)?;
+    if let Some(value) = hexadecimal(word, digits) {
+        return Some(value);
+    }
+    if is_decimal(word) {
+        return value_of(word).filter(|value| *value <= largest);
+    }
+    match digits {
         8 => dotted(word),
         12 => with_colons(word),
         _ => None,
     }
 }
 
-/// The value and the mask of a prefix such as 10.0.0.0/8.
+/// The value and the mask of a prefix such as 10.0.0.0/8 or 0x0a000000/8.
 pub fn prefix_in(word: &[u8]) -> Option<(u64, u64)> {
     let place = word.iter().position(|byte| *byte == b'/')?;
     let (address, rest) = word.split_at(place);
@@ -92,5 +126,5 @@ pub fn prefix_in(word: &[u8]) -> Option<(u64, u64)> {
     let bits = value_of(bits).filter(|bits| 1 <= *bits && *bits <= 31)?;
     let free = 32_u64.checked_sub(bits)?;
     let all = u32::MAX.checked_shl(u32::try_from(free).ok()?)?;
-    Some((dotted(address)?, u64::from(all)))
+    Some((value_in(address, 8)?, u64::from(all)))
 }

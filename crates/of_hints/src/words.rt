@@ -16,7 +16,7 @@ pub enum WordFault {
     #[error("a missing or extra word: write {0}")]
     Action(ActionUsage),
     /// Words count from 1.
-    #[error("word {place}: {wanted}")]
+    #[error("{wanted}")]
     Word { place: usize, wanted: Wanted },
 }
 
@@ -49,7 +49,7 @@ pub enum Wanted {
     Field,
 }
 
-/// A number of 4, 8 or 12 hexadecimal digits.
+/// A number of 2, 4, 8, 12 or 16 hexadecimal digits.
 #[derive(Clone, Copy, Debug)]
 pub struct HexNumber {
     digits: usize,
@@ -59,8 +59,10 @@ pub struct HexNumber {
 impl Display for HexNumber {
     fn fmt<W: fmt::Write>(&self, f: &mut Formatter<W>) -> fmt::Result {
         match self.digits {
+            2 => write!(f, "0x{:02x}", self.value),
             4 => write!(f, "0x{:04x}", self.value),
             8 => write!(f, "0x{:08x}", self.value),
+            16 => write!(f, "0x{:016x}", self.value),
             _ => write!(f, "0x{:012x}", self.value),
         }
     }

@@ -22,9 +22,10 @@ pub use import::{
 };
 pub use kept::{KeptLines, LineRefusal};
 pub use laws::comments_change_nothing;
-pub use line::FlowMarks;
+pub use line::{FlowMarks, LineContent, begins_group, read_line, trimmed};
 pub use mode::Mode;
 pub use of_ovs_words::{Why, name_of, value_of};
 pub use parsed_lines::{FlowLine, GroupLine, LineFaults};
+pub use partial_flow::begins_actions;
 pub use port_names::with_port_numbers;
 pub use word_fault::WordFault;

@@ -270,8 +270,8 @@ fn names_group(text: &[u8]) -> bool
     is(name_of(text), b"group_id") || is(name_of(text), b"type")
 }
 
-// Whether it is a group, also behind a command.
-fn begins_group(text: &[u8]) -> bool
+/// Whether it is a group, also behind a command. There is no white space before it.
+pub fn begins_group(text: &[u8]) -> bool
     ensures { result ≡ begins_group_so text.now }
 {
     let (word, rest) = cut_word(text);

@@ -8,9 +8,9 @@ use Rattle.of_rewrite.specs.Frames.{IsFrame}
 use Rattle.of_oxm.specs.declared.match_field.MatchField.{MatchField}
 use Rattle.of_machine.specs.declared.data.Step.{Step}
 use Rattle.of_machine.specs.TheWorld.{TheWorld}
-use Rattle.of_symbolic_run.specs.FrameSets.{InFrames}
+use Rattle.of_symbolic_run.specs.declared.finding.FrameFound.TheVariants.{Undecided}
+use Rattle.of_symbolic_run.specs.FrameSets.{FindsFrame, InFrames}
 use Rattle.of_symbolic_run.specs.Received.{IsReceivedAt, items_at}
-use Rattle.of_symbolic_run.specs.Unfound.{FindsNone}
 use Rattle.of_paths.specs.declared.path.Merging.{Merging}
 use Rattle.of_paths.specs.declared.path.Merging.TheVariants.{Each, SameWay}
 use Rattle.of_paths.specs.declared.path.Path.{Path}
@@ -46,7 +46,7 @@ found_undecided m w within steps old new u classes undecided reason h = record {
 }
 
 module _ (w : TheWorld) (steps : ℕ) (p : Path) where
-  pub puts_unfound : (old new : Paths) → FindsNone w steps p.frames → new.classes ≡ old.classes → new.undecided.items ≡ old.undecided.items ++ unfound p ∷ [] → PutsAlone w steps p old new
+  pub puts_unfound : (old new : Paths) → FindsFrame p.frames steps Undecided → new.classes ≡ old.classes → new.undecided.items ≡ old.undecided.items ++ unfound p ∷ [] → PutsAlone w steps p old new
   puts_unfound old new none classes undecided m other =
       let same : new.classes.items ≡ old.classes.items = ap (λ (v : Vec PathClass). v.items) classes in
       record {

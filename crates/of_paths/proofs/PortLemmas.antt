@@ -60,7 +60,7 @@ module _ (w : TheWorld) (within : List MatchField) (port : ℕ) (c : PathClass) 
   way_in frame q received there = ap way_of ((class.paths there.0 there.1).takes frame q received there.2) ∙ class.way there.0 there.1
 
   pub came_in : (frame : List ℕ) (q : ℕ) → q < 2 ^ 32 → InPaths c.paths.items frame q → q ≡ port
-  came_in frame q small there = (matched_from within port frame q small ((class.paths there.0 there.1).matched frame q there.2)).0
+  came_in frame q small there = (matched_from within port frame q small ((class.paths there.0 there.1).matched.matched frame q there.2)).0
 
   -- its frame
   own : InPaths c.paths.items c.frame.items c.in_port

@@ -14,11 +14,12 @@ use Rattle.of_symbolic.specs.Parts.{received_fields}
 use Rattle.of_symbolic_run.specs.declared.dividing.Case.{Case}
 use Rattle.of_symbolic_run.specs.declared.state.SymbolicState.{SymbolicState}
 use Rattle.of_symbolic_run.specs.Cases.{AreCases}
-use Rattle.of_symbolic_run.specs.FrameSets.{InFrames}
+use Rattle.of_symbolic_run.specs.declared.finding.FrameFound.TheVariants.{Undecided}
+use Rattle.of_symbolic_run.specs.declared.frame_set.FrameSet.{FrameSet}
+use Rattle.of_symbolic_run.specs.FrameSets.{FindsFrame, InFrames}
 use Rattle.of_symbolic_run.specs.NextStates.{AreNextStates, IsNextState}
 use Rattle.of_symbolic_run.specs.States.{IsAt, items_for}
-use Rattle.of_symbolic_run.specs.Received.{IsReceivedAt}
-use Rattle.of_symbolic_run.specs.Unfound.{FindsNone}
+use Rattle.of_symbolic_run.specs.Received.{AreReceived, IsReceivedAt}
 use Rattle.of_paths.specs.declared.path.Merging.{Merging}
 use Rattle.of_paths.specs.declared.path.Merging.TheVariants.{Each, SameWay}
 use Rattle.of_paths.specs.declared.path.Path.{Path}
@@ -30,6 +31,7 @@ use Rattle.of_paths.specs.Paths.{ArePaths, AreMerged}
 use Rattle.of_paths.specs.Reasons.{AreLeftAfter, AreMatched, AreUndecided, IsFirstCase, IsReason, IsStateOfRuns}
 use Rattle.of_paths.specs.SoFar.{ArePathsSoFar, AreRunsOf, InCases, IsFoundIn, PutsPath, unfound}
 use Rattle.of_symbolic_run.proofs.NextLemmas.{one_apart}
+use Rattle.of_symbolic_run.proofs.ReceivedLemmas.{fewer_received}
 use Rattle.of_paths.proofs.FoundLemmas.{found_undecided, last_undecided, more_undecided}
 use Rattle.of_paths.proofs.ReachedLemmas.{from_reverse, last_of_run, to_reverse}
 
@@ -115,14 +117,17 @@ module _ (m : Merging) (w : TheWorld) (within : List MatchField) (steps : ℕ) w
     last_holds : IsStateOfRuns w old
     last_holds = h.hold old (Contains-push cases old)
 
-    last_inside : AreMatched within old.frames
+    last_inside : AreMatched w within old.frames
     last_inside = h.inside old (Contains-push cases old)
 
     others_hold : (c : Case) → Contains cases c → IsStateOfRuns w c
     others_hold c there = h.hold c (Contains-append_left cases (old ∷ []) c there)
 
-    others_inside : (c : Case) → Contains cases c → AreMatched within c.frames
+    others_inside : (c : Case) → Contains cases c → AreMatched w within c.frames
     others_inside c there = h.inside c (Contains-append_left cases (old ∷ []) c there)
+
+    pub ended_received : (p : Path) → p.frames ≡ old.frames → AreReceived w.ports p.frames
+    ended_received p frames = rw frames last_inside.received
 
     -- a frame of the last case, of another case, or elsewhere
     at_cases : (frame : List ℕ) (port : ℕ) (A : Type 0) → IsSomewhere (cases ++ old ∷ []) found frame port → (InFrames old.frames frame port → A) → (InCases cases frame port → A) → (IsFoundIn found frame port → A) → A
@@ -139,9 +144,12 @@ module _ (m : Merging) (w : TheWorld) (within : List MatchField) (steps : ℕ) w
         | inl before ↦ others_hold c before
         | inr new ↦ (λ frame port is inside. are.at c new frame port is inside (last_holds frame port is (are.within c new frame port inside)))
       ];
-      inside = λ c there. elim (Contains-append_cases cases more c there) as (λ x. AreMatched within c.frames) [
+      inside = λ c there. elim (Contains-append_cases cases more c there) as (λ x. AreMatched w within c.frames) [
         | inl before ↦ others_inside c before
-        | inr new ↦ (λ frame port inside. last_inside frame port (are.within c new frame port inside))
+        | inr new ↦ record {
+          matched = λ frame port inside. last_inside.matched frame port (are.within c new frame port inside);
+          received = fewer_received w.ports old.frames c.frames (are.within c new) last_inside.received;
+        }
       ];
       right = h.right;
       all = λ frame port received matched. at_cases frame port (IsSomewhere (cases ++ more) found frame port) (h.all frame port received matched)
@@ -169,7 +177,7 @@ module _ (m : Merging) (w : TheWorld) (within : List MatchField) (steps : ℕ) w
       hold = others_hold;
       inside = others_inside;
       right = puts.found within (record { run = last_of_run w within taken cases old p left done told sent; matched = rw frames last_inside; takes = λ frame port received inside. (runs last_holds).takes frame port received (rw (sym frames) inside); emits = λ frame port received inside. (runs last_holds).emits frame port received (rw (sym frames) inside) })
-          (λ none. last_is_undecided taken (unfound p) most left frames (done, subst (FindsNone w steps) frames none)) h.right;
+          (λ none. last_is_undecided taken (unfound p) most left frames (done, subst (λ (s : FrameSet). FindsFrame s steps Undecided) frames none)) h.right;
       all = λ frame port received matched. at_cases frame port (IsSomewhere cases found' frame port) (h.all frame port received matched)
           (λ inside. inr (puts.own frame port received (rw frames inside)))
           (λ k. inl k)
@@ -189,11 +197,11 @@ module _ (m : Merging) (w : TheWorld) (within : List MatchField) (steps : ℕ) w
 
   -- ---- the beginning and the end
 
-  pub begins : (first : Case) (found : Paths) → found.classes.items ≡ [] → found.undecided.items ≡ [] → IsStateOfRuns w first → AreMatched within first.frames →
+  pub begins : (first : Case) (found : Paths) → found.classes.items ≡ [] → found.undecided.items ≡ [] → IsStateOfRuns w first → AreMatched w within first.frames →
       ((frame : List ℕ) (port : ℕ) → IsReceivedAt w frame port → matches_map within (received_fields frame port) ≡ true → InFrames first.frames frame port) → ArePathsSoFar m w within steps (first ∷ []) found
   begins first found no_classes none holds inside all = record {
     hold = λ c there. subst (IsStateOfRuns w) (one c there) holds;
-    inside = λ c there. subst (λ (x : Case). AreMatched within x.frames) (one c there) inside;
+    inside = λ c there. subst (λ (x : Case). AreMatched w within x.frames) (one c there) inside;
     right = record {
       classes = λ c there. absurd (nothing c (subst (λ (l : List PathClass). Contains l c) no_classes there));
       merged = subst (AreMerged m) (sym no_classes) (none_merged m);

@@ -31,7 +31,7 @@ pub record IsOfRun (w : TheWorld) (p : Path) : Type 0 where
 -- each frame of the path that is received takes its steps, and emits what they emit
 pub record IsPath (w : TheWorld) (within : List MatchField) (p : Path) : Type 0 where
   pub run : IsOfRun w p
-  pub matched : AreMatched within p.frames
+  pub matched : AreMatched w within p.frames
   pub takes : (frame : List ℕ) (port : ℕ) → IsReceivedAt w frame port → InFrames p.frames frame port → lines_at w frame port ≡ p.steps.items
   pub emits : (frame : List ℕ) (port : ℕ) → IsReceivedAt w frame port → InFrames p.frames frame port → items_at w frame port ≡ items_for w.ports p.emitted.items frame port
 

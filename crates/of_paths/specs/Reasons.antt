@@ -9,19 +9,20 @@ use Rattle.of_symbolic.specs.Parts.{received_fields}
 use Rattle.of_symbolic_run.specs.declared.dividing.Case.{Case}
 use Rattle.of_symbolic_run.specs.declared.frame_set.FrameSet.{FrameSet}
 use Rattle.of_symbolic_run.specs.Cases.{AreCases}
-use Rattle.of_symbolic_run.specs.FrameSets.{InFrames}
+use Rattle.of_symbolic_run.specs.declared.finding.FrameFound.TheVariants as found
+use Rattle.of_symbolic_run.specs.FrameSets.{FindsFrame, InFrames}
 use Rattle.of_symbolic_run.specs.NextStates.{AreNextStates, IsFirstState}
 use Rattle.of_symbolic_run.specs.States.{IsAt}
-use Rattle.of_symbolic_run.specs.Received.{IsReceivedAt}
+use Rattle.of_symbolic_run.specs.Received.{AreReceived, IsReceivedAt}
 use Rattle.of_symbolic_run.specs.Sides.{IsUnknownLookup}
-use Rattle.of_symbolic_run.specs.Unfound.{FindsNone}
 use Rattle.of_paths.specs.declared.path.UndecidedFrames.{UndecidedFrames}
 use Rattle.of_paths.specs.declared.path.WhyUndecided.{WhyUndecided}
 use Rattle.of_paths.specs.declared.path.WhyUndecided.TheVariants as why
 
--- each frame of the set is one that conditions match
-abbrev pub AreMatched : List MatchField → FrameSet → Type 0
-AreMatched within frames = (frame : List ℕ) (port : ℕ) → InFrames frames frame port → matches_map within (received_fields frame port) ≡ true
+-- each frame of the set is one that conditions match, and comes in by a port that receives
+pub record AreMatched (w : TheWorld) (within : List MatchField) (frames : FrameSet) : Type 0 where
+  pub matched : (frame : List ℕ) (port : ℕ) → InFrames frames frame port → matches_map within (received_fields frame port) ≡ true
+  pub received : AreReceived w.ports frames
 
 -- the state is that of the run of each frame
 abbrev pub IsStateOfRuns : TheWorld → Case → Type 0
@@ -29,11 +30,11 @@ IsStateOfRuns w c = (frame : List ℕ) (port : ℕ) → IsFrame frame → InFram
 
 -- ---- steps of all runs together
 
--- the beginning: one set of all frames that are received and that conditions match, with the first state
+-- the beginning: one set of the frames that are received and that conditions match, with the first state
 pub record IsFirstCase (w : TheWorld) (within : List MatchField) (c : Case) : Type 0 where
   pub runs : IsStateOfRuns w c
   pub begins : IsFirstState c.state
-  pub matched : AreMatched within c.frames
+  pub matched : AreMatched w within c.frames
   pub all : (frame : List ℕ) (port : ℕ) → IsReceivedAt w frame port → matches_map within (received_fields frame port) ≡ true → InFrames c.frames frame port
 
 -- ONE STEP: the run of the last set of frames takes one step, which may divide the set: its next states take its place, the first one last. Or the set is
@@ -56,15 +57,15 @@ pub record AreLeftAfter (w : TheWorld) (within : List MatchField) (taken : ℕ) 
 
 -- ---- reasons
 
--- it is not known what the lookup of the set finds; or all the steps were taken; or its run is at its end, and no frame of it was found
+-- it is not known what the lookup of the set finds; or all the steps were taken; or its run is at its end, and a search found no frame of it
 abbrev pub IsReason : TheWorld → ℕ → ℕ → Case → WhyUndecided → Type 0
 IsReason w steps taken c why.UnknownTag = IsUnknownLookup w c.state
 IsReason w steps taken c why.Steps = taken ≡ steps
-IsReason w steps taken c why.Search = (c.state.tasks.items ≡ []) × FindsNone w steps c.frames
+IsReason w steps taken c why.Search = (c.state.tasks.items ≡ []) × FindsFrame c.frames steps found.Undecided
 
 -- AN UNDECIDED SET is one of those that are left after some of the steps that the runs may take together, and there is a reason
 pub record AreUndecided (w : TheWorld) (within : List MatchField) (steps : ℕ) (u : UndecidedFrames) : Type 0 where
-  pub matched : AreMatched within u.frames
+  pub matched : AreMatched w within u.frames
   pub taken : ℕ
   pub most : taken ≤ steps
   pub cases : List Case

@@ -7,12 +7,12 @@ use Rattle.of_machine.specs.TheWorld.{TheWorld}
 use Rattle.of_symbolic.specs.Parts.{received_fields}
 use Rattle.of_symbolic_run.specs.declared.dividing.Case.{Case}
 use Rattle.of_symbolic_run.specs.Cases.{AreCases}
-use Rattle.of_symbolic_run.specs.FrameSets.{InFrames}
+use Rattle.of_symbolic_run.specs.declared.finding.FrameFound.TheVariants as found
+use Rattle.of_symbolic_run.specs.FrameSets.{FindsFrame, InFrames}
 use Rattle.of_symbolic_run.specs.NextStates.{AreNextStates}
 use Rattle.of_symbolic_run.specs.Received.{IsReceivedAt, items_at}
 use Rattle.of_symbolic_run.specs.Sides.{IsUnknownLookup}
 use Rattle.of_symbolic_run.specs.States.{items_for}
-use Rattle.of_symbolic_run.specs.Unfound.{FindsNone}
 use Rattle.of_paths.specs.declared.path.Merging.{Merging}
 use Rattle.of_paths.specs.declared.path.Merging.TheVariants.{Each, SameWay}
 use Rattle.of_paths.specs.declared.path.Path.{Path}
@@ -57,7 +57,7 @@ unfound p = record { frames = p.frames; why = Search }
 
 -- they are undecided for a reason
 abbrev pub IsUndecidedIfUnfound : TheWorld → List MatchField → ℕ → Path → Type 0
-IsUndecidedIfUnfound w within steps p = FindsNone w steps p.frames → AreUndecided w within steps (unfound p)
+IsUndecidedIfUnfound w within steps p = FindsFrame p.frames steps found.Undecided → AreUndecided w within steps (unfound p)
 
 -- a path was put to it
 pub record PutsPath (merging : Merging) (w : TheWorld) (steps : ℕ) (p : Path) (old new : Paths) : Type 0 where
@@ -77,6 +77,6 @@ PutsAlone w steps p old new = (merging : Merging) → IsOtherWay merging old p �
 -- all that is known while cases are left
 pub record ArePathsSoFar (merging : Merging) (w : TheWorld) (within : List MatchField) (steps : ℕ) (cases : List Case) (found : Paths) : Type 0 where
   pub hold : (c : Case) → Contains cases c → IsStateOfRuns w c
-  pub inside : (c : Case) → Contains cases c → AreMatched within c.frames
+  pub inside : (c : Case) → Contains cases c → AreMatched w within c.frames
   pub right : AreFoundSoFar merging w within steps found
   pub all : (frame : List ℕ) (port : ℕ) → IsReceivedAt w frame port → matches_map within (received_fields frame port) ≡ true → InCases cases frame port ⊎ IsFoundIn found frame port

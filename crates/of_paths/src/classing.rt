@@ -4,6 +4,8 @@ ghost use Rattle.of_rewrite.specs.Frames.{IsFrame};
 ghost use Rattle.of_datapath.specs.Datapath.{world_of};
 ghost use Rattle.of_datapath.specs.Numbers.{forwarding_of};
 ghost use Rattle.of_symbolic_run.specs.FrameSets.{InFrames};
+ghost use Rattle.of_symbolic_run.specs.PortNumbers.{IsReceivingPort};
+ghost use Rattle.of_symbolic_run.specs.Received.{AreReceived};
 ghost use Rattle.of_paths.specs.declared.path.Merging.TheVariants.{SameWay};
 ghost use Rattle.of_paths.specs.declared.path.WhyUndecided.TheVariants.{Search};
 ghost use Rattle.of_paths.specs.SoFar.{PutsAlone, PutsPath};
@@ -13,7 +15,7 @@ use crate::ways::place_of_way;
 use of_classifier::Lookup;
 use of_datapath::Datapath;
 use of_machine::NoLog;
-use of_symbolic_run::{FrameFound, FrameSet, receiving_port};
+use of_symbolic_run::{FrameFound, FrameSet};
 use std::alloc::{AllocError, Global};
 
 // No frame of the path is known that the switch receives.
@@ -40,11 +42,9 @@ fn push_class<L: Lookup>(
     requires frame_is { IsFrame frame.items }
     requires short { length frame.items ≤ 9216 }
     requires within { InFrames path.frames frame.items in_port }
+    requires receives { IsReceivingPort (world_of (forwarding_of datapath.now)).ports in_port }
     ensures { OnOk result ((steps : ℕ) → PutsAlone (world_of (forwarding_of datapath.now)) steps path found.old found.new) }
 {
-    if !receiving_port(datapath.port_list(), in_port) {
-        return push_unfound(path.frames, found);
-    }
     let items = datapath.received_items(alloc, in_port, &frame, &mut NoLog)?;
     let mut paths = Vec::new(alloc);
     paths.push(path)?;
@@ -65,6 +65,7 @@ fn put_alone<L: Lookup>(
     steps: usize,
     found: &mut Paths,
 ) -> Result<(), AllocError>
+    requires { AreReceived (world_of (forwarding_of datapath.now)).ports path.frames }
     ensures { OnOk result (PutsAlone (world_of (forwarding_of datapath.now)) steps path found.old found.new) }
 {
     match path.frames.find(alloc, steps)? {
@@ -84,6 +85,7 @@ fn put_merged<L: Lookup>(
     steps: usize,
     found: &mut Paths,
 ) -> Result<(), AllocError>
+    requires { AreReceived (world_of (forwarding_of datapath.now)).ports path.frames }
     ensures { OnOk result (PutsPath SameWay (world_of (forwarding_of datapath.now)) steps path found.old found.new) }
 {
     match place_of_way(&found.classes, &path.steps) {
@@ -105,6 +107,7 @@ pub fn put_path<L: Lookup>(
     steps: usize,
     found: &mut Paths,
 ) -> Result<(), AllocError>
+    requires { AreReceived (world_of (forwarding_of datapath.now)).ports path.frames }
     ensures { OnOk result (PutsPath merging (world_of (forwarding_of datapath.now)) steps path found.old found.new) }
 {
     match merging {

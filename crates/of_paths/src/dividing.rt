@@ -10,8 +10,10 @@ ghost use Rattle.of_symbolic.specs.Parts.{received_fields};
 ghost use Rattle.of_symbolic_run.specs.FrameSets.{InFrames};
 ghost use Rattle.of_symbolic_run.specs.NextStates.{IsFirstState};
 ghost use Rattle.of_symbolic_run.specs.declared.dividing.Case.{Case as ACase};
-ghost use Rattle.of_symbolic_run.specs.Received.{IsReceivedAt};
+ghost use Rattle.of_symbolic_run.specs.Received.{AreReceived, IsReceivedAt};
 ghost use Rattle.of_paths.specs.declared.path.Merging.{Merging as AMerging};
+ghost use Rattle.of_paths.specs.declared.path.Path.{Path as APath};
+ghost use Rattle.of_paths.specs.declared.stepping.Next.TheVariants.{Ended};
 ghost use Rattle.of_paths.specs.Paths.{ArePaths};
 ghost use Rattle.of_paths.specs.Reasons.{AreLeftAfter, AreMatched, IsStateOfRuns};
 ghost use Rattle.of_paths.specs.SoFar.{ArePathsSoFar, IsNextOf};
@@ -35,6 +37,7 @@ fn put_next<'a, L: Lookup>(
     cases: &mut Vec<Case<'a>>,
     found: &mut Paths,
 ) -> Result<(), AllocError>
+    requires { (path : APath) → next ≡ Ended path → AreReceived (world_of (forwarding_of datapath.now)).ports path.frames }
     ensures taken { OnOk result ((within : List AMatchField) (taken : ℕ) (old : ACase) → IsNextOf (world_of (forwarding_of datapath.now)) old next.entry →
         AreLeftAfter (world_of (forwarding_of datapath.now)) within taken (cases.old.items ++ old ∷ []) →
         AreLeftAfter (world_of (forwarding_of datapath.now)) within (taken + 1) cases.new.items) }
@@ -74,7 +77,7 @@ fn leave_undecided<'a>(cases: Vec<Case<'a>>, found: &mut Paths) -> Result<(), Al
     Ok(())
 }
 
-// The state before any step, for the frames that conditions match.
+// The state before any step, for the frames that are received and that conditions match.
 fn first_case<'a, L: Lookup>(
     alloc: Global,
     datapath: &Datapath<L>,
@@ -83,7 +86,7 @@ fn first_case<'a, L: Lookup>(
     requires { AreConditions within.now }
     ensures holds { IfOk result (IsStateOfRuns (world_of (forwarding_of datapath.now))) }
     ensures begins { IfOk result (λ case. IsFirstState case.state) }
-    ensures within { IfOk result (λ case. AreMatched within.now case.frames) }
+    ensures within { IfOk result (λ case. AreMatched (world_of (forwarding_of datapath.now)) within.now case.frames) }
     ensures all { IfOk result (λ case. (frame : List ℕ) (port : ℕ) → IsReceivedAt (world_of (forwarding_of datapath.now)) frame port →
         matches_map within.now (received_fields frame port) ≡ true → InFrames case.frames frame port) }
 {

@@ -95,6 +95,18 @@ module _ (mask known bits said ones bit : ℕ) (under : bit_and known mask ≡ k
       let c : bit_at (bit_and bit mask) i ≡ bit_at 0 i = ap (λ (n : ℕ). bit_at n i) new in
       omega (arith, a, b, c, bit_at-zero i, bit_at_and known mask i, bit_at_and w (bit_or mask bit) i, bit_at_or mask bit i, bit_at_or known bit i, bit_at_and bit mask i, bit_at_and w mask i, bit_at-lt w i, bit_at-lt mask i, bit_at-lt bit i, bit_at-lt known i))
 
+  pub high_has : (w : ℕ) → bit_and w (bit_or mask bit) ≡ bit_or known bit → bit_and w bit ≡ bit
+  high_has w h = same_from_bits _ _ (λ i.
+      let b : bit_at (bit_and w (bit_or mask bit)) i ≡ bit_at (bit_or known bit) i = ap (λ (n : ℕ). bit_at n i) h in
+      omega (arith, b, bit_at_and w (bit_or mask bit) i, bit_at_or mask bit i, bit_at_or known bit i, bit_at_and w bit i, bit_at-lt w i, bit_at-lt mask i, bit_at-lt bit i, bit_at-lt known i))
+
+  pub low_lacks : (w : ℕ) → bit_and w (bit_or mask bit) ≡ known → bit_and w bit ≡ 0
+  low_lacks w h = same_from_bits _ _ (λ i.
+      let a : bit_at (bit_and known mask) i ≡ bit_at known i = ap (λ (n : ℕ). bit_at n i) under in
+      let b : bit_at (bit_and w (bit_or mask bit)) i ≡ bit_at known i = ap (λ (n : ℕ). bit_at n i) h in
+      let c : bit_at (bit_and bit mask) i ≡ bit_at 0 i = ap (λ (n : ℕ). bit_at n i) new in
+      omega (arith, a, b, c, bit_at-zero i, bit_at_and known mask i, bit_at_and w (bit_or mask bit) i, bit_at_or mask bit i, bit_at_and bit mask i, bit_at_and w bit i, bit_at-lt w i, bit_at-lt mask i, bit_at-lt bit i, bit_at-lt known i))
+
   -- a packet has the bit or lacks it
   low_more : (w : ℕ) → bit_and w mask ≡ known → bit_and w bit ≡ 0 → bit_and w (bit_or mask bit) ≡ known
   low_more w h z = same_from_bits _ _ (λ i.
@@ -147,6 +159,7 @@ module _ (mask known bits said ones bit : ℕ) (under : bit_and known mask ≡ k
 -- ---- a field of a match that crosses a region
 
 pub record Crossing (e : MatchField) (mask known bit : ℕ) : Type 0 where
+  pub looked_at : IsBitOf (bits_looked_at e) bit
   pub within : bit_and bit (ones_of e.field) ≡ bit
   pub new : bit_and bit mask ≡ 0
 
@@ -175,6 +188,7 @@ pub crossing : (e : MatchField) (mask known rest bit : ℕ) → IsCondition e �
 crossing e mask known rest bit k w b =
     let looked : bit_and bit (bits_looked_at e) ≡ bit = ap (λ (n : ℕ). bit_and n (bits_looked_at e)) (sym b.among) ∙ and_assoc (bits_looked_at e) bit rest ∙ ap (bit_and bit) w.among ∙ b.among in
     record {
+      looked_at = record { place = b.place; is = b.is; among = looked };
       within = ap (λ (n : ℕ). bit_and n (ones_of e.field)) (sym looked) ∙ and_assoc (ones_of e.field) bit (bits_looked_at e) ∙ ap (bit_and bit) k.within ∙ looked;
       new = ap (λ (n : ℕ). bit_and n mask) (sym b.among) ∙ and_assoc mask bit rest ∙ ap (bit_and bit) w.none ∙ and_zero bit;
     }

@@ -11,7 +11,7 @@ use Rattle.of_frames.specs.declared.shape.Rule.{Rule}
 use Rattle.of_frames.specs.declared.shape.Rule.TheVariants.{Free, Absent, Under}
 use Rattle.of_regions.specs.Known.{is_known_by}
 use Rattle.of_regions.proofs.JoiningLemmas.{parts, whole}
-use Rattle.of_regions.proofs.DividingLemmas.{high_less, high_or_low, high_said, high_under, low_less, low_under, more_ruled, more_within, not_both}
+use Rattle.of_regions.proofs.DividingLemmas.{high_has, high_less, high_or_low, high_said, high_under, low_lacks, low_less, low_under, more_ruled, more_within, not_both}
 
 -- ---- a bit more of a field
 
@@ -111,6 +111,14 @@ module _ (masks known : Field → Option ℕ) (field : Field) (mask bits place b
         | inl high ↦ inl (set_among masks known masks1 known1 field (Some (bit_or mask bit)) (Some (bit_or bits bit)) masks1_are known1_are map h high)
         | inr low ↦ inr (set_among masks known masks2 known2 field (Some (bit_or mask bit)) (Some bits) masks2_are known2_are map h low)
       ]
+
+  pub part_has : (map : Field → Option ℕ) → IsAmong masks1 known1 map → seen (Some bit) (map field) ≡ Some bit
+  part_has map h = seen_less bit bit (bit_or mask bit) (bit_or bits bit) (high_has mask bits 0 0 0 bit under new) (map field)
+      (own_among masks known masks1 known1 field (Some (bit_or mask bit)) (Some (bit_or bits bit)) masks1_are known1_are map h)
+
+  pub part_lacks : (map : Field → Option ℕ) → IsAmong masks2 known2 map → seen (Some bit) (map field) ≡ Some 0
+  part_lacks map h = seen_less bit 0 (bit_or mask bit) bits (low_lacks mask bits 0 0 0 bit under new) (map field)
+      (own_among masks known masks2 known2 field (Some (bit_or mask bit)) (Some bits) masks2_are known2_are map h)
 
   pub parts_apart : (map : Field → Option ℕ) → IsAmong masks1 known1 map → IsAmong masks2 known2 map → ⊥
   parts_apart map a b =

@@ -18,7 +18,8 @@ use Rattle.of_regions.specs.declared.looking.Rest.{Rest}
 use Rattle.of_regions.specs.declared.region.Region.{Region}
 use Rattle.of_regions.specs.declared.rival.Rival.{Rival}
 use Rattle.of_regions.specs.Naming.{with_place}
-use Rattle.of_regions.specs.Regions.{AreParts, InRegion}
+use Rattle.of_regions.specs.Dividing.{AreDividedBy}
+use Rattle.of_regions.specs.Regions.{InRegion}
 use Rattle.of_regions.specs.Witness.{HasNoIngress}
 use Rattle.of_regions.specs.declared.searching.Found.{Found}
 use Rattle.of_regions.specs.declared.searching.Found.TheVariants.{Undecided}
@@ -180,7 +181,7 @@ module _ (start : List Region) (rivals : List Rival) where
     taken_step i t = IsStep.taken x.region t.rival (map_push (λ (y : Rest). y.region) rests x) (contains_at rivals i t.rival t.there) t.whole
 
     -- the last region is divided
-    module _ (i : ℕ) (a b : Rest) (a_from : a.from ≡ i) (b_from : b.from ≡ i) (p : AreParts x.region a.region b.region) (e : MatchField) (k : IsSplit rivals x.region i e) where
+    module _ (i : ℕ) (a b : Rest) (a_from : a.from ≡ i) (b_from : b.from ≡ i) (e : MatchField) (p : AreDividedBy e x.region a.region b.region) (k : IsSplit rivals x.region i e) where
       part_cases : (y : Rest) → Contains (rests ++ a ∷ b ∷ []) y → Contains rests y ⊎ ((a ≡ y) ⊎ (b ≡ y))
       part_cases y c = elim (Contains-append_cases rests (a ∷ b ∷ []) y c) as (λ w. Contains rests y ⊎ ((a ≡ y) ⊎ (b ≡ y))) [
         | inl old ↦ inl old
@@ -195,18 +196,18 @@ module _ (start : List Region) (rivals : List Rival) where
         passed = λ y c. elim (part_cases y c) as (λ w. AreApartBefore rivals y.region y.from) [
           | inl old ↦ s.passed y (others_in y old)
           | inr new ↦ elim new as (λ w. AreApartBefore rivals y.region y.from) [
-            | inl first ↦ subst (λ (z : Rest). AreApartBefore rivals z.region z.from) first (λ j q lt at fields h. k.first j q (subst (λ (n : ℕ). j < n) a_from lt) at fields (p.within fields (inl h)))
-            | inr second ↦ subst (λ (z : Rest). AreApartBefore rivals z.region z.from) second (λ j q lt at fields h. k.first j q (subst (λ (n : ℕ). j < n) b_from lt) at fields (p.within fields (inr h)))
+            | inl first ↦ subst (λ (z : Rest). AreApartBefore rivals z.region z.from) first (λ j q lt at fields h. k.first j q (subst (λ (n : ℕ). j < n) a_from lt) at fields (p.parts.within fields (inl h)))
+            | inr second ↦ subst (λ (z : Rest). AreApartBefore rivals z.region z.from) second (λ j q lt at fields h. k.first j q (subst (λ (n : ℕ). j < n) b_from lt) at fields (p.parts.within fields (inr h)))
           ]
         ];
         within = λ y c. elim (part_cases y c) as (λ w. (fields : Field → Option ℕ) → InRegion y.region fields → InSome start fields) [
           | inl old ↦ s.within y (others_in y old)
           | inr new ↦ elim new as (λ w. (fields : Field → Option ℕ) → InRegion y.region fields → InSome start fields) [
-            | inl first ↦ subst (λ (z : Rest). (fields : Field → Option ℕ) → InRegion z.region fields → InSome start fields) first (λ fields h. last_within fields (p.within fields (inl h)))
-            | inr second ↦ subst (λ (z : Rest). (fields : Field → Option ℕ) → InRegion z.region fields → InSome start fields) second (λ fields h. last_within fields (p.within fields (inr h)))
+            | inl first ↦ subst (λ (z : Rest). (fields : Field → Option ℕ) → InRegion z.region fields → InSome start fields) first (λ fields h. last_within fields (p.parts.within fields (inl h)))
+            | inr second ↦ subst (λ (z : Rest). (fields : Field → Option ℕ) → InRegion z.region fields → InSome start fields) second (λ fields h. last_within fields (p.parts.within fields (inr h)))
           ]
         ];
-        covered = λ none shape tag fields g h m. elim (covers (λ fields. InRegion a.region fields ⊎ InRegion b.region fields) (λ fields s u g h i. p.all fields (u, h) i) none shape tag fields g h m) as (λ w. InRests (rests ++ a ∷ b ∷ []) fields ⊎ IsRivalled rivals names fields) [
+        covered = λ none shape tag fields g h m. elim (covers (λ fields. InRegion a.region fields ⊎ InRegion b.region fields) (λ fields s u g h i. p.parts.all fields (u, h) i) none shape tag fields g h m) as (λ w. InRests (rests ++ a ∷ b ∷ []) fields ⊎ IsRivalled rivals names fields) [
           | inl left ↦ inl (elim left as (λ w. InRests (rests ++ a ∷ b ∷ []) fields) [
             | inl old ↦ (old.0, Contains-append_left rests (a ∷ b ∷ []) old.0 old.1, old.2)
             | inr part ↦ elim part as (λ w. InRests (rests ++ a ∷ b ∷ []) fields) [
@@ -216,7 +217,7 @@ module _ (start : List Region) (rivals : List Rival) where
           ])
           | inr other ↦ inr other
         ];
-        received = λ shape tag fields g h m. elim (receives (λ fields. InRegion a.region fields ⊎ InRegion b.region fields) (λ fields s u g h i. p.all fields (u, h) i) shape tag fields g h m) as (λ w. (InRests (rests ++ a ∷ b ∷ []) fields ⊎ IsRivalled rivals names fields) ⊎ IsOfNoPort fields) [
+        received = λ shape tag fields g h m. elim (receives (λ fields. InRegion a.region fields ⊎ InRegion b.region fields) (λ fields s u g h i. p.parts.all fields (u, h) i) shape tag fields g h m) as (λ w. (InRests (rests ++ a ∷ b ∷ []) fields ⊎ IsRivalled rivals names fields) ⊎ IsOfNoPort fields) [
           | inl known ↦ inl (elim known as (λ w. InRests (rests ++ a ∷ b ∷ []) fields ⊎ IsRivalled rivals names fields) [
             | inl left ↦ inl (elim left as (λ w. InRests (rests ++ a ∷ b ∷ []) fields) [
               | inl old ↦ (old.0, Contains-append_left rests (a ∷ b ∷ []) old.0 old.1, old.2)

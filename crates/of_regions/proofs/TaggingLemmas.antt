@@ -117,6 +117,10 @@ parts_either whole a b first second p (inr e) = rw (e.0, e.1) (record { within =
     swapped (inl x) = inr x
     swapped (inr y) = inl y
 
+pub either_way : (P : Region → Region → Type 0) (a b first second : Region) → P a b → IsEither a b first second → P first second ⊎ P second first
+either_way P a b first second p (inl e) = inl (rw (e.0, e.1) p)
+either_way P a b first second p (inr e) = inr (rw (e.0, e.1) p)
+
 -- a packet has no tag, and none with a tag lacks it
 pub not_both_tags : (o : Option ℕ) → seen (Some 0x1000) o ≡ Some 0x1000 → seen (Some 0x1fff) o ≡ Some 0 → ⊥
 not_both_tags None a b = cc

@@ -23,7 +23,8 @@ use Rattle.of_regions.specs.declared.witness.Packet.{Packet}
 use Rattle.of_regions.specs.Conditions.{IsCondition}
 use Rattle.of_regions.specs.Meeting.{Meets}
 use Rattle.of_regions.specs.Naming.{AreAscending}
-use Rattle.of_regions.specs.Regions.{AreParts, InRegion}
+use Rattle.of_regions.specs.Dividing.{AreDividedBy}
+use Rattle.of_regions.specs.Regions.{InRegion}
 use Rattle.of_regions.specs.Witness.{HasNoIngress, IsIngressPort, IsReceived, fields_in}
 
 -- no rival matches it
@@ -74,11 +75,11 @@ pub record LeavesUnreceived (start : List Region) (rivals : List Rival) (r : Reg
 
 -- ---- steps
 
--- one step: the last region is dropped, since a rival matches all of it, or since it is one that no switch receives; or it is divided, where a rival may match some of it
+-- one step: the last region is dropped, since a rival matches all of it, or since it is one that no switch receives; or it is divided by what a rival looks at that may match some of it
 pub data IsStep (start : List Region) (rivals : List Rival) (old new : List Region) : Type 0 where
   taken : (r : Region) (q : Rival) → old ≡ new ++ r ∷ [] → Contains rivals q → Meets r q.fields.now Whole → IsStep start rivals old new
   unreceived : (r : Region) → old ≡ new ++ r ∷ [] → IsUnreceived start rivals r → IsStep start rivals old new
-  divided : (others : List Region) (r first second : Region) (q : Rival) (e : MatchField) → old ≡ others ++ r ∷ [] → new ≡ others ++ first ∷ second ∷ [] → Contains rivals q → Meets r q.fields.now (Crosses e) → AreParts r first second → IsStep start rivals old new
+  divided : (others : List Region) (r first second : Region) (q : Rival) (e : MatchField) → old ≡ others ++ r ∷ [] → new ≡ others ++ first ∷ second ∷ [] → Contains rivals q → Meets r q.fields.now (Crosses e) → AreDividedBy e r first second → IsStep start rivals old new
 
 -- so many steps lead from the regions at the start to these
 abbrev pub AreSteps : List Region → List Rival → ℕ → List Region → Type 0

@@ -8,7 +8,7 @@ ghost use Rattle.of_frames.specs.declared.shape.Tagging.TheVariants.{Tagged, Unt
 ghost use Rattle.of_oxm.specs.Masks.{mask_at};
 ghost use Rattle.of_frames.specs.Rules.{IsTagging};
 ghost use Rattle.of_regions.specs.Conditions.{IsCondition};
-ghost use Rattle.of_regions.specs.Dividing.{AreWithout, IsBitOf};
+ghost use Rattle.of_regions.specs.Dividing.{AreDividedBy, AreWithout, IsBitOf, IsByBit, IsByTag};
 ghost use Rattle.of_regions.specs.Known.{is_known_by, rule_in};
 ghost use Rattle.of_regions.specs.Meeting.{IsCrossed};
 ghost use Rattle.of_regions.specs.Regions.{AreParts, InRegion, IsEither};
@@ -78,6 +78,7 @@ impl Region {
         ensures within { (map : TheField → Option ℕ) → InRegion result.0 map ⊎ InRegion result.1 map → InRegion self map }
         ensures all { (map : TheField → Option ℕ) → InRegion self map → InRegion result.0 map ⊎ InRegion result.1 map }
         ensures apart { (map : TheField → Option ℕ) → InRegion result.0 map → InRegion result.1 map → ⊥ }
+        ensures bit { IsByBit e.now result.0 result.1 }
     {
         let bit = one_of(e.field, without(bits_of(e), mask));
         (
@@ -147,17 +148,18 @@ impl Region {
     // Those with a tag and those without.
     fn by_tag(self, tagged_first: bool) -> (Region, Region)
         requires { self.tagging ≡ None }
-        ensures { AreParts self result.0 result.1 }
+        ensures parts { AreParts self result.0 result.1 }
+        ensures tag { IsByTag result.0 result.1 ⊎ IsByTag result.1 result.0 }
     {
         Region::in_order(tagged_first, self.tagged(), self.untagged())
     }
 
-    /// Two parts by the first bit that a field of a match looks at and that is not known: each packet is in one of them (if it is one
-    /// with a tag or without), and none is in both. The match agrees less with the second.
+    /// Two parts by a bit that a field of a match looks at and that is not known, or by the tag, if nothing is known of the field: each packet is in
+    /// one of them (if it is one with a tag or without), and none is in both. The match agrees less with the second.
     pub fn divided(self, e: &MatchField) -> (Region, Region)
         requires condition { IsCondition e.now }
         requires crossed { IsCrossed self e.now }
-        ensures { AreParts self result.0 result.1 }
+        ensures { AreDividedBy e.now self result.0 result.1 }
     {
         match (self.masks.masks.get(e.field), self.known.get(e.field)) {
             (None, _) => self.by_tag(e.field != Field::VlanVid || e.value != 0),

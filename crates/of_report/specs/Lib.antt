@@ -2,3 +2,4 @@ pub mod Entries
 pub mod Report
 pub mod Json
 pub mod Files
+pub mod Shadowing

@@ -11,17 +11,18 @@ use of_text::Config;
 use of_values::{Origin, push_decimal};
 use std::alloc::{AllocError, Global};
 
+/// Appends a number, and words behind it.
 #[tactic(auto, unfolding(crate::specs::Report::counted_words))]
-fn push_count(out: &mut Vec<u8>, number: usize, words: &[u8]) -> Result<(), AllocError>
+pub fn push_count(out: &mut Vec<u8>, number: usize, words: &[u8]) -> Result<(), AllocError>
     ensures { OnOk result (out.new.items ≡ out.old.items ++ counted_words number words.now) }
 {
     push_decimal(out, number as u128)?;
     out.extend_from_slice(words)
 }
 
-// Appends how many entries there are of each kind.
+/// Appends how many entries there are of each kind.
 #[tactic(auto, unfolding(crate::specs::Report::summary))]
-fn push_summary(out: &mut Vec<u8>, findings: &[Finding]) -> Result<(), AllocError>
+pub fn push_summary(out: &mut Vec<u8>, findings: &[Finding]) -> Result<(), AllocError>
     ensures { OnOk result (out.new.items ≡ out.old.items ++ summary findings.now) }
 {
     push_count(out, findings.len(), b" flows: ")?;

@@ -10,9 +10,9 @@ use of_text::Config;
 use of_values::Origin;
 use std::alloc::{AllocError, Global};
 
-// Appends that an entry never wins.
+/// Appends that an entry never wins.
 #[tactic(auto, unfolding(crate::specs::Report::tie_words))]
-fn push_reason(out: &mut Vec<u8>, tie: bool) -> Result<(), AllocError>
+pub fn push_reason(out: &mut Vec<u8>, tie: bool) -> Result<(), AllocError>
     ensures { OnOk result (out.new.items ≡ out.old.items ++ tie_words tie) }
 {
     if tie {

@@ -92,7 +92,7 @@ module _ (w : TheWorld) (r : Requirement) (port : ℕ) (fits : port < 2 ^ 32) wh
     inside = subst (λ (l : List Path). InFirstPath l c.frame.items c.in_port) alone class.shown
 
     own_match : (c.in_port ≡ port) × (matches_map r.within.items (received_fields c.frame.items c.in_port) ≡ true)
-    own_match = matched_from r.within.items port c.frame.items c.in_port class.fits (is_path.matched c.frame.items c.in_port inside)
+    own_match = matched_from r.within.items port c.frame.items c.in_port class.fits (is_path.matched.matched c.frame.items c.in_port inside)
 
     decided_by : class_decides r c ≡ decides r c.in_port path.steps.items c.items.items
     decided_by = ap (λ (l : List Path). first_decides r c.in_port l c.items.items) alone

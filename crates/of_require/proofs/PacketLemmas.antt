@@ -74,7 +74,7 @@ module _ (w : TheWorld) (r : Requirement) (fields : List MatchField) (steps : �
   received_there : (s : FrameSet) (frame : List ℕ) (q : ℕ) → ((f : List ℕ) (x : ℕ) → InFrames s f x → InFrames p.frames f x) → IsFrameFoundIn s frame q →
       (q ≡ port) × IsReceivedAt w frame q × (matches_map r.within.items (received_fields frame q) ≡ true)
   received_there s frame q within found =
-      let from = matched_from r.within.items port frame q found.fits (is_path.matched frame q (within frame q found.within)) in
+      let from = matched_from r.within.items port frame q found.fits (is_path.matched.matched frame q (within frame q found.within)) in
       (from.0, subst (λ (x : ℕ). IsReceivedAt w frame x) (sym from.0) (record { frame_is = found.frame_is; short = found.short; ingress = receives.port; there = receives.there; receives = receives.receives }), from.1)
 
   lines_are : (frame : List ℕ) (q : ℕ) → IsReceivedAt w frame q → InFrames p.frames frame q → lines_at w frame q ≡ p.steps.items

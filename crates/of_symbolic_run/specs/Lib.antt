@@ -11,4 +11,3 @@ pub mod Rewriting
 pub mod Sides
 pub mod States
 pub mod TimesToLive
-pub mod Unfound

@@ -1,6 +1,7 @@
 -- THE PORT NUMBERS of a switch, and conditions on the numbers of no port that receives (OpenFlow 1.3.5, 4.1 and 7.2.1).
-use Rattle.std.specs.Prelude.{◌≡◌, ℕ, ◌==◌, ◌&&◌, Bool, true, false, List, [], ◌∷◌, Option, Some, None, bit_and}
-use Rattle.std.specs.List.{Contains, list_any}
+use Rattle.std.specs.Prelude.{◌≡◌, ◌⊎◌, ℕ, ◌==◌, ◌&&◌, Bool, true, false, List, [], ◌∷◌, Option, Some, None, bit_and, find}
+use Rattle.std.specs.List.{Contains}
+use Rattle.std.specs.Option.{option_map}
 use Rattle.std.specs.Global.{Vec}
 use Rattle.of_layers.specs.declared.field.Field.{Field}
 use Rattle.of_layers.specs.declared.field.Field.TheVariants.{InPort}
@@ -8,7 +9,7 @@ use Rattle.of_oxm.specs.declared.match_field.MatchField.{MatchField}
 use Rattle.of_oxm.specs.Relations.{bits_looked_at, matches_map}
 use Rattle.of_regions.specs.Conditions.{AreConditions}
 use Rattle.of_ports.specs.declared.port.Port.{Port}
-use Rattle.of_ports.specs.Ports.{may_receive, port_at}
+use Rattle.of_ports.specs.Ports.{may_receive, number_of_port, port_at}
 
 -- there is a port of the number, and it receives
 pub record IsReceivingPort (ports : List Port) (number : ℕ) : Type 0 where
@@ -33,13 +34,28 @@ pub record IsAbsence (ports : List Port) (fields : List MatchField) : Type 0 whe
 abbrev pub AreAbsences : List Port → List (Vec MatchField) → Type 0
 AreAbsences ports lists = (m : Vec MatchField) → Contains lists m → IsAbsence ports m.items
 
+-- one of the ports has the number, and it receives
+pub record HasReceiver (ports : List Port) (number : ℕ) : Type 0 where
+  pub port : Port
+  pub listed : Contains ports port
+  pub receives : may_receive port ≡ true
+  pub own : port.number ≡ number
+
+-- each packet that came in by a port of this number meets one of the conditions
+abbrev pub IsNamedNumber : List (Vec MatchField) → ℕ → Type 0
+IsNamedNumber lists number = (m : Vec MatchField) × Contains lists m × ((packet : Field → Option ℕ) → packet InPort ≡ Some number → matches_map m.items packet ≡ true)
+
+-- a port of the number receives, or the conditions name it
+abbrev pub IsReceiverOrNamed : List Port → List (Vec MatchField) → ℕ → Type 0
+IsReceiverOrNamed ports lists number = HasReceiver ports number ⊎ IsNamedNumber lists number
+
 -- the number has the bits of another under a mask
 abbrev pub agrees_under : ℕ → ℕ → ℕ → Bool
 agrees_under mask number other = bit_and other mask == bit_and number mask
 
--- one of the ports receives, and its number has these bits
-abbrev pub receives_under : ℕ → ℕ → List Port → Bool
-receives_under mask number ports = list_any (λ q. may_receive q && agrees_under mask number q.number) ports
+-- the number of the first port that receives and whose number has these bits
+abbrev pub receiver_under : ℕ → ℕ → List Port → Option ℕ
+receiver_under mask number ports = option_map number_of_port (find (λ q. may_receive q && agrees_under mask number q.number) ports)
 
 -- the condition that IN_PORT has the bits of a number under a mask
 pub record IsConditionOf (number mask : ℕ) (e : MatchField) : Type 0 where

@@ -1,7 +1,7 @@
 //! The port numbers at which a switch receives frames, and the others.
-ghost use Rattle.std.specs.Prelude.{◌≡◌, ◌↔◌, ◌≤◌, ◌∷◌, [], IfOk, IsTrue, OnOk, false};
+ghost use Rattle.std.specs.Prelude.{◌≡◌, ◌↔◌, ◌≤◌, ◌<◌, ◌+◌, ◌-◌, ◌*◌, ◌/◌, ◌^◌, ◌∷◌, [], ℕ, None, IfOk, IfSome, IsTrue, OnOk, true};
 ghost use Rattle.of_regions.specs.Conditions.{AreConditions};
-ghost use Rattle.of_symbolic_run.specs.PortNumbers.{AreAbsences, IsConditionOf, IsReceivingPort, agrees_under, came_in_by, receives_under};
+ghost use Rattle.of_symbolic_run.specs.PortNumbers.{AreAbsences, IsConditionOf, IsNamedNumber, IsReceiverOrNamed, IsReceivingPort, agrees_under, came_in_by, receiver_under};
 
 use of_headers::Field;
 use of_oxm::MatchField;
@@ -33,30 +33,39 @@ pub fn receiving_port(ports: &[Port], number: u32) -> bool
 // The port numbers that have the bits of a number under a mask.
 #[derive(Clone, Copy)]
 struct Block {
-    number: u32,
-    mask: u32,
+    number: u64,
+    mask: u64,
 }
 
 impl Block {
-    // Those that agree with a number in all bits but so many of the lowest.
-    fn of(number: u32, low_bits: u32) -> Block {
-        let mask = u32::MAX.checked_shl(low_bits).unwrap_or(0);
-        Block { number, mask }
+    // Those whose bits but so many of the lowest are a prefix.
+    fn of(prefix: u32, low_bits: u32) -> Block
+        requires few { low_bits ≤ 32 }
+        requires within { (prefix + 1) * 2 ^ low_bits ≤ 2 ^ 32 }
+        ensures number { result.number ≡ prefix * 2 ^ low_bits }
+        ensures mask { result.mask ≡ 2 ^ 32 - 2 ^ low_bits }
+    {
+        Block {
+            number: u64::from(prefix) << low_bits,
+            mask: (1 << 32) - (1 << low_bits),
+        }
     }
 
     fn has(self, number: u32) -> bool
         ensures { result ≡ agrees_under self.mask self.number number }
     {
-        number & self.mask == self.number & self.mask
+        u64::from(number) & self.mask == self.number & self.mask
     }
 
-    // Whether one of the ports receives and has a number in the block.
-    fn receives(self, ports: &[Port]) -> bool
-        ensures { result ≡ receives_under self.mask self.number ports.now }
+    // The number of a port that receives, if one is in the block.
+    fn receiver(self, ports: &[Port]) -> Option<u32>
+        ensures is { result ≡ receiver_under self.mask self.number ports.now }
+        ensures fits { IfSome result (λ number. number < 2 ^ 32) }
     {
-        ports
+        let port = ports
             .iter()
-            .any(|port| port.may_receive() && self.has(port.number))
+            .find(|port| port.may_receive() && self.has(port.number))?;
+        Some(port.number)
     }
 
     // The condition that IN_PORT is one of them.
@@ -78,8 +87,11 @@ fn push_block(
     ports: &[Port],
     block: Block,
 ) -> Result<(), AllocError>
-    requires { receives_under block.mask block.number ports.now ≡ false }
-    ensures { OnOk result (AreAbsences ports.now absent.old.items → AreAbsences ports.now absent.new.items) }
+    requires none { receiver_under block.mask block.number ports.now ≡ None }
+    requires fits { block.mask < 2 ^ 32 }
+    ensures absences { OnOk result (AreAbsences ports.now absent.old.items → AreAbsences ports.now absent.new.items) }
+    ensures more { OnOk result ((number : ℕ) → IsNamedNumber absent.old.items number → IsNamedNumber absent.new.items number) }
+    ensures own { OnOk result ((number : ℕ) → agrees_under block.mask block.number number ≡ true → IsNamedNumber absent.new.items number) }
 {
     let mut fields = Vec::new(alloc);
     fields.push(block.condition())?;
@@ -87,35 +99,38 @@ fn push_block(
     Ok(())
 }
 
-// Appends conditions on the numbers of no port that receives, of those that agree with a number in all bits but so many of the lowest: a block that has
-// the number of such a port is divided in halves. The upper half comes first, so that a search meets large blocks before small ones.
+// Appends conditions on the numbers of no port that receives, of those whose bits but so many of the lowest are a prefix: a block that has the number of
+// such a port is divided in halves. The upper half comes first, so that a search meets large blocks before small ones.
 fn push_absent(
     alloc: Global,
     absent: &mut Vec<Vec<MatchField>>,
     ports: &[Port],
-    number: u32,
+    prefix: u32,
     low_bits: u32,
 ) -> Result<(), AllocError>
-    requires { low_bits ≤ 32 }
-    ensures { OnOk result (AreAbsences ports.now absent.old.items → AreAbsences ports.now absent.new.items) }
+    requires few { low_bits ≤ 32 }
+    requires within { (prefix + 1) * 2 ^ low_bits ≤ 2 ^ 32 }
+    ensures absences { OnOk result (AreAbsences ports.now absent.old.items → AreAbsences ports.now absent.new.items) }
+    ensures more { OnOk result ((number : ℕ) → IsNamedNumber absent.old.items number → IsNamedNumber absent.new.items number) }
+    ensures all { OnOk result ((number : ℕ) → number < 2 ^ 32 → number / 2 ^ low_bits ≡ prefix → IsReceiverOrNamed ports.now absent.new.items number) }
 {
-    let block = Block::of(number, low_bits);
-    if !block.receives(ports) {
+    let block = Block::of(prefix, low_bits);
+    if block.receiver(ports).is_none() {
         return push_block(alloc, absent, ports, block);
     }
     if low_bits == 0 {
         return Ok(());
     }
-    let half = low_bits - 1;
-    push_absent(alloc, absent, ports, number | 1 << half, half)?;
-    push_absent(alloc, absent, ports, number, half)
+    push_absent(alloc, absent, ports, 2 * prefix + 1, low_bits - 1)?;
+    push_absent(alloc, absent, ports, 2 * prefix, low_bits - 1)
 }
 
-/// Conditions on IN_PORT that no packet meets that comes in by a port that receives, each alone in its list.
+/// Conditions on IN_PORT, each alone in its list, which name the numbers of all ports but those that receive.
 ///
 /// They are few: they name the other numbers by blocks whose first bits are the same, each as large as it can be, the largest first.
 pub fn absent_ports(alloc: Global, ports: &[Port]) -> Result<Vec<Vec<MatchField>>, AllocError>
-    ensures { IfOk result (λ absent. AreAbsences ports.now absent.items) }
+    ensures absences { IfOk result (λ absent. AreAbsences ports.now absent.items) }
+    ensures all { IfOk result (λ absent. (number : ℕ) → number < 2 ^ 32 → IsReceiverOrNamed ports.now absent.items number) }
 {
     let mut absent = Vec::new(alloc);
     push_absent(alloc, &mut absent, ports, 0, 32)?;

@@ -3,7 +3,7 @@ ghost use Rattle.std.specs.Prelude.{ℕ, List, IfOk};
 ghost use Rattle.of_datapath.specs.Datapath.{world_of};
 ghost use Rattle.of_datapath.specs.Numbers.{forwarding_of};
 ghost use Rattle.of_symbolic_run.specs.FrameSets.{InFrames};
-ghost use Rattle.of_symbolic_run.specs.Received.{IsReceivedAt};
+ghost use Rattle.of_symbolic_run.specs.Received.{AreReceived, IsReceivedAt};
 
 use crate::FrameSet;
 use crate::ports::absent_ports;
@@ -11,14 +11,16 @@ use of_classifier::Lookup;
 use of_datapath::Datapath;
 use std::alloc::{AllocError, Global};
 
-/// All frames that come in by a port that is there (OpenFlow 1.3.5, 4.1).
+/// All frames that come in by a port that receives, and no frame by another (OpenFlow 1.3.5, 4.1).
 pub fn received_frames<L: Lookup>(
     alloc: Global,
     datapath: &Datapath<L>,
 ) -> Result<FrameSet, AllocError>
-    ensures { IfOk result (λ frames. (frame : List ℕ) (port : ℕ) →
+    ensures all { IfOk result (λ frames. (frame : List ℕ) (port : ℕ) →
         IsReceivedAt (world_of (forwarding_of datapath.now)) frame port → InFrames frames frame port) }
+    ensures received { IfOk result (AreReceived (world_of (forwarding_of datapath.now)).ports) }
 {
+    datapath.known_world();
     let absent = absent_ports(alloc, datapath.port_list())?;
     let mut frames = FrameSet::whole(alloc)?;
     for index in 0..absent.len() {

@@ -1,13 +1,18 @@
 //! Reports of `check`.
-use crate::files::{FileRead, NoFile, Unread, read_file_contents, say_missing};
+use crate::files::{
+    FileRead, NoFile, Unread, content_read, contents_of, refused_table, say_missing,
+};
 use crate::lookups::Lookups;
 use crate::requiring::{Required, decide_all, missing_on, push_required, read_required};
+use crate::screen::Screen;
 use of_command_line::{Check, CheckOutput};
-use of_files::{Contents, FileTables, PortList, port_list, push_named};
+use of_files::{Content, Contents, FileTables, PortList, port_list, push_named, read_table};
+use of_import::{ImportError, Mode};
 use of_replay::streams::WriterSink;
 use of_replay::{Ended, switch_of_config, write_all};
-use of_report::{Form, write_report};
+use of_report::{Form, write_flow_report, write_report};
 use of_require::{Line, Verdict};
+use of_shadowing::{Listing, read_listing};
 use of_switch::Switch;
 use of_text::{Config, cut};
 use of_values::Origin;
@@ -35,12 +40,12 @@ fn form_of(output: CheckOutput) -> Form {
 }
 
 // Prints the first line of a flow text that is a part of a table.
-fn print_part(rt: &HostRuntime, text: &[u8]) -> Result<(), Ended> {
+fn print_part(screen: &Screen<'_>, text: &[u8]) -> Result<(), Ended> {
     let (line, _) = cut(text, b'\n');
     if !line.starts_with(PART) {
         return Ok(());
     }
-    let mut writer = WriterSink::new(rt.stdout());
+    let mut writer = WriterSink::new(screen.report());
     if write_all(&mut writer, line) && write_all(&mut writer, b"\n") {
         Ok(())
     } else {
@@ -58,7 +63,7 @@ fn verdict_of(found: bool, missing: bool, required: Verdict) -> CheckVerdict {
 
 // The report on a switch and its groups and flows, which come from these lines; and that on requirements.
 fn reported(
-    rt: &HostRuntime,
+    screen: &Screen<'_>,
     asked: &Check,
     switch: &Switch<Lookups>,
     config: &Config,
@@ -66,14 +71,14 @@ fn reported(
     lines: Vec<Line>,
     missing: &[u32],
 ) -> Result<CheckVerdict, NoFile> {
-    let alloc = rt.alloc();
-    let Required { text, verdict } = decide_all(rt, asked, switch, lines)?;
-    let missing = match say_missing(rt, asked.output == CheckOutput::Json, missing) {
+    let alloc = screen.rt.alloc();
+    let Required { text, verdict } = decide_all(screen.rt, asked, switch, lines)?;
+    let missing = match say_missing(screen, asked.output == CheckOutput::Json, missing) {
         Ok(missing) => missing,
         Err(ended) => return Err(NoFile::ended(alloc, ended)),
     };
     let (steps, form) = (asked.steps as usize, form_of(asked.output));
-    let mut writer = WriterSink::new(rt.stdout());
+    let mut writer = WriterSink::new(screen.report());
     match write_report(
         alloc,
         switch,
@@ -91,18 +96,18 @@ fn reported(
 
 // The report on groups and flows.
 fn tables_reported(
-    rt: &HostRuntime,
+    screen: &Screen<'_>,
     asked: &Check,
     tables: &FileTables,
     list: &PortList,
     lines: Vec<Line>,
 ) -> Result<CheckVerdict, NoFile> {
-    let alloc = rt.alloc();
+    let alloc = screen.rt.alloc();
     let Ok(switch) = switch_of_config::<Lookups>(alloc, &tables.config, &list.ports) else {
         return Err(NoFile::ended(alloc, Ended::NoMemory));
     };
     reported(
-        rt,
+        screen,
         asked,
         &switch,
         &tables.config,
@@ -114,16 +119,16 @@ fn tables_reported(
 
 // The report on the switch of an event file.
 fn switch_reported(
-    rt: &HostRuntime,
+    screen: &Screen<'_>,
     asked: &Check,
     switch: &Switch<Lookups>,
     lines: Vec<Line>,
 ) -> Result<CheckVerdict, NoFile> {
-    let alloc = rt.alloc();
+    let alloc = screen.rt.alloc();
     let (Ok(config), Ok(missing)) = (switch.config(), missing_on(alloc, switch, &lines)) else {
         return Err(NoFile::ended(alloc, Ended::NoMemory));
     };
-    reported(rt, asked, switch, &config, &[], lines, &missing)
+    reported(screen, asked, switch, &config, &[], lines, &missing)
 }
 
 // The ports of the switch of a file, and those that are named and that it does not have.
@@ -140,25 +145,64 @@ fn named_list(
 }
 
 fn contents_reported(
-    rt: &HostRuntime,
+    screen: &Screen<'_>,
     asked: &Check,
     read: &FileRead,
     lines: Vec<Line>,
 ) -> Result<CheckVerdict, NoFile> {
-    let alloc = rt.alloc();
+    let alloc = screen.rt.alloc();
     match &read.contents {
         Contents::Tables(tables) => {
             if asked.output != CheckOutput::Json {
-                if let Err(ended) = print_part(rt, &read.bytes) {
+                if let Err(ended) = print_part(screen, &read.bytes) {
                     return Err(NoFile::ended(alloc, ended));
                 }
             }
             match named_list(alloc, asked, &read.contents, &lines) {
-                Ok(list) => tables_reported(rt, asked, tables, &list, lines),
+                Ok(list) => tables_reported(screen, asked, tables, &list, lines),
                 Err(_) => Err(NoFile::ended(alloc, Ended::NoMemory)),
             }
         }
-        Contents::Events(switch) => switch_reported(rt, asked, switch, lines),
+        Contents::Events(switch) => switch_reported(screen, asked, switch, lines),
+    }
+}
+
+// Whether the switch cannot have the groups and flows of what ovs-ofctl prints.
+fn is_refused(alloc: Global, bytes: &[u8]) -> bool {
+    let mode = Mode {
+        skip: false,
+        renumber: false,
+    };
+    !matches!(
+        read_table(alloc, bytes, mode),
+        Ok(_) | Err(ImportError::NoMemory)
+    )
+}
+
+// The report on flows that the switch cannot have. None: there are none, or it is asked for in a form that they do not have.
+fn flows_reported(
+    screen: &Screen<'_>,
+    asked: &Check,
+    bytes: &[u8],
+) -> Result<Option<CheckVerdict>, NoFile> {
+    let rt = screen.rt;
+    let alloc = rt.alloc();
+    let Ok(Listing { flows, faults }) = read_listing(alloc, bytes) else {
+        return Err(NoFile::ended(alloc, Ended::NoMemory));
+    };
+    if flows.is_empty() || asked.output == CheckOutput::Json {
+        return Ok(None);
+    }
+    if !faults.is_empty() {
+        let error = ImportError::Faults(faults, Vec::new(alloc));
+        return Err(refused_table(rt, asked.of.kind, bytes, &error));
+    }
+    let all = asked.output != CheckOutput::Report;
+    let words = asked.output == CheckOutput::AllInWords;
+    let mut writer = WriterSink::new(screen.report());
+    match write_flow_report(alloc, &flows, asked.steps as usize, all, words, &mut writer) {
+        Ok(found) => Ok(Some(verdict_of(found, false, Verdict::Holds))),
+        Err(ended) => Err(NoFile::ended(alloc, ended)),
     }
 }
 
@@ -176,25 +220,25 @@ fn lines_asked<'a>(rt: &HostRuntime, asked: &'a Check) -> Result<Vec<Line>, Unre
 
 // The report on the switch of a file.
 fn file_reported(
-    rt: &HostRuntime,
+    screen: &Screen<'_>,
     asked: &Check,
     lines: Vec<Line>,
 ) -> Result<CheckVerdict, NoFile> {
-    let read = read_file_contents(
-        rt,
-        asked.of.path.as_str(),
-        asked.of.kind,
-        None,
-        false,
-        &asked.of.port_names,
-    )?;
-    contents_reported(rt, asked, &read, lines)
+    let (rt, path, kind) = (screen.rt, asked.of.path.as_str(), asked.of.kind);
+    let (bytes, content) = content_read(rt, path, kind, &asked.of.port_names)?;
+    if content == Content::OvsTable && asked.require.is_none() && is_refused(rt.alloc(), &bytes) {
+        if let Some(verdict) = flows_reported(screen, asked, &bytes)? {
+            return Ok(verdict);
+        }
+    }
+    let read = contents_of(rt, path, kind, None, false, bytes, content)?;
+    contents_reported(screen, asked, &read, lines)
 }
 
 /// Prints the report on the switch of a file, and on its requirements.
-pub fn checked<'a>(rt: &HostRuntime, asked: &'a Check) -> Result<CheckVerdict, Unread<'a>> {
-    let lines = lines_asked(rt, asked)?;
-    match file_reported(rt, asked, lines) {
+pub fn checked<'a>(screen: &Screen<'_>, asked: &'a Check) -> Result<CheckVerdict, Unread<'a>> {
+    let lines = lines_asked(screen.rt, asked)?;
+    match file_reported(screen, asked, lines) {
         Ok(verdict) => Ok(verdict),
         Err(why) => Err(Unread {
             path: asked.of.path.as_str(),

@@ -1,6 +1,8 @@
 //! Differences of two switches.
 use crate::files::{FileRead, NoFile, Unread, read_file_contents};
 use crate::lookups::Lookups;
+use crate::progress::Progress;
+use crate::screen::Screen;
 use of_alike::Compared;
 use of_command_line::{Diff, FileKind};
 use of_diff_report::{DiffForm, DiffSide, DiffVerdict, FileFlows, write_differences};
@@ -37,7 +39,7 @@ fn form_of(json: bool) -> DiffForm {
 
 // What is found between two switches.
 fn found_between(
-    rt: &HostRuntime,
+    screen: &Screen<'_>,
     asked: &Diff,
     first: &FileSwitch<Lookups>,
     second: &FileSwitch<Lookups>,
@@ -58,9 +60,9 @@ fn found_between(
     } else {
         Compared::All
     };
-    let mut writer = WriterSink::new(rt.stdout());
+    let mut writer = WriterSink::new(screen.report());
     write_differences(
-        rt.alloc(),
+        screen.rt.alloc(),
         &left,
         &right,
         missing,
@@ -73,12 +75,12 @@ fn found_between(
 
 // What is found between the switches of two files.
 fn found_in_files(
-    rt: &HostRuntime,
+    screen: &Screen<'_>,
     asked: &Diff,
     first: Contents<Lookups>,
     second: Contents<Lookups>,
 ) -> Result<DiffVerdict, Ended> {
-    let alloc = rt.alloc();
+    let alloc = screen.rt.alloc();
     let Ok(list) = both_ports(alloc, &asked.ports, &first, &second) else {
         return Err(Ended::NoMemory);
     };
@@ -88,15 +90,23 @@ fn found_in_files(
     ) else {
         return Err(Ended::NoMemory);
     };
-    found_between(rt, asked, &first, &second, &list.missing)
+    found_between(screen, asked, &first, &second, &list.missing)
 }
 
 /// Prints which frames the switches of two files treat differently, and returns whether they treat all frames alike. The first file is read
 /// before the second.
-pub fn diffed<'a>(rt: &HostRuntime, asked: &'a Diff) -> Result<DiffVerdict, Unread<'a>> {
+pub fn diffed<'a>(screen: &Screen<'_>, asked: &'a Diff) -> Result<DiffVerdict, Unread<'a>> {
+    let rt = screen.rt;
+    let progress = Progress::new(rt);
     let first = contents_of(rt, asked.first.as_str(), &asked.port_names)?;
-    let second = contents_of(rt, asked.second.as_str(), &asked.port_names)?;
-    match found_in_files(rt, asked, first, second) {
+    progress.say("the first file is read");
+    let second = contents_of(rt, asked.second.as_str(), &asked.port_names);
+    progress.end();
+    let second = second?;
+    progress.say("both files are read");
+    let found = found_in_files(screen, asked, first, second);
+    progress.end();
+    match found {
         Ok(verdict) => Ok(verdict),
         Err(ended) => Err(Unread {
             path: "-",

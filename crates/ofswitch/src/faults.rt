@@ -1,5 +1,6 @@
 //! What is wrong with a file, as a JSON document (docs/JSON.md).
 use crate::files::NoFile;
+use crate::screen::Screen;
 use of_import::{ImportError, LineFaults, LineRefusal};
 use of_import_report::{help_of, reason_of};
 use of_json::{push_document_head, push_key, push_number_member, push_string, push_string_member};
@@ -152,9 +153,9 @@ fn document_on(
 }
 
 /// Prints why a file describes no switch, as a document. False: it could not be written.
-pub fn print_fault(rt: &HostRuntime, command: &[u8], path: &str, why: &NoFile) -> bool {
-    match document_on(rt.alloc(), command, path, why) {
-        Ok(Some(text)) => write_all(&mut WriterSink::new(rt.stdout()), &text),
+pub fn print_fault(screen: &Screen<'_>, command: &[u8], path: &str, why: &NoFile) -> bool {
+    match document_on(screen.rt.alloc(), command, path, why) {
+        Ok(Some(text)) => write_all(&mut WriterSink::new(screen.report()), &text),
         Ok(None) | Err(_) => true,
     }
 }

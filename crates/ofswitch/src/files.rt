@@ -2,13 +2,14 @@
 use crate::faults::{Fault, import_fault};
 use crate::importing::{NotImported, say_no_import};
 use crate::lookups::Lookups;
+use crate::screen::Screen;
 use of_command_line::{FileKind, SwitchFile};
 use of_files::{Content, Contents, Described, NoContents, content_of, describe, read_contents};
 use of_hints::Seen;
 use of_import::{ImportError, with_port_numbers};
 use of_ports::find_port;
-use of_replay::streams::ReaderSource;
-use of_replay::{Ended, READ_SIZE, ended_by, read_file, zeros};
+use of_replay::streams::{ReaderSource, WriterSink};
+use of_replay::{Ended, READ_SIZE, ended_by, read_file, write_all, zeros};
 use of_sockets::StandardInput;
 use of_switch::Switch;
 use of_text::cut;
@@ -127,21 +128,31 @@ fn content_said(kind: FileKind) -> Option<Content> {
     }
 }
 
+// Whether a text has the word that each flow of Open vSwitch has.
+fn has_actions(bytes: &[u8]) -> bool {
+    bytes.windows(8).any(|word| word.starts_with(b"actions="))
+}
+
 // A file of another kind with a mistake in its first line is taken for a table of Open vSwitch.
-fn say_guess(rt: &HostRuntime, kind: FileKind) {
-    if kind == FileKind::Guessed {
+fn say_guess(rt: &HostRuntime, kind: FileKind, bytes: &[u8]) {
+    if kind == FileKind::Guessed && !has_actions(bytes) {
         let _ = eprintln!(rt;
             "read as ovs-ofctl output; for flow text or an event file use --flows or --events"
         );
     }
 }
 
-// What ovs-ofctl prints was refused: standard error says why, if memory suffices.
-fn refused_table(rt: &HostRuntime, kind: FileKind, bytes: &[u8], error: &ImportError) -> NoFile {
+/// What ovs-ofctl prints was refused: standard error says why, if memory suffices.
+pub fn refused_table(
+    rt: &HostRuntime,
+    kind: FileKind,
+    bytes: &[u8],
+    error: &ImportError,
+) -> NoFile {
     match say_no_import(rt, bytes, error) {
         NotImported::Ended(ended) => NoFile::ended(rt.alloc(), ended),
         NotImported::Faults => {
-            say_guess(rt, kind);
+            say_guess(rt, kind, bytes);
             NoFile::Faults(import_fault(rt.alloc(), error).unwrap_or(None))
         }
     }
@@ -166,8 +177,8 @@ pub fn with_ports(
     }
 }
 
-// The bytes of a file, and what it is; of what ovs-ofctl prints, ports are numbers.
-fn content_read(
+/// The bytes of a file, and what it is; of what ovs-ofctl prints, ports are numbers.
+pub fn content_read(
     rt: &HostRuntime,
     path: &str,
     kind: FileKind,
@@ -207,6 +218,19 @@ pub fn read_file_contents(
             return Err(why);
         }
     };
+    contents_of(rt, path, kind, lines, named, bytes, content)
+}
+
+/// What the bytes of a file are read as, as by `read_file_contents`.
+pub fn contents_of(
+    rt: &HostRuntime,
+    path: &str,
+    kind: FileKind,
+    lines: Option<u64>,
+    named: bool,
+    bytes: Vec<u8>,
+    content: Content,
+) -> Result<FileRead, NoFile> {
     match read_contents(rt.alloc(), &bytes, Some(content), lines) {
         Ok(contents) => Ok(FileRead { bytes, contents }),
         Err(NoContents::Ended(ended)) => {
@@ -253,11 +277,16 @@ pub fn has_port(rt: &HostRuntime, switch: &Switch<Lookups>, option: &str, port: 
 
 /// Says that groups and flows name ports that the switch does not have, and returns whether there are such: in lines of the report, or before a
 /// JSON document on standard error.
-pub fn say_missing(rt: &HostRuntime, json: bool, missing: &[u32]) -> Result<bool, Ended> {
+pub fn say_missing(screen: &Screen<'_>, json: bool, missing: &[u32]) -> Result<bool, Ended> {
+    let alloc = screen.rt.alloc();
     for port in missing {
+        let Ok(line) = format!(in alloc; "port {port} is named, and the switch does not have it\n")
+        else {
+            return Err(Ended::NoMemory);
+        };
         if json {
-            let _ = eprintln!(rt; "port {port} is named, and the switch does not have it");
-        } else if println!(rt; "port {port} is named, and the switch does not have it").is_err() {
+            let _ = eprint!(screen.rt; "{line}");
+        } else if !write_all(&mut WriterSink::new(screen.report()), line.as_bytes()) {
             return Err(Ended::WriteFault);
         }
     }

@@ -1,6 +1,7 @@
 //! Histories of frames and of flow entries.
 use crate::files::{NoFile, bytes_of};
 use crate::lookups::Lookups;
+use crate::screen::Screen;
 use of_command_line::{EntriesAsked, HistoryAsked, HistoryOf};
 use of_frame_words::{frame_words, match_of};
 use of_hints::Seen;
@@ -109,8 +110,8 @@ fn entries_history(
 }
 
 // Prints a history.
-fn write_history(rt: &HostRuntime, told: &LogHistory) -> Ended {
-    let mut writer = WriterSink::new(rt.stdout());
+fn write_history(screen: &Screen<'_>, told: &LogHistory) -> Ended {
+    let mut writer = WriterSink::new(screen.report());
     if !write_all(&mut writer, &told.text) {
         return Ended::WriteFault;
     }
@@ -122,11 +123,11 @@ fn write_history(rt: &HostRuntime, told: &LogHistory) -> Ended {
 
 // Prints the history that is asked for; None if a row is no frame, or no flow may have a match.
 fn recount(
-    rt: &HostRuntime,
+    screen: &Screen<'_>,
     asked: &HistoryAsked,
     bytes: &[u8],
 ) -> Result<Option<Ended>, SwitchError> {
-    let alloc = rt.alloc();
+    let alloc = screen.rt.alloc();
     let told = match &asked.of {
         HistoryOf::Frame { port, frame } => {
             let view = FrameView {
@@ -149,13 +150,14 @@ fn recount(
             entries_history(alloc, asked, view, bytes)?
         }
     };
-    Ok(Some(write_history(rt, &told)))
+    Ok(Some(write_history(screen, &told)))
 }
 
 /// Prints the history of a frame, or of flow entries, in an event file.
-pub fn recounted(rt: &HostRuntime, asked: &HistoryAsked) -> Result<HistoryVerdict, NoFile> {
+pub fn recounted(screen: &Screen<'_>, asked: &HistoryAsked) -> Result<HistoryVerdict, NoFile> {
+    let rt = screen.rt;
     let seen = Seen::whole(bytes_of(rt, asked.file.as_str())?);
-    match recount(rt, asked, seen.bytes()) {
+    match recount(screen, asked, seen.bytes()) {
         Ok(Some(Ended::Done)) => Ok(HistoryVerdict::Told),
         Ok(Some(ended)) => Err(NoFile::Ended { seen, ended }),
         Ok(None) => {

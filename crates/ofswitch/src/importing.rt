@@ -1,6 +1,7 @@
 //! Tables of Open vSwitch as flow text.
 
-use of_hints::{import_hint, say_refusal};
+use crate::screen::Screen;
+use of_hints::{Marked, Place, import_hint, line_in, say_refusal};
 use of_import::{ImportError, ImportText, LineFaults, LineRefusal, Mode, import_text, name_of};
 use of_import_report::{fault_lines, import_as_json, left_out};
 use of_replay::streams::WriterSink;
@@ -21,6 +22,9 @@ pub enum NotImported {
 /// So many lines that are refused are named at most.
 const NAMED: usize = 20;
 
+/// So many of them are shown.
+const SHOWN: usize = 5;
+
 /// How often a keyword was refused.
 #[derive(Drop)]
 struct Tally {
@@ -30,8 +34,8 @@ struct Tally {
 }
 
 // Writes the text whole.
-fn print_text(rt: &HostRuntime, text: &[u8]) -> Result<(), NotImported> {
-    let mut writer = WriterSink::new(rt.stdout());
+fn print_text(screen: &Screen<'_>, text: &[u8]) -> Result<(), NotImported> {
+    let mut writer = WriterSink::new(screen.report());
     if write_all(&mut writer, text) {
         Ok(())
     } else {
@@ -40,19 +44,24 @@ fn print_text(rt: &HostRuntime, text: &[u8]) -> Result<(), NotImported> {
 }
 
 /// Prints the flow text of a table, and returns how many of its lines were left out or lost an action; standard error names them.
-pub fn imported(rt: &HostRuntime, bytes: &[u8], mode: Mode) -> Result<u128, NotImported> {
+pub fn imported(screen: &Screen<'_>, bytes: &[u8], mode: Mode) -> Result<u128, NotImported> {
+    let rt = screen.rt;
     let done = text_of(rt, bytes, mode)?;
-    print_text(rt, &done.text)?;
-    say_faults(rt, &done.faults, &done.refused);
+    print_text(screen, &done.text)?;
+    say_faults(rt, bytes, &done.faults, &done.refused);
     Ok(left_out(&done.faults, &done.refused, done.changed))
 }
 
 /// The same as one JSON document, which also says what is refused; standard error names nothing.
-pub fn imported_as_json(rt: &HostRuntime, bytes: &[u8], mode: Mode) -> Result<u128, NotImported> {
-    let Ok(answer) = import_as_json(rt.alloc(), bytes, mode) else {
+pub fn imported_as_json(
+    screen: &Screen<'_>,
+    bytes: &[u8],
+    mode: Mode,
+) -> Result<u128, NotImported> {
+    let Ok(answer) = import_as_json(screen.rt.alloc(), bytes, mode) else {
         return Err(NotImported::Ended(Ended::NoMemory));
     };
-    print_text(rt, &answer.json)?;
+    print_text(screen, &answer.json)?;
     match answer.left_out {
         Some(count) => Ok(count),
         None => Err(NotImported::Faults),
@@ -70,7 +79,7 @@ fn text_of(rt: &HostRuntime, bytes: &[u8], mode: Mode) -> Result<ImportText, Not
 /// Says on standard error why there is no import.
 pub fn say_no_import(rt: &HostRuntime, bytes: &[u8], error: &ImportError) -> NotImported {
     say_import_hint(rt, bytes);
-    say_error(rt, error)
+    say_error(rt, bytes, error)
 }
 
 // What the whole text is, if it is none of ovs-ofctl.
@@ -81,11 +90,11 @@ fn say_import_hint(rt: &HostRuntime, bytes: &[u8]) {
 }
 
 // Names what is wrong on standard error, except what other commands print at their end.
-fn say_error(rt: &HostRuntime, error: &ImportError) -> NotImported {
+fn say_error(rt: &HostRuntime, bytes: &[u8], error: &ImportError) -> NotImported {
     match error {
         ImportError::NoMemory => NotImported::Ended(Ended::NoMemory),
         ImportError::Faults(faults, refused) => {
-            say_faults(rt, faults, refused);
+            say_faults(rt, bytes, faults, refused);
             NotImported::Faults
         }
         ImportError::Refused { line, code } => {
@@ -101,11 +110,32 @@ fn say_error(rt: &HostRuntime, error: &ImportError) -> NotImported {
     }
 }
 
+// Shows a line, and a mark below a word, which is one of the first that are refused.
+fn say_place(rt: &HostRuntime, bytes: &[u8], line: usize, count: usize, word: &[u8]) {
+    if count >= SHOWN {
+        return;
+    }
+    if let Some(line) = line_in(bytes, line as u64) {
+        let _ = rt.eprintln(Marked::new(line, Place::of_part(line, word)));
+    }
+}
+
+// Names the words of a line that are refused. So many lines came before it.
+fn say_words(rt: &HostRuntime, bytes: &[u8], count: usize, it: &LineFaults) {
+    let Ok(text) = fault_lines(rt.alloc(), 1, std::slice::from_ref(it)) else {
+        return;
+    };
+    let text = std::str::from_utf8(&text).unwrap_or("?");
+    for (said, fault) in text.lines().zip(it.faults.iter()) {
+        let _ = eprintln!(rt; "{said}");
+        say_place(rt, bytes, it.line, count, &fault.word);
+    }
+}
+
 // Names the first lines that are refused on standard error, and how often which keyword is.
-fn say_faults(rt: &HostRuntime, faults: &[LineFaults], refused: &[LineRefusal]) {
-    if let Ok(text) = fault_lines(rt.alloc(), NAMED, faults) {
-        let text = std::str::from_utf8(&text).unwrap_or("?");
-        let _ = eprint!(rt; "{text}");
+fn say_faults(rt: &HostRuntime, bytes: &[u8], faults: &[LineFaults], refused: &[LineRefusal]) {
+    for (count, it) in faults.iter().take(NAMED).enumerate() {
+        say_words(rt, bytes, count, it);
     }
     for it in refused.iter().take(NAMED.saturating_sub(faults.len())) {
         let _ = eprintln!(rt;
@@ -113,6 +143,7 @@ fn say_faults(rt: &HostRuntime, faults: &[LineFaults], refused: &[LineRefusal]) 
             it.line, it.code.kind, it.code.code
         );
         say_refusal(rt, it.code);
+        say_place(rt, bytes, it.line, faults.len(), b"");
     }
     let more = faults
         .len()

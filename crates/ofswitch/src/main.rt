@@ -14,11 +14,14 @@ mod importing;
 mod live;
 mod lookups;
 mod paths;
+mod progress;
 mod requiring;
 mod say;
+mod screen;
 mod seed;
 mod serving;
 mod tracing;
+mod words;
 
 use crate::beginning::events_of_tables;
 use crate::checking::{CheckVerdict, checked};
@@ -29,7 +32,9 @@ use crate::folding::Folded;
 use crate::history::{HistoryVerdict, recounted};
 use crate::lookups::Lookups;
 use crate::paths::{NoPaths, divided};
+use crate::screen::Screen;
 use crate::tracing::{TraceVerdict, traced};
+use crate::words::say_word;
 use importing::{NotImported, imported, imported_as_json};
 use live::{are_peers, live_rows};
 use of_command_line::{
@@ -42,7 +47,7 @@ use of_hints::{Seen, Watched, end, end_file};
 use of_import::Mode;
 use of_paths_report::PathsVerdict;
 use of_replay::streams::{ReaderSource, WriterSink};
-use of_replay::{Ended, Plain, RowPrinter, Sink, Source, asm, dis, print_file, status};
+use of_replay::{Ended, Plain, RowPrinter, Sink, Source, asm, dis, print_file, status, write_all};
 use of_sockets::{Teller, ended_unopened, read_rows};
 use of_switch::Event;
 use say::{Unsaid, said};
@@ -83,7 +88,7 @@ fn main(rt: HostRuntime) -> ExitCode {
         return end(&rt, &Ended::NoMemory);
     };
     match read_request(rt.alloc(), &rt, &words) {
-        Ok(request) => carry_out(&rt, &request),
+        Ok(line) => carry_out(&Screen::new(&rt, &line), &line.request),
         Err(why) => tell(&rt, &why),
     }
 }
@@ -92,25 +97,34 @@ fn main(rt: HostRuntime) -> ExitCode {
 fn tell(rt: &HostRuntime, why: &NoRequest) -> ExitCode {
     match why {
         NoRequest::NoMemory => end(rt, &Ended::NoMemory),
-        NoRequest::Asked(text) => match rt.print(text.as_str()) {
-            Ok(()) => ExitCode::SUCCESS,
-            Err(_) => end(rt, &Ended::WriteFault),
-        },
+        NoRequest::Asked(text) => {
+            let screen = Screen::plain(rt);
+            if write_all(&mut WriterSink::new(screen.report()), text.as_bytes()) {
+                ExitCode::SUCCESS
+            } else {
+                end(rt, &Ended::WriteFault)
+            }
+        }
         NoRequest::Refused(text) => {
             let _ = eprint!(rt; "{text}");
+            ExitCode::from(BAD_ARGUMENTS)
+        }
+        NoRequest::Words { what, refusal } => {
+            say_word(rt, what, refusal);
             ExitCode::from(BAD_ARGUMENTS)
         }
     }
 }
 
-fn carry_out(rt: &HostRuntime, request: &Request) -> ExitCode {
+fn carry_out(screen: &Screen<'_>, request: &Request) -> ExitCode {
+    let rt = screen.rt;
     match request {
-        Request::File(asked) => run_file(rt, asked),
-        Request::Trace(asked) => run_trace(rt, asked),
-        Request::History(asked) => run_history(rt, asked),
-        Request::Check(asked) => run_check(rt, asked),
-        Request::Diff(asked) => run_diff(rt, asked),
-        Request::Paths(asked) => run_paths(rt, asked),
+        Request::File(asked) => run_file(screen, asked),
+        Request::Trace(asked) => run_trace(screen, asked),
+        Request::History(asked) => run_history(screen, asked),
+        Request::Check(asked) => run_check(screen, asked),
+        Request::Diff(asked) => run_diff(screen, asked),
+        Request::Paths(asked) => run_paths(screen, asked),
         Request::Import {
             file,
             skip,
@@ -118,7 +132,7 @@ fn carry_out(rt: &HostRuntime, request: &Request) -> ExitCode {
             json,
             port_names,
         } => run_import(
-            rt,
+            screen,
             file.as_str(),
             Mode {
                 skip: *skip,
@@ -127,19 +141,20 @@ fn carry_out(rt: &HostRuntime, request: &Request) -> ExitCode {
             *json,
             port_names,
         ),
-        Request::Say { messages } => run_say(rt, messages.as_str()),
+        Request::Say { messages } => run_say(screen, messages.as_str()),
         Request::Serve(asked) => run_serve(rt, asked),
         Request::Live(asked) => run_live(rt, asked),
     }
 }
 
 fn run_import(
-    rt: &HostRuntime,
+    screen: &Screen<'_>,
     path: &str,
     mode: Mode,
     json: bool,
     port_names: &Option<String>,
 ) -> ExitCode {
+    let rt = screen.rt;
     let numbered = match bytes_of(rt, path) {
         Ok(bytes) => with_ports(rt, port_names, bytes),
         Err(why) => Err(why),
@@ -150,9 +165,9 @@ fn run_import(
     };
     // how many lines of a table are left out or lose an action
     let done = if json {
-        imported_as_json(rt, &bytes, mode)
+        imported_as_json(screen, &bytes, mode)
     } else {
-        imported(rt, &bytes, mode)
+        imported(screen, &bytes, mode)
     };
     match done {
         Ok(0) => ExitCode::SUCCESS,
@@ -162,8 +177,9 @@ fn run_import(
     }
 }
 
-fn run_say(rt: &HostRuntime, word: &str) -> ExitCode {
-    match said(rt, word) {
+fn run_say(screen: &Screen<'_>, word: &str) -> ExitCode {
+    let rt = screen.rt;
+    match said(screen, word) {
         Ok(()) => ExitCode::SUCCESS,
         Err(Unsaid::Ended(ended)) => end(rt, &ended),
         Err(Unsaid::Unread(why)) => end_unread(rt, word, why),
@@ -180,15 +196,15 @@ fn run_say(rt: &HostRuntime, word: &str) -> ExitCode {
     }
 }
 
-fn run_file(rt: &HostRuntime, asked: &FileRun) -> ExitCode {
-    let path = asked.file.as_str();
+fn run_file(screen: &Screen<'_>, asked: &FileRun) -> ExitCode {
+    let (rt, path) = (screen.rt, asked.file.as_str());
     match open(rt, path) {
         Ok(Opened::File(file)) => {
             say_other_switch(rt, path, &asked.run);
-            let ended = run(rt, &asked.run, file);
+            let ended = run(screen, &asked.run, file);
             end_file(rt, path, &seen_again(rt, path, &ended), &ended)
         }
-        Ok(Opened::Input(input)) => run_over(rt, asked, input),
+        Ok(Opened::Input(input)) => run_over(screen, asked, input),
         Err(error) => end_unopened(rt, path, &error),
     }
 }
@@ -219,67 +235,67 @@ fn seen_again(rt: &HostRuntime, path: &str, ended: &Ended) -> Seen {
 }
 
 // A file that gives its lines only once. A flow text is read before it is used.
-fn run_over<R: Read + Drop>(rt: &HostRuntime, asked: &FileRun, reader: R) -> ExitCode {
-    let path = asked.file.as_str();
+fn run_over<R: Read + Drop>(screen: &Screen<'_>, asked: &FileRun, reader: R) -> ExitCode {
+    let (rt, path) = (screen.rt, asked.file.as_str());
     if asked.run != Run::Assemble {
         let mut watched = Watched::new(rt.alloc(), reader);
-        let ended = run(rt, &asked.run, &mut watched);
+        let ended = run(screen, &asked.run, &mut watched);
         return end_file(rt, path, &watched.seen, &ended);
     }
     match read_whole(rt.alloc(), reader) {
         Ok(text) => {
             let seen = Seen::whole(text);
-            let ended = run(rt, &asked.run, seen.bytes());
+            let ended = run(screen, &asked.run, seen.bytes());
             end_file(rt, path, &seen, &ended)
         }
         Err(ended) => end_file(rt, path, &Seen::nothing(rt.alloc()), &ended),
     }
 }
 
-fn run_trace(rt: &HostRuntime, asked: &Trace) -> ExitCode {
-    match traced(rt, asked) {
+fn run_trace(screen: &Screen<'_>, asked: &Trace) -> ExitCode {
+    match traced(screen, asked) {
         Ok(TraceVerdict::Traced) => ExitCode::SUCCESS,
         Ok(TraceVerdict::MissingPorts) => ExitCode::from(UNDECIDED),
         Ok(TraceVerdict::NoPort) => ExitCode::from(BAD_ARGUMENTS),
-        Err(why) => end_asked(rt, b"trace", asked.json, asked.of.path.as_str(), why),
+        Err(why) => end_asked(screen, b"trace", asked.json, asked.of.path.as_str(), why),
     }
 }
 
-fn run_history(rt: &HostRuntime, asked: &HistoryAsked) -> ExitCode {
-    match recounted(rt, asked) {
+fn run_history(screen: &Screen<'_>, asked: &HistoryAsked) -> ExitCode {
+    match recounted(screen, asked) {
         Ok(HistoryVerdict::Told) => ExitCode::SUCCESS,
         Ok(HistoryVerdict::NoHistory) => ExitCode::from(BAD_ARGUMENTS),
-        Err(why) => end_unread(rt, asked.file.as_str(), why),
+        Err(why) => end_unread(screen.rt, asked.file.as_str(), why),
     }
 }
 
-fn run_check(rt: &HostRuntime, asked: &Check) -> ExitCode {
-    match checked(rt, asked) {
+fn run_check(screen: &Screen<'_>, asked: &Check) -> ExitCode {
+    match checked(screen, asked) {
         Ok(CheckVerdict::Nothing) => ExitCode::SUCCESS,
         Ok(CheckVerdict::Found) => ExitCode::from(FOUND),
         Ok(CheckVerdict::Undecided) => ExitCode::from(UNDECIDED),
         Err(no) => {
             let json = asked.output == CheckOutput::Json;
-            end_asked(rt, b"check", json, no.path, no.why)
+            end_asked(screen, b"check", json, no.path, no.why)
         }
     }
 }
 
-fn run_diff(rt: &HostRuntime, asked: &Diff) -> ExitCode {
-    match diffed(rt, asked) {
+fn run_diff(screen: &Screen<'_>, asked: &Diff) -> ExitCode {
+    match diffed(screen, asked) {
         Ok(DiffVerdict::Same) => ExitCode::SUCCESS,
         Ok(DiffVerdict::Differs | DiffVerdict::OtherPorts) => ExitCode::from(FOUND),
         Ok(DiffVerdict::Undecided) => ExitCode::from(UNDECIDED),
-        Err(no) => end_asked(rt, b"diff", asked.json, no.path, no.why),
+        Err(no) => end_asked(screen, b"diff", asked.json, no.path, no.why),
     }
 }
 
-fn run_paths(rt: &HostRuntime, asked: &PathsAsked) -> ExitCode {
-    match divided(rt, asked) {
+fn run_paths(screen: &Screen<'_>, asked: &PathsAsked) -> ExitCode {
+    match divided(screen, asked) {
         Ok(PathsVerdict::Complete) => ExitCode::SUCCESS,
         Ok(PathsVerdict::Undecided) => ExitCode::from(UNDECIDED),
         Err(NoPaths::File(why)) => {
-            end_asked(rt, b"paths", asked.json, asked.of.path.as_str(), why)
+            end_asked(screen, b"paths", asked.json, asked.of.path.as_str(), why)
         }
         Err(NoPaths::NoMatch) => ExitCode::from(BAD_LINES),
         Err(NoPaths::NoPort) => ExitCode::from(BAD_ARGUMENTS),
@@ -287,8 +303,9 @@ fn run_paths(rt: &HostRuntime, asked: &PathsAsked) -> ExitCode {
 }
 
 // Why a file describes no switch; if JSON is asked for, also as a document.
-fn end_asked(rt: &HostRuntime, command: &[u8], json: bool, path: &str, why: NoFile) -> ExitCode {
-    if json && !print_fault(rt, command, path, &why) {
+fn end_asked(screen: &Screen<'_>, command: &[u8], json: bool, path: &str, why: NoFile) -> ExitCode {
+    let rt = screen.rt;
+    if json && !print_fault(screen, command, path, &why) {
         return end(rt, &Ended::WriteFault);
     }
     end_unread(rt, path, why)
@@ -389,9 +406,14 @@ fn end_unopened(rt: &HostRuntime, path: &str, error: &io::Error) -> ExitCode {
     code
 }
 
-fn run<R: Read + Drop>(rt: &HostRuntime, run: &Run, reader: R) -> Ended {
+fn run<R: Read + Drop>(screen: &Screen<'_>, run: &Run, reader: R) -> Ended {
+    screen.end(run_to_end(screen, run, reader))
+}
+
+fn run_to_end<R: Read + Drop>(screen: &Screen<'_>, run: &Run, reader: R) -> Ended {
+    let rt = screen.rt;
     let mut reader = ReaderSource::new(reader);
-    let mut writer = WriterSink::new(rt.stdout());
+    let mut writer = WriterSink::new(screen.stream());
     match run {
         Run::Replay {
             dpid,

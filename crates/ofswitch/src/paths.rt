@@ -1,6 +1,8 @@
 //! Paths of the frames of a switch.
 use crate::files::{NoFile, has_port, read_switch, say_missing};
 use crate::lookups::Lookups;
+use crate::screen::Screen;
+use crate::words::say_word;
 use of_command_line::{Leading, PathsAsked};
 use of_files::Described;
 use of_frame_words::{NoFrame, read_conditions};
@@ -62,8 +64,7 @@ fn without_match(rt: &HostRuntime, why: &NoFrame) -> NoPaths {
     match why {
         NoFrame::NoMemory => NoPaths::File(NoFile::ended(rt.alloc(), Ended::NoMemory)),
         NoFrame::Refused(refusal) => {
-            let word = std::str::from_utf8(&refusal.word).unwrap_or("?");
-            let _ = eprintln!(rt; "bad match: {word}: {}", refusal.why);
+            say_word(rt, "bad match", refusal);
             NoPaths::NoMatch
         }
     }
@@ -75,15 +76,16 @@ fn unfinished(rt: &HostRuntime, ended: Ended) -> NoPaths {
 
 // Prints the paths of the frames that a switch receives and that match.
 fn paths_within(
-    rt: &HostRuntime,
+    screen: &Screen<'_>,
     asked: &PathsAsked,
     described: &Described<Lookups>,
 ) -> Result<PathsVerdict, NoPaths> {
+    let rt = screen.rt;
     let within = match read_conditions(rt.alloc(), asked.within.as_bytes()) {
         Ok(within) => within,
         Err(why) => return Err(without_match(rt, &why)),
     };
-    let missing = match say_missing(rt, asked.json, &described.missing) {
+    let missing = match say_missing(screen, asked.json, &described.missing) {
         Ok(missing) => missing,
         Err(ended) => return Err(unfinished(rt, ended)),
     };
@@ -101,7 +103,7 @@ fn paths_within(
     let (alloc, form, mut out) = (
         rt.alloc(),
         form_of(asked.json),
-        WriterSink::new(rt.stdout()),
+        WriterSink::new(screen.report()),
     );
     match write_paths(alloc, &described.switch, &of_frames, form, &mut out) {
         Ok(PathsVerdict::Complete) if missing => Ok(PathsVerdict::Undecided),
@@ -111,10 +113,11 @@ fn paths_within(
 }
 
 /// Prints which steps the frames take that the switch of a file receives, and returns whether it is known of all of them.
-pub fn divided(rt: &HostRuntime, asked: &PathsAsked) -> Result<PathsVerdict, NoPaths> {
+pub fn divided(screen: &Screen<'_>, asked: &PathsAsked) -> Result<PathsVerdict, NoPaths> {
+    let rt = screen.rt;
     match read_switch(rt, &asked.of, None, true) {
         Ok(described) if has_ports(rt, asked, &described.switch) => {
-            paths_within(rt, asked, &described)
+            paths_within(screen, asked, &described)
         }
         Ok(_) => Err(NoPaths::NoPort),
         Err(why) => Err(NoPaths::File(why)),

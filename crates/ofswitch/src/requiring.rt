@@ -2,9 +2,11 @@
 use crate::faults::requirement_fault;
 use crate::files::{NoFile, bytes_of};
 use crate::lookups::Lookups;
+use crate::progress::Progress;
 use of_check::required_port;
 use of_command_line::{Check, CheckOutput};
 use of_files::missing_ports;
+use of_hints::{Marked, Place, line_in};
 use of_paths_report::Destination;
 use of_replay::Ended;
 use of_require::{
@@ -23,14 +25,17 @@ pub struct Required {
     pub verdict: Verdict,
 }
 
-// Says which line is no requirement, and why.
-fn say_refusal(rt: &HostRuntime, path: &str, line: usize, refusal: &Refusal) {
+// Says which line is no requirement, and why, and shows it.
+fn say_refusal(rt: &HostRuntime, path: &str, bytes: &[u8], line: usize, refusal: &Refusal) {
     let word = match std::str::from_utf8(&refusal.word) {
         Ok("") => "at its end",
         Ok(word) => word,
         Err(_) => "?",
     };
     let _ = eprintln!(rt; "{path}: line {line}: {word}: {}", refusal.why);
+    if let Some(line) = line_in(bytes, line as u64) {
+        let _ = rt.eprintln(Marked::new(line, Place::of_part(line, &refusal.word)));
+    }
 }
 
 /// The requirements of a file; if it has none, standard error says which line is at fault.
@@ -43,7 +48,7 @@ pub fn read_required(rt: &HostRuntime, path: &str) -> Result<Vec<Line>, NoFile> 
     match why {
         NoRequirement::NoMemory => Err(NoFile::ended(rt.alloc(), Ended::NoMemory)),
         NoRequirement::Refused(refusal) => {
-            say_refusal(rt, path, line, &refusal);
+            say_refusal(rt, path, &bytes, line, &refusal);
             let fault = requirement_fault(rt.alloc(), line, refusal);
             Err(NoFile::Faults(fault.ok()))
         }
@@ -130,6 +135,27 @@ fn write_junit(rt: &HostRuntime, path: &str, found: &[Answer]) -> Result<(), NoF
     }
 }
 
+// What is found about each requirement, one after the other.
+fn answers_of(
+    rt: &HostRuntime,
+    switch: &Switch<Lookups>,
+    lines: Vec<Line>,
+    steps: usize,
+) -> Result<Vec<Answer>, AllocError> {
+    let (alloc, count, progress) = (rt.alloc(), lines.len(), Progress::new(rt));
+    let mut answers = Vec::new(alloc);
+    for line in lines {
+        let number = answers.len().saturating_add(1);
+        progress.say(format!(in alloc; "requirement {number} of {count}")?);
+        let mut asked = Vec::new(alloc);
+        asked.push(line)?;
+        let mut found = answer_all(alloc, switch.datapath(), asked, steps)?;
+        answers.append(&mut found)?;
+    }
+    progress.end();
+    Ok(answers)
+}
+
 /// What is found about requirements of a switch, which is also written as XML if that is asked for.
 pub fn decide_all(
     rt: &HostRuntime,
@@ -138,7 +164,7 @@ pub fn decide_all(
     lines: Vec<Line>,
 ) -> Result<Required, NoFile> {
     let (alloc, steps) = (rt.alloc(), asked.steps as usize);
-    let Ok(found) = answer_all(alloc, switch.datapath(), lines, steps) else {
+    let Ok(found) = answers_of(rt, switch, lines, steps) else {
         return Err(NoFile::ended(alloc, Ended::NoMemory));
     };
     if let Some(path) = &asked.junit {

@@ -1,5 +1,6 @@
 //! Messages of OpenFlow in words.
 use crate::files::{NoFile, bytes_of};
+use crate::screen::Screen;
 use of_explain::say_messages;
 use of_replay::streams::WriterSink;
 use of_replay::{Ended, write_all};
@@ -70,13 +71,14 @@ fn messages_of(rt: &HostRuntime, word: &str) -> Result<Vec<u8>, Unsaid> {
 }
 
 /// Prints the messages of a word or a file in words.
-pub fn said(rt: &HostRuntime, word: &str) -> Result<(), Unsaid> {
+pub fn said(screen: &Screen<'_>, word: &str) -> Result<(), Unsaid> {
+    let rt = screen.rt;
     let bytes = messages_of(rt, word)?;
     let mut text = Vec::new(rt.alloc());
     let Ok(left) = say_messages(rt.alloc(), &mut text, &bytes) else {
         return Err(Unsaid::Ended(Ended::NoMemory));
     };
-    if !write_all(&mut WriterSink::new(rt.stdout()), &text) {
+    if !write_all(&mut WriterSink::new(screen.report()), &text) {
         return Err(Unsaid::Ended(Ended::WriteFault));
     }
     if left > 0 {

@@ -1,6 +1,7 @@
 //! Traces of frames.
 use crate::files::{NoFile, bytes_of, has_port, read_switch, say_missing};
 use crate::lookups::Lookups;
+use crate::screen::Screen;
 use of_command_line::{Asked, FileKind, Trace};
 use of_files::Described;
 use of_hints::Seen;
@@ -41,11 +42,12 @@ fn output_of(asked: &Trace) -> Output {
 }
 
 // The trace on the switch of a file that an option calls a flow text, which has ports 1 to 64.
-fn traced_on_text(rt: &HostRuntime, asked: &Trace) -> Result<TraceVerdict, NoFile> {
+fn traced_on_text(screen: &Screen<'_>, asked: &Trace) -> Result<TraceVerdict, NoFile> {
+    let rt = screen.rt;
     let bytes = bytes_of(rt, asked.of.path.as_str())?;
     let (alloc, port, frame) = (rt.alloc(), asked.port, asked.frame.as_slice());
     let mut reader = ReaderSource::new(bytes.as_slice());
-    let mut writer = WriterSink::new(rt.stdout());
+    let mut writer = WriterSink::new(screen.report());
     let output = output_of(asked);
     match trace_file::<Lookups, _, _>(alloc, &mut reader, port, frame, output, &mut writer) {
         Ended::Done => Ok(TraceVerdict::Traced),
@@ -57,18 +59,19 @@ fn traced_on_text(rt: &HostRuntime, asked: &Trace) -> Result<TraceVerdict, NoFil
 }
 
 // The trace on the switch of a file, with the ports that it names; before a line it is the one that the lines before it leave.
-fn traced_on_switch(rt: &HostRuntime, asked: &Trace) -> Result<TraceVerdict, NoFile> {
+fn traced_on_switch(screen: &Screen<'_>, asked: &Trace) -> Result<TraceVerdict, NoFile> {
+    let rt = screen.rt;
     let lines = asked.at.map(|row| u64::from(row).saturating_sub(1));
     let Described { switch, missing } = read_switch(rt, &asked.of, lines, false)?;
     if !has_port(rt, &switch, "--port", asked.port) {
         return Ok(TraceVerdict::NoPort);
     }
     let (alloc, frame, output) = (rt.alloc(), asked.frame.as_slice(), output_of(asked));
-    let some_missing = match say_missing(rt, asked.json, &missing) {
+    let some_missing = match say_missing(screen, asked.json, &missing) {
         Ok(some) => some,
         Err(ended) => return Err(NoFile::ended(alloc, ended)),
     };
-    let mut writer = WriterSink::new(rt.stdout());
+    let mut writer = WriterSink::new(screen.report());
     match write_trace(alloc, &switch, asked.port, frame, output, &mut writer) {
         Ended::Done if some_missing => Ok(TraceVerdict::MissingPorts),
         Ended::Done => Ok(TraceVerdict::Traced),
@@ -77,10 +80,10 @@ fn traced_on_switch(rt: &HostRuntime, asked: &Trace) -> Result<TraceVerdict, NoF
 }
 
 /// Prints the trace of a frame on the switch of a file.
-pub fn traced(rt: &HostRuntime, asked: &Trace) -> Result<TraceVerdict, NoFile> {
+pub fn traced(screen: &Screen<'_>, asked: &Trace) -> Result<TraceVerdict, NoFile> {
     if asked.of.kind == FileKind::Flows && asked.of.ports.is_none() {
-        traced_on_text(rt, asked)
+        traced_on_text(screen, asked)
     } else {
-        traced_on_switch(rt, asked)
+        traced_on_switch(screen, asked)
     }
 }

@@ -22,7 +22,7 @@ loop-left-init g c =
     let pair = c.in_ok-first_pair.field-0 in
     let is = c.in_ok-first_pair.ensures in
     rw (first_of_none c.new-pairs.result.items c.push.new.self.items pair c.new-pairs.ensures.items c.in_ok-push.ensures.items)
-    (running_begins c.args.compared w v c.args.steps pair _ c.new.ensures.items c.new-2.ensures.items (record { runs = is.holds w v; first = is.first; second = is.second; all = is.all }))
+    (running_begins c.args.compared w v c.args.steps pair _ c.new.ensures.items c.new-2.ensures.items (record { runs = is.holds v; first = is.first; second = is.second; all = is.all }))
 
 pub returns-in_default-clause-some : goal.returns-in_default-clause-some
 returns-in_default-clause-some g c =
@@ -32,6 +32,11 @@ returns-in_default-clause-some g c =
 
 pub step_pair-requires-clause-agreement : goal.step_pair-requires-clause-agreement
 step_pair-requires-clause-agreement g c = c.in_ok-agreement.ensures.agreement
+
+pub step_pair-requires-clause-received : goal.step_pair-requires-clause-received
+step_pair-requires-clause-received g c =
+    let run = rw c.in-Some.ensures.items at c.loop-left.invariant in
+    (run.so_far.hold c.in-Some.pair (Contains-push c.pop.new.self.items c.in-Some.pair)).received
 
 pub loop-left-preserved : goal.loop-left-preserved
 loop-left-preserved g c =

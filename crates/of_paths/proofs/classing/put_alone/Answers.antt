@@ -1,4 +1,3 @@
-use Rattle.std.proofs.Common.{inl}
 use Rattle.of_datapath.specs.Datapath.{world_of}
 use Rattle.of_datapath.specs.Numbers.{forwarding_of}
 use Rattle.of_symbolic_run.specs.declared.finding.FrameFound.TheVariants.{Empty, Undecided}
@@ -18,4 +17,4 @@ returns-in-Empty g c =
 pub returns-in-Undecided : goal.returns-in-Undecided
 returns-in-Undecided g c =
     let none : FindsFrame c.args.path.frames c.args.steps Undecided = rw c.in-Undecided.is at c.in_ok-frame.ensures in
-    if_ok c.push_unfound.result _ _ (puts_unfound (world_of (forwarding_of c.args.datapath.now)) c.args.steps c.args.path c.args.found.now c.push_unfound.new.found (inl none) c.push_unfound.ensures.classes) c.push_unfound.ensures.undecided
+    if_ok c.push_unfound.result _ _ (puts_unfound (world_of (forwarding_of c.args.datapath.now)) c.args.steps c.args.path c.args.found.now c.push_unfound.new.found none c.push_unfound.ensures.classes) c.push_unfound.ensures.undecided

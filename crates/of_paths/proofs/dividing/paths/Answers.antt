@@ -2,7 +2,9 @@ use Rattle.std.proofs.Common.{◌≡◌, ℕ, subst}
 use Rattle.of_datapath.specs.Datapath.{world_of}
 use Rattle.of_datapath.specs.Numbers.{forwarding_of}
 use Rattle.of_paths.specs.Reasons.{AreLeftAfter}
-use Rattle.of_paths.proofs.SoFarLemmas.{ends, first_of_none, no_length, running_begins, running_more}
+use Rattle.of_paths.specs.SoFar.{IsNextOf}
+use Rattle.of_paths.specs.declared.stepping.Next.TheVariants.{Ended}
+use Rattle.of_paths.proofs.SoFarLemmas.{ended_received, ends, first_of_none, no_length, running_begins, running_more}
 use Rattle.of_paths.proofs.TakenLemmas.{all_taken, at_most}
 use Rattle.of_paths.proofs.dividing.paths.Goals as goal
 
@@ -18,6 +20,14 @@ pub returns-in_default : goal.returns-in_default
 returns-in_default g c =
     let none = no_length c.loop-left.cases c.in_default.ensures.cases.0 in
     ends c.args.merging (world_of (forwarding_of c.args.datapath.now)) c.args.within.now c.args.steps c.loop-left.found (rw none at c.loop-left.invariant.so_far)
+
+pub put_next-requires : goal.put_next-requires
+put_next-requires g c =
+    let w = (world_of (forwarding_of c.args.datapath.now)) in
+    let run = rw c.in-Some.ensures.items at c.loop-left.invariant in
+    λ path is.
+    let own : IsNextOf w c.in-Some.case (Ended path) = subst (IsNextOf w c.in-Some.case) is c.in_ok-next.ensures in
+    ended_received c.args.merging w c.args.within.now c.args.steps c.pop.new.self.items c.in-Some.case c.loop-left.found run.so_far path own.0
 
 pub loop-left-preserved : goal.loop-left-preserved
 loop-left-preserved g c =

@@ -52,3 +52,6 @@ returns-in_ok-push-in-Undecided-clause-so_far g c = λ within taken old most nex
     let reason : IsReason w c.args.steps taken old u.why = subst (IsReason w c.args.steps taken old) (sym own.1) own.2 in
     put_undecided c.args.merging w within c.args.steps c.args.cases.now.items old c.args.found.now so_far u _ own.0
     (last_is_undecided c.args.merging w within c.args.steps c.args.cases.now.items old c.args.found.now so_far taken u most left own.0 reason) refl c.in_ok-push-in-Undecided.ensures.items
+
+pub put_path-requires : goal.put_path-requires
+put_path-requires g c = c.requires c.in-Ended.path c.in-Ended.is

@@ -41,14 +41,14 @@ returns-in_ok-push_parts-in-Splits-clause-state c start s =
     let i = c.in-Splits.at in
     let a : Rest = record { region = c.divided.result.0; from = i } in
     let b : Rest = record { region = c.divided.result.1; from = i } in
-    rw c.in_ok-push_parts-in-Splits.ensures (split_state start c.args.rivals.now c.args.search.now.rests.items c.args.rest c.args.search.now.names.items c.args.search.now.unreceived s i a b refl refl c.divided.ensures c.in-Splits.e c.in-Splits.ensures)
+    rw c.in_ok-push_parts-in-Splits.ensures (split_state start c.args.rivals.now c.args.search.now.rests.items c.args.rest c.args.search.now.names.items c.args.search.now.unreceived s i a b refl refl c.in-Splits.e c.divided.ensures c.in-Splits.ensures)
 
 pub returns-in_ok-push_parts-in-Splits-clause-step : goal.returns-in_ok-push_parts-in-Splits-clause-step
 returns-in_ok-push_parts-in-Splits-clause-step c start s =
     let i = c.in-Splits.at in
     let a : Rest = record { region = c.divided.result.0; from = i } in
     let b : Rest = record { region = c.divided.result.1; from = i } in
-    rw c.in_ok-push_parts-in-Splits.ensures (split_step start c.args.rivals.now c.args.search.now.rests.items c.args.rest c.args.search.now.names.items c.args.search.now.unreceived s i a b refl refl c.divided.ensures c.in-Splits.e c.in-Splits.ensures)
+    rw c.in_ok-push_parts-in-Splits.ensures (split_step start c.args.rivals.now c.args.search.now.rests.items c.args.rest c.args.search.now.names.items c.args.search.now.unreceived s i a b refl refl c.in-Splits.e c.divided.ensures c.in-Splits.ensures)
 
 pub returns-in-Some-clause-found : goal.returns-in-Some-clause-found
 returns-in-Some-clause-found c start s =

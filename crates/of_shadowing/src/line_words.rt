@@ -1,0 +1,131 @@
+//! The words of a line: those that are conditions, and the others.
+ghost use Rattle.std.specs.Prelude.{◌≡◌, ◌∷◌, [], ◌++◌, ◌||◌, not, filter, IfOk, OnOk};
+ghost use Rattle.std.specs.Str.{bytes_eq};
+ghost use Rattle.of_ovs_words.specs.Words.{word_name, words_from};
+ghost use Rattle.of_import.specs.LineContents.{with_words};
+ghost use Rattle.of_values.specs.Origins.{view_words};
+ghost use Rattle.of_shadowing.specs.LineWords.{with_actions_begun, is_conjunction as is_conjunction_so, no_line_words, with_action_passed, with_line_word, with_plain, with_word_named};
+ghost use Rattle.of_shadowing.specs.LineWordViews.{view_line_words};
+
+use crate::conditions::is_condition;
+use of_import::begins_actions;
+use of_ovs_words::{cut_word, name_of, value_of};
+use of_text::is;
+use std::alloc::{AllocError, Global};
+
+/// The words of a line, so far.
+#[derive(Drop)]
+pub struct LineWords {
+    /// Those that are no conditions, and `actions=drop` in place of all actions.
+    pub plain: Vec<u8>,
+    /// Those that are conditions.
+    pub conditions: Vec<Vec<u8>>,
+    pub in_actions: bool,
+    /// Whether an action is `conjunction`.
+    pub is_clause: bool,
+}
+
+fn is_conjunction(word: &[u8]) -> bool
+    ensures { result ≡ is_conjunction_so word.now }
+{
+    is(name_of(word), b"conjunction")
+}
+
+// Whether two words have one name.
+fn have_one_name(a: &[u8], b: &[u8]) -> bool
+    ensures { result ≡ bytes_eq (word_name a.now) (word_name b.now) }
+{
+    is(name_of(a), name_of(b))
+}
+
+// Removes the words of the name of this one.
+fn remove_named(words: &mut Vec<Vec<u8>>, word: &[u8])
+    ensures { words.new.items ≡ filter (λ w. not (bytes_eq (word_name w.items) (word_name word.now))) words.old.items }
+{
+    words.retain(|other| !have_one_name(other, word));
+}
+
+// Adds a word, which takes the place of those of its name.
+fn replace_named(alloc: Global, words: &mut Vec<Vec<u8>>, word: &[u8]) -> Result<(), AllocError>
+    ensures { OnOk result (view_words words.new.items ≡ with_word_named word.now (view_words words.old.items)) }
+{
+    let copy = word.to_vec(alloc)?;
+    remove_named(words, word);
+    words.push(copy)?;
+    Ok(())
+}
+
+impl LineWords {
+    /// Of no word.
+    pub fn new(alloc: Global) -> LineWords
+        ensures { view_line_words result ≡ no_line_words }
+    {
+        LineWords {
+            plain: Vec::new(alloc),
+            conditions: Vec::new(alloc),
+            in_actions: false,
+            is_clause: false,
+        }
+    }
+
+    // An action.
+    fn add_action(&mut self, word: &[u8])
+        ensures { view_line_words self.new ≡ with_action_passed (view_line_words self.old) word.now }
+    {
+        self.is_clause = self.is_clause || is_conjunction(word);
+    }
+
+    // `actions=` and the first action.
+    fn begin_actions(&mut self, word: &[u8]) -> Result<(), AllocError>
+        ensures { OnOk result (view_line_words self.new ≡ with_actions_begun (view_line_words self.old) word.now) }
+    {
+        self.plain.extend_from_slice(b"actions=drop")?;
+        self.in_actions = true;
+        self.is_clause = is_conjunction(value_of(word));
+        Ok(())
+    }
+
+    // A word that is no condition.
+    fn add_plain(&mut self, word: &[u8]) -> Result<(), AllocError>
+        ensures { OnOk result (view_line_words self.new ≡ with_plain (view_line_words self.old) word.now) }
+    {
+        self.plain.extend_from_slice(word)?;
+        self.plain.push(b',')?;
+        Ok(())
+    }
+
+    /// Adds a word.
+    pub fn add(&mut self, alloc: Global, word: &[u8]) -> Result<(), AllocError>
+        ensures { OnOk result (view_line_words self.new ≡ with_line_word (view_line_words self.old) word.now) }
+    {
+        if self.in_actions {
+            self.add_action(word);
+            Ok(())
+        } else if begins_actions(name_of(word)) {
+            self.begin_actions(word)
+        } else if is_condition(name_of(word)) {
+            replace_named(alloc, &mut self.conditions, word)
+        } else {
+            self.add_plain(word)
+        }
+    }
+}
+
+/// The words of a line.
+pub fn split_line(alloc: Global, text: &[u8]) -> Result<LineWords, AllocError>
+    ensures { IfOk result (λ words. with_words with_line_word no_line_words (words_from 0 text.now) ≡ view_line_words words) }
+{
+    let mut words = LineWords::new(alloc);
+    let mut rest = text;
+    while !rest.is_empty() {
+        let (word, after) = cut_word(rest);
+        rest = after;
+        if !word.is_empty() {
+            match words.add(alloc, word) {
+                Ok(()) => {}
+                Err(error) => return Err(error),
+            }
+        }
+    }
+    Ok(words)
+}

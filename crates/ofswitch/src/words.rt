@@ -1,0 +1,28 @@
+//! Words of frames and matches that are refused.
+use of_frame_words::{Refusal, Why};
+use of_import::WordFault;
+use of_import_report::help_of;
+use std::alloc::{AllocError, Global};
+
+// Which values the keyword of a word has, or which may be meant; or nothing.
+fn help_with(alloc: Global, refusal: &Refusal) -> Result<Vec<u8>, AllocError> {
+    match refusal.why {
+        Why::Word(why) => {
+            let word = refusal.word.to_vec(alloc)?;
+            help_of(alloc, &WordFault { word, why })
+        }
+        Why::Mask | Why::Impossible => Ok(Vec::new(alloc)),
+    }
+}
+
+/// Says on standard error which word is refused, why, and what helps.
+pub fn say_word(rt: &HostRuntime, what: &str, refusal: &Refusal) {
+    let word = std::str::from_utf8(&refusal.word).unwrap_or("?");
+    let _ = eprint!(rt; "{what}: {word}: {}", refusal.why);
+    if let Ok(help) = help_with(rt.alloc(), refusal) {
+        let help = std::str::from_utf8(&help).unwrap_or("?");
+        let colon = if help.is_empty() { "" } else { ": " };
+        let _ = eprint!(rt; "{colon}{help}");
+    }
+    let _ = eprintln!(rt; "");
+}

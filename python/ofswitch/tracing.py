@@ -1,0 +1,40 @@
+"""What becomes of a frame at the switch of a text, as `ofswitch trace` finds it (docs/TRACE.md)."""
+
+from __future__ import annotations
+
+import os
+from typing import Any
+
+from . import library, rows
+from .program import StrPath, answered, document_of, file_of, find
+from .rows import Octets
+
+# Exit statuses: an argument or a file has a fault; a port is named that the switch does not have.
+_BAD_ARGUMENT = 1
+_BAD_FILE = 2
+_MISSING_PORTS = 5
+
+
+def trace(
+    switch: str | os.PathLike[str], port: int, frame: Octets | str, *, program: StrPath | None = None, timeout: float = 600.0
+) -> dict[str, Any]:
+    """The steps of a frame that comes in by a port, and what leaves, as docs/JSON.md describes them: `steps`, `effects` and the rest.
+
+    The switch is a text, or the path of a file (a `pathlib.Path`): flow text, an event file, or what `ovs-ofctl` prints. The frame is
+    bytes, or words: "tcp,nw_src=10.0.0.1,tp_dst=80". ValueError if the text, the port or the frame has a fault.
+    """
+
+    def by_program() -> dict[str, Any]:
+        given = frame if isinstance(frame, str) else rows.as_bytes(frame).hex() or "-"
+        with file_of(switch) as file:
+            words = [find(program), "trace", "--json", "--port", str(port), file, given]
+            return document_of(words, timeout, (0, _MISSING_PORTS), (_BAD_ARGUMENT, _BAD_FILE))
+
+    def by_library(it: library.Library) -> dict[str, Any]:
+        comes_in_by, octets = it.frame_in_words(frame, port) if isinstance(frame, str) else (port, rows.as_bytes(frame))
+        # the program says that the words name another port
+        if comes_in_by != port:
+            raise library.Fault(0)
+        return it.trace(library.content_of(switch), comes_in_by, octets)
+
+    return answered(program, by_library, by_program)
