@@ -65,10 +65,13 @@ class Page:
     def open(self, path, place=""):
         """Opens a file, and returns how many seconds that took, until the page's program was at its end."""
         began = time.monotonic()
-        self.call("Page.navigate", url=f"file://{path}{place}")
+        self.navigate(f"file://{path}{place}")
         self._until(lambda it: it.get("method") == "Page.loadEventFired")
         self.value("new Promise((done) => { const see = () => document.body.ariaBusy === 'false' ? done() : setTimeout(see, 5); see(); })")
         return time.monotonic() - began
+
+    def navigate(self, url):
+        self.call("Page.navigate", url=url)
 
     def processor_seconds(self):
         """How long the page's tasks have run so far."""
@@ -100,6 +103,16 @@ class Page:
         )
         for kind in ("mousePressed", "mouseReleased"):
             self.call("Input.dispatchMouseEvent", type=kind, x=box[0], y=box[1], button="left", clickCount=1)
+
+    def insert(self, text):
+        """Types a text into the element that has the focus."""
+        self.call("Input.insertText", text=text)
+
+    def named(self):
+        """The role and the name of each element that a screen reader reads."""
+        self.call("Accessibility.enable")
+        nodes = [it for it in self.call("Accessibility.getFullAXTree")["nodes"] if not it["ignored"]]
+        return [(it["role"]["value"], it.get("name", {}).get("value", "")) for it in nodes]
 
     def press(self, *keys):
         for key in keys:
