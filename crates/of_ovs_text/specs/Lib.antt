@@ -1,0 +1,5 @@
+pub mod Fields
+pub mod Actions
+pub mod Flows
+pub mod Groups
+pub mod Lines

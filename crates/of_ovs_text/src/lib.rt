@@ -1,0 +1,10 @@
+//! The groups and flows of a configuration as lines that `ovs-ofctl` reads.
+#![tactic(auto)]
+
+mod actions;
+mod fields;
+mod flows;
+mod groups;
+mod lines;
+
+pub use lines::ovs_text;
