@@ -7,7 +7,7 @@ use std::alloc::{AllocError, Global};
 // How an option is written; None for what is written by its place.
 fn option_text(alloc: Global, kind: &Kind) -> Result<Option<String>, AllocError> {
     let (name, value) = match kind {
-        Kind::Positional | Kind::Free | Kind::Place => return Ok(None),
+        Kind::Positional | Kind::Words | Kind::Free | Kind::Place => return Ok(None),
         Kind::Required(name) | Kind::Flag(name) => (*name, ""),
         Kind::Alternative(name, value)
         | Kind::Optional(name, value)

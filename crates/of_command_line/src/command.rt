@@ -77,7 +77,11 @@ the switch's groups by number and its flows by table, oldest first, as flow
 text (`ofswitch asm --help`), without counters and times. If the file has a bad
 row, nothing is printed.
 
-  ofswitch asm examples/router.flows | ofswitch dis -";
+With --ovs it prints the groups and flows of any file that `check` reads, one
+per line, as `ovs-ofctl add-groups` and `add-flows` read them.
+
+  ofswitch asm examples/router.flows | ofswitch dis -
+  ofswitch dis --ovs examples/router.flows";
 
 const TRACES: &str = "FILE is a flow text (`ofswitch asm --help`), an event file (`ofswitch replay
 --help`), or what ovs-ofctl prints (`ofswitch import --help`). The first word
@@ -249,8 +253,14 @@ bytes it has, as `replay --explain` prints them. Below it are its match,
 actions or group in flow text, or the rows of a multipart reply. Bytes after
 the last whole message end with status 2.
 
+With --hex it is the other way round: the words of a message of a controller,
+or `frame` and the words of a frame, as `trace` takes them.
+
   ofswitch say 0400000800000001
-  ofswitch say message.bin";
+  ofswitch say message.bin
+  ofswitch say --hex flow add priority=10,ip,nw_dst=10.0.0.0/8,actions=output:2
+  ofswitch say --hex role master 7
+  ofswitch say --hex frame in_port=1,tcp,nw_src=10.0.0.1,tp_dst=80";
 
 const VERSION: &str = "0.1.0";
 
@@ -270,6 +280,8 @@ pub(crate) struct Argument {
 pub(crate) enum Kind {
     // By its place; it has to be there.
     Positional,
+    // By their places: one word or more.
+    Words,
     // By its place, where it is there; then none of the options of which there has to be exactly one is needed.
     Free,
     // Behind this option, which has to be there.
@@ -350,11 +362,18 @@ const ASSEMBLE: [Argument; 3] = [
     },
 ];
 
-const DISASSEMBLE: [Argument; 1] = [Argument {
-    name: "FILE",
-    kind: Kind::Positional,
-    help: "The event file to run; - is standard input",
-}];
+const DISASSEMBLE: [Argument; 2] = [
+    Argument {
+        name: "FILE",
+        kind: Kind::Positional,
+        help: "The event file to run; - is standard input",
+    },
+    Argument {
+        name: "as-ovs",
+        kind: Kind::Flag("ovs"),
+        help: "Print the groups and flows of FILE, which may be any file that `check` reads, as ovs-ofctl reads them",
+    },
+];
 
 const IMPORT: [Argument; 2] = [
     Argument {
@@ -369,11 +388,23 @@ const IMPORT: [Argument; 2] = [
     },
 ];
 
-const SAY: [Argument; 1] = [Argument {
-    name: "FILE",
-    kind: Kind::Positional,
-    help: "Messages in hexadecimal digits, or a file with such digits or with the bytes; - is standard input",
-}];
+const SAY: [Argument; 3] = [
+    Argument {
+        name: "FILE",
+        kind: Kind::Words,
+        help: "Messages in hexadecimal digits, or a file with such digits or with the bytes; - is standard input. With --hex, the words of a message",
+    },
+    Argument {
+        name: "hex",
+        kind: Kind::Flag("hex"),
+        help: "Print the bytes of the message, or of the frame, that the words say, in hexadecimal digits",
+    },
+    Argument {
+        name: "xid",
+        kind: Kind::Optional("xid", "N"),
+        help: "With --hex, the transaction id, decimal or 0x and hexadecimal digits (by default 1)",
+    },
+];
 
 const TRACE: [Argument; 14] = [
     Argument {
@@ -549,10 +580,10 @@ pub(crate) const SUBCOMMANDS: [Subcommand; 12] = [
     },
     Subcommand {
         name: "dis",
-        about: "Prints the groups and flows that an event file makes, as flow text",
+        about: "Prints the groups and flows that an event file makes, as flow text, or for ovs-ofctl",
         text: DISASSEMBLY,
         arguments: &DISASSEMBLE,
-        of_tables: &[],
+        of_tables: &OVS_READING,
     },
     Subcommand {
         name: "import",
@@ -563,7 +594,7 @@ pub(crate) const SUBCOMMANDS: [Subcommand; 12] = [
     },
     Subcommand {
         name: "say",
-        about: "Prints OpenFlow messages in words",
+        about: "Prints OpenFlow messages in words, or the bytes that words say",
         text: SAYING,
         arguments: &SAY,
         of_tables: &[],
@@ -681,6 +712,7 @@ fn argument_of<'a>(alloc: Global, argument: &Argument) -> Result<Arg<'a>, AllocE
     let named = Arg::new(alloc, argument.name).help(argument.help);
     match argument.kind {
         Kind::Positional => Ok(named.required(true)),
+        Kind::Words => Ok(named.required(true).num_args(1..)),
         Kind::Place | Kind::Free => Ok(named),
         Kind::Required(option) => Ok(named.long(option).required(true)),
         Kind::Alternative(option, value) | Kind::Optional(option, value) => Ok(valued(

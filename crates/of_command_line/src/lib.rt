@@ -13,6 +13,7 @@ mod ovs_reading;
 mod paths;
 mod port_list;
 mod received;
+mod saying;
 mod serving;
 mod switch_file;
 
@@ -40,11 +41,12 @@ pub use paths::{Leading, PathsAsked};
 use paths::{paths_of, steps_of};
 use port_list::port_list_of;
 use received::{NO_FILE, NO_FRAME, is_frame, received_of};
+use saying::saying_of;
 use std::alloc::{AllocError, Global};
 use std::net::{IpAddr, Net, SocketAddr, ToSocketAddrs};
 use std::str::FromStr;
 pub use switch_file::{FileKind, SwitchFile};
-use switch_file::{assembly_of, switch_file_of};
+use switch_file::{assembly_of, disassembly_of, switch_file_of};
 
 /// `trace --flows` and `live --ports` have ports 1 to this one at most.
 const LAST_PORT: u32 = 64;
@@ -111,8 +113,16 @@ pub enum Request {
         /// Whether the outcome is printed as one JSON document.
         json: bool,
     },
+    /// To print the bytes of a message, or of a frame, that words say.
+    Encode {
+        words: String,
+        /// The transaction id of the message.
+        xid: u32,
+    },
     /// To print the event file that builds the groups and flows of the switch of a file; `-` is standard input.
     Assemble(SwitchFile),
+    /// To print the groups and flows of the switch of a file as ovs-ofctl reads them; `-` is standard input.
+    Dump(SwitchFile),
     /// To print the trace of a frame that is received at a port of the switch of a file; `-` is standard input.
     Trace(Trace),
     /// To print where in an event file the fate of a frame or flow entries change; `-` is standard input.
@@ -361,13 +371,14 @@ fn file_request_of(
 ) -> Result<Request, NoRequest> {
     let file = matches.get_str("FILE").unwrap_or("-").to_string(alloc)?;
     match name {
-        "say" => Ok(Request::Say { messages: file }),
+        "say" => saying_of(alloc, matches),
         "import" => Ok(Request::Import {
             file,
             reading: ovs_reading_of(alloc, matches)?,
             json: matches.get_flag("json"),
         }),
         "asm" => assembly_of(alloc, matches),
+        "dis" => disassembly_of(alloc, matches),
         _ => {
             let run = run_of(alloc, name, matches)?;
             Ok(Request::File(FileRun { file, run }))
@@ -377,7 +388,6 @@ fn file_request_of(
 
 fn run_of(alloc: Global, name: &str, matches: &ArgMatches<'_>) -> Result<Run, NoRequest> {
     match name {
-        "dis" => Ok(Run::Disassemble),
         _ => Ok(Run::Replay {
             dpid: dpid_of(alloc, matches.get_str("dpid"))?,
             output: replay_output_of(alloc, matches)?,

@@ -58,19 +58,47 @@ pub(crate) fn switch_file_of(
     })
 }
 
+// A file of another kind than what ovs-ofctl prints is read whole, and has no options for that.
+fn read_whole(alloc: Global, reading: &OvsReading, why: &str) -> Result<(), NoRequest> {
+    match reading.own_option() {
+        Some(option) => Err(NoRequest::Refused(format!(in alloc; "bad {option}: {why}\n")?)),
+        None => Ok(()),
+    }
+}
+
 /// The request of `asm`: a flow text is run over; of another file the switch is assembled.
 pub(crate) fn assembly_of(alloc: Global, matches: &ArgMatches<'_>) -> Result<Request, NoRequest> {
     let of = switch_file_of(alloc, matches)?;
     if of.kind != FileKind::Guessed {
         return Ok(Request::Assemble(of));
     }
-    if let Some(option) = of.reading.own_option() {
-        return Err(NoRequest::Refused(format!(in alloc;
-            "bad {option}: a flow text is read whole; --ovs reads what ovs-ofctl prints\n"
-        )?));
-    }
+    read_whole(
+        alloc,
+        &of.reading,
+        "a flow text is read whole; --ovs reads what ovs-ofctl prints",
+    )?;
     Ok(Request::File(FileRun {
         file: of.path,
         run: Run::Assemble,
+    }))
+}
+
+/// The request of `dis`: an event file is run over; for ovs-ofctl the switch of any file is printed.
+pub(crate) fn disassembly_of(
+    alloc: Global,
+    matches: &ArgMatches<'_>,
+) -> Result<Request, NoRequest> {
+    let of = switch_file_of(alloc, matches)?;
+    if matches.get_flag("as-ovs") {
+        return Ok(Request::Dump(of));
+    }
+    read_whole(
+        alloc,
+        &of.reading,
+        "an event file is read whole; dis --ovs reads what ovs-ofctl prints, too",
+    )?;
+    Ok(Request::File(FileRun {
+        file: of.path,
+        run: Run::Disassemble,
     }))
 }

@@ -1,36 +1,56 @@
-//! Event files that build the groups and flows of a switch.
+//! The groups and flows of a switch: as an event file that builds them, or for ovs-ofctl.
 use crate::files::{NoFile, config_of, read_file_contents};
-use crate::lookups::Lookups;
 use crate::screen::Screen;
 use of_build::build;
 use of_command_line::SwitchFile;
-use of_files::Contents;
+use of_ovs_text::ovs_text;
 use of_replay::streams::WriterSink;
 use of_replay::{Ended, write_all};
+use of_text::Config;
 use std::alloc::{AllocError, Global};
 
-fn rows_for(alloc: Global, contents: Contents<Lookups>) -> Result<Vec<u8>, AllocError> {
-    build(alloc, &config_of(contents)?)
+// The groups and flows of the switch of a file.
+fn read_config(rt: &HostRuntime, of: &SwitchFile) -> Result<Config, NoFile> {
+    let path = of.path.as_str();
+    let read = read_file_contents(rt, path, of.kind, None, false, true, &of.reading)?;
+    match config_of(read.contents) {
+        Ok(config) => Ok(config),
+        Err(_) => Err(NoFile::ended(rt.alloc(), Ended::NoMemory)),
+    }
+}
+
+// Prints a text, if there was memory for it.
+fn print(screen: &Screen<'_>, text: Result<Vec<u8>, AllocError>) -> Result<(), NoFile> {
+    let alloc = screen.rt.alloc();
+    match text {
+        Ok(text) if write_all(&mut WriterSink::new(screen.report()), &text) => Ok(()),
+        Ok(_) => Err(NoFile::ended(alloc, Ended::WriteFault)),
+        Err(_) => Err(NoFile::ended(alloc, Ended::NoMemory)),
+    }
 }
 
 /// Prints the event file that builds the groups and flows of the switch of a file.
 pub fn assembled(screen: &Screen<'_>, of: &SwitchFile) -> Result<(), NoFile> {
-    let alloc = screen.rt.alloc();
-    let read = read_file_contents(
-        screen.rt,
-        of.path.as_str(),
-        of.kind,
-        None,
-        false,
-        true,
-        &of.reading,
-    )?;
-    let Ok(rows) = rows_for(alloc, read.contents) else {
-        return Err(NoFile::ended(alloc, Ended::NoMemory));
-    };
-    if write_all(&mut WriterSink::new(screen.report()), &rows) {
-        Ok(())
-    } else {
-        Err(NoFile::ended(alloc, Ended::WriteFault))
+    let config = read_config(screen.rt, of)?;
+    print(screen, build(screen.rt.alloc(), &config))
+}
+
+/// Prints the groups and flows of the switch of a file as ovs-ofctl reads them. False: it has no words for them, as standard error says.
+pub fn dumped(screen: &Screen<'_>, of: &SwitchFile) -> Result<bool, NoFile> {
+    let config = read_config(screen.rt, of)?;
+    let alloc: Global = screen.rt.alloc();
+    match ovs_text(alloc, &config) {
+        Ok(Some(text)) => {
+            print(screen, Ok(text))?;
+            Ok(true)
+        }
+        Ok(None) => {
+            let path = of.path.as_str();
+            let _ = eprintln!(screen.rt;
+                "{path} has groups or flows that ovs-ofctl has no words for"
+            );
+            Ok(false)
+        }
+        Err(_) => Err(NoFile::ended(alloc, Ended::NoMemory)),
     }
 }

@@ -7,6 +7,7 @@ mod assembling;
 mod beginning;
 mod checking;
 mod diffing;
+mod encoding;
 mod faults;
 mod files;
 mod folding;
@@ -25,10 +26,11 @@ mod serving;
 mod tracing;
 mod words;
 
-use crate::assembling::assembled;
+use crate::assembling::{assembled, dumped};
 use crate::beginning::events_of_tables;
 use crate::checking::{CheckVerdict, checked};
 use crate::diffing::diffed;
+use crate::encoding::{NotEncoded, encoded};
 use crate::faults::print_fault;
 use crate::files::{
     NoFile, Opened, bytes_of, is_table, mode_of, open, read_whole, said_dpid, with_ports,
@@ -135,6 +137,8 @@ fn carry_out(screen: &Screen<'_>, request: &Request) -> ExitCode {
             json,
         } => run_import(screen, file.as_str(), reading, *json),
         Request::Assemble(of) => run_assembly(screen, of),
+        Request::Dump(of) => run_dump(screen, of),
+        Request::Encode { words, xid } => run_encoding(screen, words.as_str(), *xid),
         Request::Say { messages } => run_say(screen, messages.as_str()),
         Request::Serve(asked) => run_serve(rt, asked),
         Request::Live(asked) => run_live(rt, asked),
@@ -169,6 +173,22 @@ fn run_assembly(screen: &Screen<'_>, of: &SwitchFile) -> ExitCode {
     match assembled(screen, of) {
         Ok(()) => ExitCode::SUCCESS,
         Err(why) => end_unread(screen.rt, of.path.as_str(), why),
+    }
+}
+
+fn run_dump(screen: &Screen<'_>, of: &SwitchFile) -> ExitCode {
+    match dumped(screen, of) {
+        Ok(true) => ExitCode::SUCCESS,
+        Ok(false) => ExitCode::from(BAD_LINES),
+        Err(why) => end_unread(screen.rt, of.path.as_str(), why),
+    }
+}
+
+fn run_encoding(screen: &Screen<'_>, words: &str, xid: u32) -> ExitCode {
+    match encoded(screen, words, xid) {
+        Ok(()) => ExitCode::SUCCESS,
+        Err(NotEncoded::Refused) => ExitCode::from(BAD_ARGUMENTS),
+        Err(NotEncoded::Ended(ended)) => end(screen.rt, &ended),
     }
 }
 
