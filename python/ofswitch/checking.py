@@ -8,7 +8,8 @@ from typing import Any
 from . import library
 from .program import StrPath, answered, document_of, file_of, find, table_options
 
-# Exit statuses: a file has a fault; something was found; a port is named that the switch does not have.
+# Exit statuses: an argument or a file has a fault; something was found; a port is named that the switch does not have.
+_BAD_ARGUMENT = 1
 _BAD_FILE = 2
 _FOUND = 4
 _MISSING_PORTS = 5
@@ -37,7 +38,7 @@ def check(
     def by_program() -> dict[str, Any]:
         options = ["--json", *of_table, *([] if steps is None else ["--steps", str(steps)])]
         with file_of(switch) as file:
-            return document_of([find(program), "check", *options, file], timeout, (0, _FOUND, _MISSING_PORTS), (_BAD_FILE,))
+            return document_of([find(program), "check", *options, file], timeout, (0, _FOUND, _MISSING_PORTS), (_BAD_ARGUMENT, _BAD_FILE))
 
     # the library reads tables whole
     if of_table:

@@ -8,7 +8,8 @@ from typing import Any
 from . import library
 from .program import StrPath, answered, document_of, file_of, find, table_options
 
-# Exit statuses: a file has a fault; the switches differ, or their ports do; frames are undecided, or a port is missing.
+# Exit statuses: an argument or a file has a fault; the switches differ, or their ports do; frames are undecided, or a port is missing.
+_BAD_ARGUMENT = 1
 _BAD_FILE = 2
 _DIFFERS = 4
 _UNDECIDED = 5
@@ -41,7 +42,7 @@ def diff(
     def by_program() -> dict[str, Any]:
         options = ["--json", *of_table, *(["--frames"] if frames else []), *([] if steps is None else ["--steps", str(steps)])]
         with file_of(first) as one, file_of(second) as other:
-            return document_of([find(program), "diff", *options, one, other], timeout, (0, _DIFFERS, _UNDECIDED), (_BAD_FILE,))
+            return document_of([find(program), "diff", *options, one, other], timeout, (0, _DIFFERS, _UNDECIDED), (_BAD_ARGUMENT, _BAD_FILE))
 
     # the library reads tables whole
     if of_table:

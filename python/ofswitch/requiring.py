@@ -11,7 +11,8 @@ from typing import Any
 from .frame_text import in_words
 from .program import ProgramError, StrPath, ended_well, file_of, find, table_options
 
-# Exit statuses: a file has a fault; something was found, or a requirement fails; one is undecided, or a port is named that the switch does not have.
+# Exit statuses: an argument or a file has a fault; something was found, or a requirement fails; one is undecided, or a port is named that the switch does not have.
+_BAD_ARGUMENT = 1
 _BAD_FILE = 2
 _FOUND = 4
 _UNDECIDED = 5
@@ -49,7 +50,7 @@ def require(
         try:
             document, notes = ended_well(command, b"", timeout, (0, _FOUND, _UNDECIDED))
         except ProgramError as fault:
-            if fault.status != _BAD_FILE:
+            if fault.status not in (_BAD_ARGUMENT, _BAD_FILE):
                 raise
             # a text has no name
             said = fault.said.replace(f"{lines}: ", "requirements: ", 1) if isinstance(requirements, str) else fault.said
