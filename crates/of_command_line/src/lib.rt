@@ -515,12 +515,18 @@ fn port_names_of(alloc: Global, matches: &ArgMatches<'_>) -> Result<Option<Strin
     }
 }
 
-// A number of 32 bits as event files and flow texts write it: without a sign, and without zeros before it.
+// Whether a decimal number has no sign and no zeros before it, as in event files and flow texts.
+fn is_plain(word: &str) -> bool {
+    !word.starts_with('+') && (word.len() <= 1 || !word.starts_with('0'))
+}
+
+// A number of 32 bits.
 fn number_in(word: &str) -> Option<u32> {
-    if word.starts_with('+') || word.len() > 1 && word.starts_with('0') {
-        return None;
+    if is_plain(word) {
+        u32::from_str_radix(word, 10).ok()
+    } else {
+        None
     }
-    u32::from_str_radix(word, 10).ok()
 }
 
 // The number of a line.
@@ -757,8 +763,9 @@ fn address_of<N: Net>(alloc: Global, net: &N, word: &str) -> Result<SocketAddr, 
 // A number of 64 bits: decimal, or hexadecimal after 0x.
 fn long_number_in(word: &str) -> Option<u64> {
     match word.strip_prefix("0x") {
-        Some(digits) => u64::from_str_radix(digits, 16).ok(),
-        None => u64::from_str_radix(word, 10).ok(),
+        Some(digits) if !digits.starts_with('+') => u64::from_str_radix(digits, 16).ok(),
+        None if is_plain(word) => u64::from_str_radix(word, 10).ok(),
+        _ => None,
     }
 }
 
