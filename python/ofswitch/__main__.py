@@ -45,8 +45,8 @@ cannot be opened, or the bridge cannot listen at the address.
 
 
 DRAW_DESCRIPTION = """
-Prints the groups and flow tables of a flow text (docs/FLOWTEXT.md), or those of a switch after an event file, as a graph in the
-language of Graphviz: tables with their flows by priority, groups with their buckets, ports, and the arrows between them. Flows that
+Prints the groups and flow tables of a flow text (docs/FLOWTEXT.md), of what `ovs-ofctl` prints, or of a switch after an event file, as a
+graph in the language of Graphviz: tables with their flows by priority, groups with their buckets, ports, and the arrows between them. Flows that
 never win (docs/CHECK.md) are gray. With a port and a frame, the path of the frame is blue, with the numbers of the steps of its trace
 (docs/TRACE.md), and each table on the path shows the values that it sees of the packet. With --path K it is the path of the frame that
 `ofswitch paths` shows for its path K (docs/PATHS.md), and the flows that other frames of that path hit are light blue.
@@ -168,6 +168,10 @@ def add_draw(commands: argparse._SubParsersAction[Parser]) -> None:
     text = draw.add_mutually_exclusive_group(required=True)
     text.add_argument("--flows", metavar="FILE", help="a flow text")
     text.add_argument("--events", metavar="FILE", help="an event file: draw the tables that a switch has after it")
+    text.add_argument("--ovs", metavar="FILE", help="what ovs-ofctl prints or reads (docs/IMPORT.md)")
+    draw.add_argument("--skip", action="store_true", help="with --ovs, leave out what this switch refuses")
+    draw.add_argument("--renumber", action="store_true", help="with --ovs, give the tables the numbers 0 to 15, in their order")
+    draw.add_argument("--port-names", metavar="FILE", help="with --ovs, what `ovs-ofctl dump-ports-desc` prints, for the names of ports")
     draw.add_argument("--port", metavar="N", type=int, help="the port at which the frame comes in; with --path, only frames of this port are divided")
     draw.add_argument("--path", metavar="K", type=int, help="draw path K, from 1, of those that `ofswitch paths` finds")
     draw.add_argument("--svg", metavar="FILE", help="write a picture to this file, with `dot` of Graphviz, instead of printing the graph")
@@ -382,6 +386,8 @@ def main() -> int:
             parser().error("a path has its own frame: give --path or a frame")
         if asked.path is None and (asked.port is None) != (asked.frame is None):
             parser().error("a frame needs its port, and a port its frame")
+        if asked.ovs is None and (asked.skip or asked.renumber or asked.port_names):
+            parser().error("--skip, --renumber and --port-names are for --ovs")
     if asked.command == "view" and asked.frame is None and asked.port is not None:
         parser().error("a port needs its frame")
     logging.basicConfig(level=logging.INFO, format="%(message)s")

@@ -10,7 +10,7 @@ import sys
 
 from . import flow_text, trace_text
 from .drawing import draw
-from .program import ProgramError, find, run_to_end
+from .program import ProgramError, find, run_to_end, table_options
 
 # How long the program, or `dot`, may take, in seconds.
 _TIMEOUT = 120.0
@@ -49,7 +49,8 @@ def canonical(program: str, asked: argparse.Namespace) -> str:
     """The canonical flow text of the tables to be drawn."""
     if asked.events is not None:
         return run_to_end([program, "dis", asked.events], b"", _TIMEOUT)
-    events = run_to_end([program, "asm", asked.flows], b"", _TIMEOUT)
+    options = [*table_options(asked.skip, asked.renumber, asked.port_names), *(["--ovs"] if asked.flows is None else [])]
+    events = run_to_end([program, "asm", *options, asked.ovs if asked.flows is None else asked.flows], b"", _TIMEOUT)
     return run_to_end([program, "dis", "-"], events.encode(), _TIMEOUT)
 
 

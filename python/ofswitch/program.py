@@ -91,6 +91,12 @@ def document_of(command: list[str], timeout: float, good: tuple[int, ...], bad: 
     return document
 
 
+def table_options(skip: bool, renumber: bool, port_names: StrPath | None) -> list[str]:
+    """The options for what `ovs-ofctl` prints (docs/IMPORT.md)."""
+    names = [] if port_names is None else ["--port-names", os.fspath(port_names)]
+    return [*(["--skip"] if skip else []), *(["--renumber"] if renumber else []), *names]
+
+
 def answered(
     program: StrPath | None, by_library: Callable[[Library], dict[str, Any]], by_program: Callable[[], dict[str, Any]]
 ) -> dict[str, Any]:

@@ -4,16 +4,20 @@ from __future__ import annotations
 
 import json
 import os
+import re
 from collections.abc import Callable
 from typing import Any
 
 from .frame_text import in_words
-from .program import ProgramError, StrPath, ended_well, file_of, find
+from .program import ProgramError, StrPath, ended_well, file_of, find, table_options
 
 # Exit statuses: a file has a fault; something was found, or a requirement fails; one is undecided, or a port is named that the switch does not have.
 _BAD_FILE = 2
 _FOUND = 4
 _UNDECIDED = 5
+
+# What standard error has about a port that the switch does not have.
+_MISSING_PORT = re.compile(r"port \d+ is named, .*")
 
 
 def require(
@@ -22,6 +26,9 @@ def require(
     *,
     steps: int | None = None,
     ports: str | None = None,
+    skip: bool = False,
+    renumber: bool = False,
+    port_names: StrPath | None = None,
     program: StrPath | None = None,
     timeout: float = 600.0,
 ) -> list[dict[str, Any]]:
@@ -31,9 +38,12 @@ def require(
     requirements are a text with one a line, or the path of a file. `ports` are those of a switch of flow text or `ovs-ofctl`
     (`"1-8,100"`; by default 1 to 4 and those that it or the requirements name), and `steps` is that of `--steps`. ValueError if a text
     has a fault, or if a port is named that the switch does not have.
+
+    With `skip` lines of what `ovs-ofctl` prints are left out that this switch does not support, with `renumber` its tables get the
+    numbers 0, 1, 2 and so on, and `port_names` is a file with the names of its ports (docs/IMPORT.md).
     """
     given = {"--steps": steps, "--ports": ports}
-    options = [word for name, value in given.items() if value is not None for word in (name, str(value))]
+    options = table_options(skip, renumber, port_names) + [word for name, value in given.items() if value is not None for word in (name, str(value))]
     with file_of(switch) as file, file_of(requirements) as lines:
         command = [find(program), "check", "--json", *options, "--require", lines, file]
         try:
@@ -44,8 +54,9 @@ def require(
             # a text has no name
             said = fault.said.replace(f"{lines}: ", "requirements: ", 1) if isinstance(requirements, str) else fault.said
             raise ValueError(said) from None
-    if notes:
-        raise ValueError(notes.strip())
+    # the other lines name what is left out
+    if missing := [it for it in notes.splitlines() if _MISSING_PORT.fullmatch(it)]:
+        raise ValueError("\n".join(missing))
     found: list[dict[str, Any]] = json.loads(document)["requirements"]
     return found
 

@@ -19,8 +19,9 @@ from .difference import diff
 from .dividing import paths
 from .effects import Answer, Closed, Effect, Refused, effect_of
 from .histories import history
+from .importing import kind_option
 from .library import Fault, load
-from .program import MARK_ROW, MOST_READS, ProgramError, Run, StrPath, file_of, find, reads_of, received, run_to_end
+from .program import MARK_ROW, MOST_READS, ProgramError, Run, StrPath, file_of, find, reads_of, received, run_to_end, table_options
 from .requiring import require, unmet
 from .rows import Octets
 from .run_pcap import write_pcap
@@ -159,21 +160,27 @@ class Switch:
             effects += self._play_all(part)
         return effects
 
-    def load(self, text: str | os.PathLike[str]) -> list[Effect]:
+    def load(
+        self, text: str | os.PathLike[str], *, skip: bool = False, renumber: bool = False, port_names: StrPath | None = None
+    ) -> list[Effect]:
         """Adds the groups and flows of a flow text (docs/FLOWTEXT.md), or of a file (a `pathlib.Path`), by the messages of a controller.
 
         If there is a connection, its HELLO must have been fed, and the messages come over it; otherwise a connection is made and
         closed again. Returns the answers: none, or an ERROR for each message that the switch refuses now. ValueError, with the
-        line, if the text has a fault.
+        line, if the text has a fault. The text may also be an event file, whose switch has these groups and flows, or what `ovs-ofctl`
+        prints; for the last `skip`, `renumber` and `port_names` are as for `import_`.
         """
-        return self._load(self._converted(["asm"], text))
+        return self._load(self._converted(["asm", *table_options(skip, renumber, port_names), *kind_option(text)], text))
 
-    def import_(self, text: str | os.PathLike[str], *, skip: bool = False, renumber: bool = False) -> list[Effect]:
+    def import_(
+        self, text: str | os.PathLike[str], *, skip: bool = False, renumber: bool = False, port_names: StrPath | None = None
+    ) -> list[Effect]:
         """Adds the groups and flows of a text in the syntax of `ovs-ofctl` (docs/IMPORT.md), or of a file, as `load` does.
 
         With `skip` lines that this switch does not support are left out. With `renumber` the tables get the numbers 0, 1, 2 and so on.
+        `port_names` is a file with the names of ports.
         """
-        options = [*(["--skip"] if skip else []), *(["--renumber"] if renumber else [])]
+        options = table_options(skip, renumber, port_names)
         return self.load(self._converted(["import", *options], text, good=(0, _LEFT_OUT)))
 
     def watch(self, watcher: Watcher) -> None:
@@ -457,13 +464,13 @@ class Switch:
         return self.frame_of(frame) if isinstance(frame, str) else frame
 
     def _converted(self, words: list[str], text: str | os.PathLike[str], good: tuple[int, ...] = (0,)) -> str:
-        """The output of the program for a text or a file. ValueError if it has a fault."""
+        """The output of the program for a text or a file. ValueError if it has a fault, or options of another kind."""
         # for a file, but not for standard input, the program explains the fault in words
         with file_of(text) as file:
             try:
                 return run_to_end([self._program, *words, file], b"", self._timeout, good)
             except ProgramError as fault:
-                if fault.status != _BAD_FILE:
+                if fault.status not in (_BAD_ARGUMENT, _BAD_FILE):
                     raise
                 raise ValueError(fault.said) from None
 

@@ -46,10 +46,10 @@ printed text_of events a old new ended left ends text reader before first h e z 
 
 pub checked : (file : List ℕ) (steps : ℕ) (words : Bool) (switch : State) (missing : List ℕ) (tables : FileTables) (origins : List (Vec Origin)) (form : Form) (result : Result Bool Ended) (status : ℕ) (first text : List ℕ)
     → AreTablesOf file switch missing tables
-    → Writes (IsCheckReport result steps form [] (view_origins origins) switch.core.forwarding.tables tables.config) (ended_as result) (Some first) (Some text)
+    → Writes (IsCheckReport result steps form false [] (view_origins origins) switch.core.forwarding.tables tables.config) (ended_as result) (Some first) (Some text)
     → form ≡ report_form words → origins ≡ tables.origins.items → first ≡ [] → status ≡ status_with missing (status_of_found result) → IsChecked file steps words status 0 text
 checked file steps words switch missing tables origins form result status first text h w m o f s =
-    let W : Form → List (Vec Origin) → List ℕ → Type 0 = λ x y z. Writes (IsCheckReport result steps x [] (view_origins y) switch.core.forwarding.tables tables.config) (ended_as result) (Some z) (Some text) in
+    let W : Form → List (Vec Origin) → List ℕ → Type 0 = λ x y z. Writes (IsCheckReport result steps x false [] (view_origins y) switch.core.forwarding.tables tables.config) (ended_as result) (Some z) (Some text) in
     let in_form : W (report_form words) origins first = subst (λ (x : Form). W x origins first) m w in
     let of_tables : W (report_form words) tables.origins.items first = subst (λ (y : List (Vec Origin)). W (report_form words) y first) o in_form in
     let wrote : W (report_form words) tables.origins.items [] = subst (λ (z : List ℕ). W (report_form words) tables.origins.items z) f of_tables in
@@ -57,11 +57,11 @@ checked file steps words switch missing tables origins form result status first 
 
 pub answered : (s : State) (tables : FileTables) (missing : List ℕ) (lines : List Line) (steps : ℕ) (words : Bool) (answers : List Found) (form : Form) (further : List ℕ) (origins : List (Vec Origin)) (result : Result Bool Ended) (status : ℕ) (first text : List ℕ)
     → map (λ (a : Found). a.line) answers ≡ lines → AllByRecursion (IsFoundAbout (world_of s.core.forwarding) steps) answers
-    → Writes (IsCheckReport result steps form further (view_origins origins) s.core.forwarding.tables tables.config) (ended_as result) (Some first) (Some text)
+    → Writes (IsCheckReport result steps form false further (view_origins origins) s.core.forwarding.tables tables.config) (ended_as result) (Some first) (Some text)
     → form ≡ report_form words → further ≡ further_text words answers → origins ≡ tables.origins.items → first ≡ [] → status ≡ status_with missing (status_of_both result (worst_of answers))
     → AreAnswered s tables missing lines steps words status 0 text
 answered s tables missing lines steps words answers form further origins result status first text l a w m r o f st =
-    let W : Form → List ℕ → List (Vec Origin) → List ℕ → Type 0 = λ x u y z. Writes (IsCheckReport result steps x u (view_origins y) s.core.forwarding.tables tables.config) (ended_as result) (Some z) (Some text) in
+    let W : Form → List ℕ → List (Vec Origin) → List ℕ → Type 0 = λ x u y z. Writes (IsCheckReport result steps x false u (view_origins y) s.core.forwarding.tables tables.config) (ended_as result) (Some z) (Some text) in
     let in_form : W (report_form words) further origins first = subst (λ (x : Form). W x further origins first) m w in
     let with_further : W (report_form words) (further_text words answers) origins first = subst (λ (u : List ℕ). W (report_form words) u origins first) r in_form in
     let of_tables : W (report_form words) (further_text words answers) tables.origins.items first = subst (λ (y : List (Vec Origin)). W (report_form words) (further_text words answers) y first) o with_further in
@@ -99,7 +99,7 @@ between first second list ports ports' s t flows others h p p' e e' f f' =
 
 pub answered_by : {L : Type 0} (s : State) (tables : FileTables) (missing : List ℕ) (lines : List Line) (steps : ℕ) (words : Bool) (answers : List Found) (form : Form) (further : List ℕ) (origins : List (Vec Origin)) (result : Result Bool Ended) (status : ℕ) (first text : List ℕ) (d : Datapath L)
     → s.core.forwarding ≡ forwarding_of d → map (λ (a : Found). a.line) answers ≡ lines → AllByRecursion (IsFoundAbout (world_of (forwarding_of d)) steps) answers
-    → Writes (IsCheckReport result steps form further (view_origins origins) s.core.forwarding.tables tables.config) (ended_as result) (Some first) (Some text)
+    → Writes (IsCheckReport result steps form false further (view_origins origins) s.core.forwarding.tables tables.config) (ended_as result) (Some first) (Some text)
     → form ≡ report_form words → further ≡ further_text words answers → origins ≡ tables.origins.items → first ≡ [] → status ≡ status_with missing (status_of_both result (worst_of answers))
     → AreAnswered s tables missing lines steps words status 0 text
 answered_by s tables missing lines steps words answers form further origins result status first text d e l a w m r o f st =

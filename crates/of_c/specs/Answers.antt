@@ -15,7 +15,7 @@ use Rattle.of_files.specs.declared.switches.NoContents.{NoContents}
 use Rattle.of_files.specs.declared.switches.NoContents.TheVariants as no
 use Rattle.of_files.specs.declared.switches.PortList.{PortList}
 use Rattle.of_files.specs.Contents.{content_of}
-use Rattle.of_files.specs.Switches.{AreContents, AreFlowsOf, ArePortsOfBoth, FileContents, HasNoContents, DescribesSwitch, switch_said}
+use Rattle.of_files.specs.Switches.{AreContents, AreFlowsOf, ArePortsOfBoth, FileContents, HasNoContents, DescribesSwitch, switch_said, whole_mode}
 use Rattle.of_c.specs.declared.answer.Answer.{Answer}
 
 -- as much of a text as there is room for goes to the front of a buffer
@@ -63,7 +63,7 @@ status_of_none (no.NotImported error) = status_of_import error
 
 pub record IsSwitchOf (file : List ℕ) (s : State) (missing : List ℕ) : Type 0 where
   pub contents : FileContents
-  pub read : AreContents None (content_of file) file contents
+  pub read : AreContents whole_mode None (content_of file) file contents
   pub described : DescribesSwitch None contents s missing
 
 -- it has a port, if one is asked for
@@ -74,14 +74,14 @@ has_port_asked (Some port) s = has_port port s.core.forwarding.ports
 -- a file that describes none gives no text
 pub record IsUnread (file : List ℕ) (status line : ℕ) (text : List ℕ) : Type 0 where
   pub why : NoContents
-  pub none : HasNoContents None (content_of file) file why
+  pub none : HasNoContents whole_mode None (content_of file) file why
   pub status_is : status ≡ status_of_none why
   pub line_is : line ≡ line_of_none why
   pub text_is : text ≡ []
 
 -- one of two files describes none
 abbrev pub LacksSwitch : (first second : List ℕ) → NoContents → Type 0
-LacksSwitch first second why = HasNoContents None (content_of first) first why ⊎ HasNoContents None (content_of second) second why
+LacksSwitch first second why = HasNoContents whole_mode None (content_of first) first why ⊎ HasNoContents whole_mode None (content_of second) second why
 
 -- memory ran out, and there is no text
 pub record IsOutOfMemory (status line : ℕ) (text : List ℕ) : Type 0 where
@@ -92,7 +92,7 @@ pub record IsOutOfMemory (status line : ℕ) (text : List ℕ) : Type 0 where
 -- with its flow entries
 pub record AreTablesOf (file : List ℕ) (s : State) (missing : List ℕ) (tables : FileTables) : Type 0 where
   pub contents : FileContents
-  pub read : AreContents None (content_of file) file contents
+  pub read : AreContents whole_mode None (content_of file) file contents
   pub described : DescribesSwitch None contents s missing
   pub flows : AreFlowsOf contents tables
 
@@ -109,6 +109,6 @@ pub record AreBetween (first second : FileContents) (s t : State) (flows others 
 pub record AreSwitchesOf (first second : List ℕ) (s t : State) (flows others : FileTables) (missing : List ℕ) : Type 0 where
   pub one : FileContents
   pub other : FileContents
-  pub first_read : AreContents None (content_of first) first one
-  pub second_read : AreContents None (content_of second) second other
+  pub first_read : AreContents whole_mode None (content_of first) first one
+  pub second_read : AreContents whole_mode None (content_of second) second other
   pub between : AreBetween one other s t flows others missing

@@ -111,7 +111,7 @@ pub record IsReportOf (file : List ℕ) (steps : ℕ) (words : Bool) (status lin
   pub tables : FileTables
   pub of_file : AreTablesOf file switch missing tables
   pub result : Result Bool Ended
-  pub wrote : Writes (IsCheckReport result steps (report_form words) [] (view_origins tables.origins.items) switch.core.forwarding.tables tables.config) (ended_as result) (Some []) (Some text)
+  pub wrote : Writes (IsCheckReport result steps (report_form words) false [] (view_origins tables.origins.items) switch.core.forwarding.tables tables.config) (ended_as result) (Some []) (Some text)
   pub status_is : status ≡ status_with missing (status_of_found result)
   pub line_is : line ≡ 0
 

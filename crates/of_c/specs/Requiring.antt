@@ -10,7 +10,7 @@ use Rattle.of_replay.specs.FileRuns.{Writes, ended_as}
 use Rattle.of_files.specs.declared.tables.FileTables.{FileTables}
 use Rattle.of_files.specs.Contents.{content_of}
 use Rattle.of_files.specs.NamedPorts.{missing_ports, named_by_field, named_ports, ports_with}
-use Rattle.of_files.specs.Switches.{AreContents, AreFlowsOf, FileContents, Run, Tables, ports_named, ports_of_switch, switch_said}
+use Rattle.of_files.specs.Switches.{AreContents, AreFlowsOf, FileContents, Run, Tables, ports_named, ports_of_switch, switch_said, whole_mode}
 use Rattle.of_report.specs.Files.{IsCheckReport}
 use Rattle.of_paths.specs.declared.destination.Destination.{Destination}
 use Rattle.of_paths.specs.declared.destination.Destination.TheVariants.{Port}
@@ -57,7 +57,7 @@ pub record DescribesWith (required : List ℕ) (contents : FileContents) (s : St
 
 pub record AreTablesWith (required : List ℕ) (file : List ℕ) (s : State) (missing : List ℕ) (tables : FileTables) : Type 0 where
   pub contents : FileContents
-  pub read : AreContents None (content_of file) file contents
+  pub read : AreContents whole_mode None (content_of file) file contents
   pub described : DescribesWith required contents s missing
   pub flows : AreFlowsOf contents tables
 
@@ -80,7 +80,7 @@ pub record IsReportWith (s : State) (tables : FileTables) (missing : List ℕ) (
   pub of_lines : map (λ answer. answer.line) answers ≡ lines
   pub found : AllByRecursion (IsFoundAbout (world_of s.core.forwarding) steps) answers
   pub result : Result Bool Ended
-  pub wrote : Writes (IsCheckReport result steps (report_form words) (further_text words answers) (view_origins tables.origins.items) s.core.forwarding.tables tables.config) (ended_as result) (Some []) (Some text)
+  pub wrote : Writes (IsCheckReport result steps (report_form words) false (further_text words answers) (view_origins tables.origins.items) s.core.forwarding.tables tables.config) (ended_as result) (Some []) (Some text)
   pub status_is : status ≡ status_with missing (status_of_both result (worst_of answers))
   pub line_is : line ≡ 0
 

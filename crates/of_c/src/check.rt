@@ -1,7 +1,7 @@
 //! Reports on flow tables.
 ghost use Rattle.std.specs.Prelude.{◌≡◌, [], None, IfErr, IfOk};
 ghost use Rattle.of_files.specs.Contents.{content_of};
-ghost use Rattle.of_files.specs.Switches.{AreFlowsOf, HasNoContents, DescribesSwitch, view_contents};
+ghost use Rattle.of_files.specs.Switches.{AreFlowsOf, HasNoContents, DescribesSwitch, view_contents, whole_mode};
 ghost use Rattle.of_c.specs.Answers.{AreTablesOf, Gives};
 ghost use Rattle.of_c.specs.Calls.{IsChecked, report_form as form_for, status_of_found as status_for};
 
@@ -9,7 +9,7 @@ use crate::answer::{Answer, Outcome, give, sink, unread};
 use crate::switch::Lookups;
 use crate::trace::status_with;
 use of_files::{
-    Contents, FileSwitch, NoContents, PortList, file_ports, file_switch, read_contents,
+    Contents, FileSwitch, NoContents, PortList, WHOLE, file_ports, file_switch, read_contents,
 };
 use of_replay::memory::MemorySink;
 use of_replay::{Ended, status};
@@ -41,9 +41,9 @@ fn tables_of(alloc: Global, contents: Contents<Lookups>) -> Result<Tables, Alloc
 
 fn read_tables(alloc: Global, file: &[u8]) -> Result<Tables, NoContents>
     ensures tables { IfOk result (λ t. AreTablesOf file.now t.of.switch t.missing.items t.of.tables) }
-    ensures failed { IfErr result (HasNoContents None (content_of file.now) file.now) }
+    ensures failed { IfErr result (HasNoContents whole_mode None (content_of file.now) file.now) }
 {
-    let contents = read_contents(alloc, file, None, None)?;
+    let contents = read_contents(alloc, file, None, None, WHOLE)?;
     match tables_of(alloc, contents) {
         Ok(tables) => Ok(tables),
         Err(_) => Err(NoContents::Ended(Ended::NoMemory)),
@@ -75,6 +75,7 @@ fn reported(alloc: Global, file: &[u8], steps: usize, words: bool, out: &mut Mem
                 &tables.origins,
                 steps,
                 form_of(words),
+                false,
                 &[],
                 out,
             );

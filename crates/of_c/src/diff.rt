@@ -8,7 +8,7 @@ use crate::answer::{Answer, Outcome, give, sink, unread};
 use crate::switch::Lookups;
 use of_alike::Compared;
 use of_diff_report::{DiffForm, DiffSide, DiffVerdict, FileFlows, write_differences};
-use of_files::{Contents, FileSwitch, NoContents, both_ports, file_switch, read_contents};
+use of_files::{Contents, FileSwitch, NoContents, WHOLE, both_ports, file_switch, read_contents};
 use of_replay::memory::MemorySink;
 use of_replay::{Ended, status};
 use std::alloc::{AllocError, Global};
@@ -43,8 +43,8 @@ fn read_switches(alloc: Global, first: &[u8], second: &[u8]) -> Result<Switches,
     ensures switches { IfOk result (λ s. AreSwitchesOf first.now second.now s.first.switch s.second.switch s.first.tables s.second.tables s.missing.items) }
     ensures failed { IfErr result (LacksSwitch first.now second.now) }
 {
-    let first = read_contents(alloc, first, None, None)?;
-    let second = read_contents(alloc, second, None, None)?;
+    let first = read_contents(alloc, first, None, None, WHOLE)?;
+    let second = read_contents(alloc, second, None, None, WHOLE)?;
     match switches_of(alloc, first, second) {
         Ok(switches) => Ok(switches),
         Err(_) => Err(NoContents::Ended(Ended::NoMemory)),

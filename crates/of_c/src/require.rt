@@ -3,7 +3,7 @@ ghost use Rattle.std.specs.Prelude.{◌≡◌, ◌++◌, [], IfErr, IfOk, OnOk};
 ghost use Rattle.std.specs.List.{flat_map};
 ghost use Rattle.of_files.specs.Contents.{content_of};
 ghost use Rattle.of_files.specs.NamedPorts.{named_by_field, ports_with};
-ghost use Rattle.of_files.specs.Switches.{AreFlowsOf, HasNoContents, ports_named, view_contents};
+ghost use Rattle.of_files.specs.Switches.{AreFlowsOf, HasNoContents, ports_named, view_contents, whole_mode};
 ghost use Rattle.of_c.specs.Answers.{Gives};
 ghost use Rattle.of_c.specs.Requiring.{AreAnswered, AreTablesWith, DescribesWith, IsRequired, further_text, line_of_refused, missing_with, named_by_line, named_by_place, places_demanded as places_in, status_of_both as status_for, status_of_refused};
 
@@ -13,8 +13,8 @@ use crate::switch::Lookups;
 use crate::trace::status_with;
 use of_check::required_port;
 use of_files::{
-    Contents, FileSwitch, NoContents, PortList, file_switch, missing_ports, port_list, push_named,
-    read_contents,
+    Contents, FileSwitch, NoContents, PortList, WHOLE, file_switch, missing_ports, port_list,
+    push_named, read_contents,
 };
 use of_oxm::MatchField;
 use of_paths::Destination;
@@ -126,9 +126,9 @@ fn tables_of(
 
 fn read_tables(alloc: Global, file: &[u8], lines: &[Line]) -> Result<Tables, NoContents>
     ensures tables { IfOk result (λ t. AreTablesWith (flat_map named_by_line lines.now) file.now t.of.switch t.missing.items t.of.tables) }
-    ensures failed { IfErr result (HasNoContents None (content_of file.now) file.now) }
+    ensures failed { IfErr result (HasNoContents whole_mode None (content_of file.now) file.now) }
 {
-    let contents = read_contents(alloc, file, None, None)?;
+    let contents = read_contents(alloc, file, None, None, WHOLE)?;
     match tables_of(alloc, contents, lines) {
         Ok(tables) => Ok(tables),
         Err(_) => Err(NoContents::Ended(Ended::NoMemory)),
@@ -188,6 +188,7 @@ fn report_on(
         &tables.origins,
         steps,
         form_of(words),
+        false,
         &further,
         out,
     );

@@ -57,6 +57,7 @@ fn about_subcommand(alloc: Global, row: &Subcommand, usage: &str) -> Result<Stri
         indent: 2,
     };
     push_options(alloc, &mut lines, row.arguments)?;
+    push_options(alloc, &mut lines, row.of_tables)?;
     let last = format!(in alloc; "\n`ofswitch {} --help` says more.\n", row.name)?;
     lines.text.push_str(last.as_str())?;
     Ok(lines.text)

@@ -1,6 +1,6 @@
 //! What `check` is asked for.
 
-use crate::command::{Argument, COLOR, Kind, PORT_NAMES};
+use crate::command::{Argument, COLOR, Kind};
 use crate::{
     Check, CheckOutput, NoRequest, SwitchFile, refused, steps_of, switch_file_of, text_of,
 };
@@ -48,7 +48,7 @@ requirement is undecided; 0 if nothing is found.
   ofswitch check examples/office.txt --require examples/office.req";
 
 /// The arguments of `check`.
-pub(crate) const CHECK: [Argument; 13] = [
+pub(crate) const CHECK: [Argument; 12] = [
     Argument {
         name: "FILE",
         kind: Kind::Place,
@@ -99,7 +99,6 @@ pub(crate) const CHECK: [Argument; 13] = [
         kind: Kind::Optional("junit", "XML"),
         help: "With --require, also write the verdicts to this file, as JUnit writes test results",
     },
-    PORT_NAMES,
     Argument {
         name: "ports",
         kind: Kind::Optional("ports", "LIST"),

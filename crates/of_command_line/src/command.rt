@@ -2,6 +2,7 @@
 
 use crate::checking::{CHECK, CHECKS};
 use crate::history::{HISTORIES, HISTORY};
+use crate::ovs_reading::OVS_READING;
 use crate::serving::{LIVE, LIVE_ARGUMENTS, SERVE, SERVING};
 use clap::{Arg, ArgAction, ArgGroup, Command};
 use std::alloc::{AllocError, Global};
@@ -285,13 +286,6 @@ pub(crate) enum Kind {
     Flag(&'static str),
 }
 
-// Of each command that reads what ovs-ofctl prints.
-pub(crate) const PORT_NAMES: Argument = Argument {
-    name: "port-names",
-    kind: Kind::Optional("port-names", "FILE"),
-    help: "Read names of ports in what ovs-ofctl prints as the numbers in FILE, which `ovs-ofctl dump-ports-desc` prints",
-};
-
 // Of each command whose report in words has colors.
 pub(crate) const COLOR: Argument = Argument {
     name: "color",
@@ -334,11 +328,23 @@ const REPLAY: [Argument; 6] = [
     },
 ];
 
-const ASSEMBLE: [Argument; 1] = [Argument {
-    name: "FILE",
-    kind: Kind::Positional,
-    help: "The flow text to read; - is standard input",
-}];
+const ASSEMBLE: [Argument; 3] = [
+    Argument {
+        name: "FILE",
+        kind: Kind::Place,
+        help: "The flow text to read; - is standard input",
+    },
+    Argument {
+        name: "ovs",
+        kind: Kind::Alternative("ovs", "FILE"),
+        help: "The dump or file of ovs-ofctl to read instead; - is standard input",
+    },
+    Argument {
+        name: "events",
+        kind: Kind::Alternative("events", "FILE"),
+        help: "The event file to run instead, for the groups and flows after its rows; - is standard input",
+    },
+];
 
 const DISASSEMBLE: [Argument; 1] = [Argument {
     name: "FILE",
@@ -346,23 +352,12 @@ const DISASSEMBLE: [Argument; 1] = [Argument {
     help: "The event file to run; - is standard input",
 }];
 
-const IMPORT: [Argument; 5] = [
+const IMPORT: [Argument; 2] = [
     Argument {
         name: "FILE",
         kind: Kind::Positional,
         help: "The dump or file of ovs-ofctl to read; - is standard input",
     },
-    Argument {
-        name: "skip",
-        kind: Kind::Flag("skip"),
-        help: "Leave out lines that this switch refuses, and actions to NORMAL and LOCAL",
-    },
-    Argument {
-        name: "renumber",
-        kind: Kind::Flag("renumber"),
-        help: "Give the tables that occur the numbers 0 to 15, in their order",
-    },
-    PORT_NAMES,
     Argument {
         name: "json",
         kind: Kind::Flag("json"),
@@ -376,7 +371,7 @@ const SAY: [Argument; 1] = [Argument {
     help: "Messages in hexadecimal digits, or a file with such digits or with the bytes; - is standard input",
 }];
 
-const TRACE: [Argument; 15] = [
+const TRACE: [Argument; 14] = [
     Argument {
         name: "FILE",
         kind: Kind::Free,
@@ -437,7 +432,6 @@ const TRACE: [Argument; 15] = [
         kind: Kind::Flag("json"),
         help: "Print the trace as JSON (docs/JSON.md), without notes",
     },
-    PORT_NAMES,
     Argument {
         name: "ports",
         kind: Kind::Optional("ports", "LIST"),
@@ -446,7 +440,7 @@ const TRACE: [Argument; 15] = [
     COLOR,
 ];
 
-const DIFF: [Argument; 8] = [
+const DIFF: [Argument; 7] = [
     Argument {
         name: "A",
         kind: Kind::Positional,
@@ -467,7 +461,6 @@ const DIFF: [Argument; 8] = [
         kind: Kind::Flag("json"),
         help: "Print the differences as JSON (docs/JSON.md)",
     },
-    PORT_NAMES,
     Argument {
         name: "steps",
         kind: Kind::Optional("steps", "N"),
@@ -481,7 +474,7 @@ const DIFF: [Argument; 8] = [
     COLOR,
 ];
 
-const PATHS_ARGUMENTS: [Argument; 10] = [
+const PATHS_ARGUMENTS: [Argument; 9] = [
     Argument {
         name: "FILE",
         kind: Kind::Positional,
@@ -512,7 +505,6 @@ const PATHS_ARGUMENTS: [Argument; 10] = [
         kind: Kind::Flag("json"),
         help: "Print the paths as JSON (docs/JSON.md)",
     },
-    PORT_NAMES,
     Argument {
         name: "steps",
         kind: Kind::Optional("steps", "N"),
@@ -532,6 +524,8 @@ pub(crate) struct Subcommand {
     pub(crate) about: &'static str,
     text: &'static str,
     pub(crate) arguments: &'static [Argument],
+    // Those that say how what ovs-ofctl prints is read, if it reads that.
+    pub(crate) of_tables: &'static [Argument],
 }
 
 pub(crate) const SUBCOMMANDS: [Subcommand; 12] = [
@@ -540,72 +534,84 @@ pub(crate) const SUBCOMMANDS: [Subcommand; 12] = [
         about: "Runs an event file on a new switch and prints the effects",
         text: EVENT_FILES,
         arguments: &REPLAY,
+        of_tables: &[],
     },
     Subcommand {
         name: "asm",
         about: "Prints an event file that builds the groups and flows of a flow text",
         text: FLOW_TEXT,
         arguments: &ASSEMBLE,
+        of_tables: &OVS_READING,
     },
     Subcommand {
         name: "dis",
         about: "Prints the groups and flows that an event file makes, as flow text",
         text: DISASSEMBLY,
         arguments: &DISASSEMBLE,
+        of_tables: &[],
     },
     Subcommand {
         name: "import",
         about: "Converts flows and groups in the syntax of ovs-ofctl to flow text",
         text: IMPORTS,
         arguments: &IMPORT,
+        of_tables: &OVS_READING,
     },
     Subcommand {
         name: "say",
         about: "Prints OpenFlow messages in words",
         text: SAYING,
         arguments: &SAY,
+        of_tables: &[],
     },
     Subcommand {
         name: "trace",
         about: "Prints each step of a frame through a switch",
         text: TRACES,
         arguments: &TRACE,
+        of_tables: &OVS_READING,
     },
     Subcommand {
         name: "history",
         about: "Finds where in an event file the fate of a frame or of flows changes",
         text: HISTORIES,
         arguments: &HISTORY,
+        of_tables: &[],
     },
     Subcommand {
         name: "check",
         about: "Finds flow entries that can never win, and other likely mistakes",
         text: CHECKS,
         arguments: &CHECK,
+        of_tables: &OVS_READING,
     },
     Subcommand {
         name: "diff",
         about: "Finds frames that two switches treat differently",
         text: DIFFS,
         arguments: &DIFF,
+        of_tables: &OVS_READING,
     },
     Subcommand {
         name: "paths",
         about: "Divides all frames that a switch receives by the steps that they take",
         text: PATHS,
         arguments: &PATHS_ARGUMENTS,
+        of_tables: &OVS_READING,
     },
     Subcommand {
         name: "serve",
         about: "Serves OpenFlow 1.3 controllers over TCP",
         text: SERVING,
         arguments: &SERVE,
+        of_tables: &OVS_READING,
     },
     Subcommand {
         name: "live",
         about: "Forwards the frames of a network, in VXLAN datagrams",
         text: LIVE,
         arguments: &LIVE_ARGUMENTS,
+        of_tables: &OVS_READING,
     },
 ];
 
@@ -630,7 +636,7 @@ fn subcommand_of<'a>(alloc: Global, row: &Subcommand) -> Result<Command<'a>, All
     let needed = !row.arguments.iter().any(|it| is_free(&it.kind));
     let mut alternatives = ArgGroup::new(alloc, ALTERNATIVES).required(needed);
     let mut some = false;
-    for it in row.arguments {
+    for it in row.arguments.iter().chain(row.of_tables.iter()) {
         if is_alternative(&it.kind) {
             alternatives = alternatives.arg(it.name)?;
             some = true;

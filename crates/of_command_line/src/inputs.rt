@@ -19,12 +19,28 @@ fn same_inputs(matches: &ArgMatches<'_>) -> Option<&'static str> {
     }
 }
 
+// Why the options of a file with groups and flows say nothing, if that is not there.
+fn idle_options(matches: &ArgMatches<'_>) -> Option<&'static str> {
+    if matches.get_str("tables").is_some() {
+        return None;
+    }
+    if matches.get_flag("skip") {
+        return Some("bad --skip: nothing is read without --tables\n");
+    }
+    if matches.get_flag("renumber") {
+        return Some("bad --renumber: nothing is read without --tables\n");
+    }
+    matches
+        .get_str("port-names")
+        .map(|_| "bad --port-names: nothing is read without --tables\n")
+}
+
 /// The file with the groups and flows of a switch.
 pub(crate) fn tables_of(
     alloc: Global,
     matches: &ArgMatches<'_>,
 ) -> Result<Option<String>, NoRequest> {
-    match same_inputs(matches) {
+    match same_inputs(matches).or(idle_options(matches)) {
         Some(why) => Err(refused(alloc, why)?),
         None => Ok(text_of(alloc, matches.get_str("tables"))?),
     }

@@ -10,10 +10,12 @@ mod counts;
 mod history;
 mod inputs;
 mod numbers;
+mod ovs_reading;
 mod paths;
 mod port_list;
 mod received;
 mod serving;
+mod switch_file;
 
 ghost use Rattle.std.specs.Prelude.{◌≡◌};
 ghost use Rattle.std.specs.Iterator.{IsFinite};
@@ -34,6 +36,8 @@ use inputs::{log_of, running_rows_of, tables_of};
 use numbers::{dpid_of, long_number_in, number_in};
 use of_frame_words::Refusal;
 use of_wire::limits::TABLES;
+pub use ovs_reading::OvsReading;
+use ovs_reading::ovs_reading_of;
 pub use paths::{Leading, PathsAsked};
 use paths::{paths_of, steps_of};
 use port_list::port_list_of;
@@ -41,6 +45,8 @@ use received::{NO_FILE, NO_FRAME, is_frame, received_of};
 use std::alloc::{AllocError, Global};
 use std::net::{IpAddr, Net, SocketAddr, ToSocketAddrs};
 use std::str::FromStr;
+pub use switch_file::{FileKind, SwitchFile};
+use switch_file::{assembly_of, switch_file_of};
 
 /// `trace --flows` and `live --ports` have ports 1 to this one at most.
 const LAST_PORT: u32 = 64;
@@ -103,15 +109,12 @@ pub enum Request {
     /// To print the flow text of a table of Open vSwitch; `-` is standard input.
     Import {
         file: String,
-        /// Whether lines that the switch cannot take are left out.
-        skip: bool,
-        /// Whether tables get the numbers 0 to 15.
-        renumber: bool,
+        reading: OvsReading,
         /// Whether the outcome is printed as one JSON document.
         json: bool,
-        /// What `ovs-ofctl dump-ports-desc` prints, for the names of ports.
-        port_names: Option<String>,
     },
+    /// To print the event file that builds the groups and flows of the switch of a file; `-` is standard input.
+    Assemble(SwitchFile),
     /// To print the trace of a frame that is received at a port of the switch of a file; `-` is standard input.
     Trace(Trace),
     /// To print where in an event file the fate of a frame or flow entries change; `-` is standard input.
@@ -137,17 +140,6 @@ pub enum ReplayOutput {
     Explained,
     /// The same, an object of JSON for each row.
     Json,
-}
-
-/// The file of a switch; `-` is standard input.
-#[derive(PartialEq, Eq, Drop)]
-pub struct SwitchFile {
-    pub path: String,
-    pub kind: FileKind,
-    /// The ports of the switch of a file that has none: if they are not given, those that its groups and flows name.
-    pub ports: Option<Vec<u32>>,
-    /// What `ovs-ofctl dump-ports-desc` prints, for the names of ports.
-    pub port_names: Option<String>,
 }
 
 /// Which frame is traced, and how.
@@ -190,8 +182,8 @@ pub struct Diff {
     pub second: String,
     /// The ports of the switches of files that have none: if they are not given, those that both files name.
     pub ports: Option<Vec<u32>>,
-    /// What `ovs-ofctl dump-ports-desc` prints, for the names of ports in both files.
-    pub port_names: Option<String>,
+    /// Of both files.
+    pub reading: OvsReading,
     /// Whether packets to the controller are left out.
     pub frames: bool,
     /// After how many of them frames are given up.
@@ -213,19 +205,6 @@ pub enum CheckOutput {
     Json,
 }
 
-/// Of which kind the file of a switch is.
-#[derive(Clone, Copy, PartialEq, Eq)]
-pub enum FileKind {
-    /// Its content says it.
-    Guessed,
-    /// A flow text: the switch has its groups and flows.
-    Flows,
-    /// An event file: the switch is the one that its rows leave.
-    Events,
-    /// What ovs-ofctl prints: the switch has its groups and flows.
-    Ovs,
-}
-
 /// Entries of which a trace says why they won or did not.
 #[derive(Clone, Copy, PartialEq, Eq)]
 pub enum Asked {
@@ -243,6 +222,7 @@ pub struct Serve {
     pub idle: Option<u64>,
     /// A file with the groups and flows with which the switch begins; `-` is standard input.
     pub tables: Option<String>,
+    pub reading: OvsReading,
     /// An event file with ports and frames; `-` is standard input.
     pub events: Option<String>,
     /// Where all that happens is written.
@@ -266,6 +246,7 @@ pub struct Live {
     pub ports: u32,
     /// A file with the groups and flows with which the switch begins; `-` is standard input.
     pub tables: Option<String>,
+    pub reading: OvsReading,
     /// An event file with ports and frames; `-` is standard input.
     pub events: Option<String>,
     /// Whether rows of frames and ports are read from standard input while the switch runs.
@@ -385,11 +366,10 @@ fn file_request_of(
         "say" => Ok(Request::Say { messages: file }),
         "import" => Ok(Request::Import {
             file,
-            skip: matches.get_flag("skip"),
-            renumber: matches.get_flag("renumber"),
+            reading: ovs_reading_of(alloc, matches)?,
             json: matches.get_flag("json"),
-            port_names: port_names_of(alloc, matches)?,
         }),
+        "asm" => assembly_of(alloc, matches),
         _ => {
             let run = run_of(alloc, name, matches)?;
             Ok(Request::File(FileRun { file, run }))
@@ -399,7 +379,6 @@ fn file_request_of(
 
 fn run_of(alloc: Global, name: &str, matches: &ArgMatches<'_>) -> Result<Run, NoRequest> {
     match name {
-        "asm" => Ok(Run::Assemble),
         "dis" => Ok(Run::Disassemble),
         _ => Ok(Run::Replay {
             dpid: dpid_of(alloc, matches.get_str("dpid"))?,
@@ -472,49 +451,11 @@ fn diff_of(alloc: Global, matches: &ArgMatches<'_>) -> Result<Diff, NoRequest> {
         first: first.to_string(alloc)?,
         second: second.to_string(alloc)?,
         ports: port_list_of(alloc, matches.get_str("ports"))?,
-        port_names: port_names_of(alloc, matches)?,
+        reading: ovs_reading_of(alloc, matches)?,
         frames: matches.get_flag("frames"),
         steps: steps_of(alloc, matches.get_str("steps"))?,
         json: matches.get_flag("json"),
     })
-}
-
-// The file of a switch, and what it is: one of these is there.
-fn named_file<'a>(matches: &'a ArgMatches<'_>) -> (&'a str, FileKind) {
-    if let Some(path) = matches.get_str("flows") {
-        return (path, FileKind::Flows);
-    }
-    if let Some(path) = matches.get_str("events") {
-        return (path, FileKind::Events);
-    }
-    if let Some(path) = matches.get_str("ovs") {
-        return (path, FileKind::Ovs);
-    }
-    match matches.get_str("FILE") {
-        Some(path) => (path, FileKind::Guessed),
-        None => ("-", FileKind::Guessed),
-    }
-}
-
-fn switch_file_of(alloc: Global, matches: &ArgMatches<'_>) -> Result<SwitchFile, NoRequest> {
-    let (path, kind) = named_file(matches);
-    Ok(SwitchFile {
-        path: path.to_string(alloc)?,
-        kind,
-        ports: port_list_of(alloc, matches.get_str("ports"))?,
-        port_names: port_names_of(alloc, matches)?,
-    })
-}
-
-// The file with the names of ports, which is no standard input.
-fn port_names_of(alloc: Global, matches: &ArgMatches<'_>) -> Result<Option<String>, NoRequest> {
-    match matches.get_str("port-names") {
-        Some("-") => Err(refused(
-            alloc,
-            "bad --port-names: it is a file, not standard input\n",
-        )?),
-        path => Ok(text_of(alloc, path)?),
-    }
 }
 
 // The number of a line.
@@ -582,6 +523,7 @@ fn serve_of<N: Net>(alloc: Global, net: &N, matches: &ArgMatches<'_>) -> Result<
         meeting: meeting_of(alloc, net, matches)?,
         idle: idle_of(alloc, matches.get_str("idle"))?,
         tables: tables_of(alloc, matches)?,
+        reading: ovs_reading_of(alloc, matches)?,
         events: text_of(alloc, matches.get_str("FILE"))?,
         log: log_of(alloc, matches)?,
         turns: turns_of(alloc, matches.get_str("turns"))?,
@@ -598,6 +540,7 @@ fn live_of<N: Net>(alloc: Global, net: &N, matches: &ArgMatches<'_>) -> Result<L
         idle: idle_of(alloc, matches.get_str("idle"))?,
         ports: ports_of(alloc, matches.get_str("ports"))?,
         tables: tables_of(alloc, matches)?,
+        reading: ovs_reading_of(alloc, matches)?,
         events: text_of(alloc, matches.get_str("FILE"))?,
         rows: running_rows_of(alloc, matches.get_str("rows"))?,
         peers: peers_of(alloc, tunnel, matches.get_strs("peer").unwrap_or(&[]))?,

@@ -1,7 +1,7 @@
 //! Which frames `paths` divides, and when they are given up.
 
 use crate::received::port_of;
-use crate::{FileKind, NoRequest, SwitchFile, number_in, port_list_of, port_names_of, refused};
+use crate::{FileKind, NoRequest, SwitchFile, number_in, ovs_reading_of, port_list_of, refused};
 use clap::ArgMatches;
 use of_wire::limits::OFPP_MAX;
 use std::alloc::Global;
@@ -59,7 +59,7 @@ pub(crate) fn paths_of(alloc: Global, matches: &ArgMatches<'_>) -> Result<PathsA
             path: matches.get_str("FILE").unwrap_or("-").to_string(alloc)?,
             kind: FileKind::Guessed,
             ports: port_list_of(alloc, matches.get_str("ports"))?,
-            port_names: port_names_of(alloc, matches)?,
+            reading: ovs_reading_of(alloc, matches)?,
         },
         port,
         within: matches.get_str("match").unwrap_or("").to_string(alloc)?,

@@ -20,7 +20,7 @@ use Rattle.of_files.specs.declared.switches.NoContents.TheVariants.{Ended, NotIm
 use Rattle.of_files.specs.declared.switches.PortList.{PortList}
 use Rattle.of_files.specs.declared.tables.FileTables.{FileTables}
 use Rattle.of_files.specs.Contents.{content_of}
-use Rattle.of_files.specs.FileTables.{IsTableRead, tables_of_text}
+use Rattle.of_files.specs.FileTables.{IsNothing, IsTableRead, tables_of_text}
 use Rattle.of_files.specs.FirstEvents.{with_controller}
 use Rattle.of_files.specs.NamedPorts.{missing_ports, named_ports, ports_with}
 use Rattle.of_files.specs.Playing.{played_file}
@@ -41,24 +41,24 @@ abbrev pub view_contents : {L : Type 0} → Contents L → FileContents
 view_contents (declared.Tables tables) = Tables tables
 view_contents (declared.Events switch) = Run switch
 
--- nothing is left out of what ovs-ofctl prints, and tables have its numbers
+-- as WHOLE: nothing is left out of what ovs-ofctl prints, and tables have its numbers
 abbrev pub whole_mode : Mode
 whole_mode = record { skip = false; renumber = false }
 
--- of an event file, all its lines or so many first ones
-abbrev pub AreContents : Option ℕ → Content → List ℕ → FileContents → Type 0
-AreContents lines FlowText file (Tables tables) = tables_of_text true file (IsValue tables)
-AreContents lines OvsTable file (Tables tables) = IsTableRead whole_mode file tables
-AreContents lines EventFile file (Run switch) = played_file lines true file (IsValue switch)
-AreContents lines other file contents = ⊥
+-- of an event file, all its lines or so many first ones; what ovs-ofctl prints is read in this mode
+abbrev pub AreContents : Mode → Option ℕ → Content → List ℕ → FileContents → Type 0
+AreContents mode lines FlowText file (Tables tables) = tables_of_text true file (IsValue tables)
+AreContents mode lines OvsTable file (Tables tables) = IsTableRead mode file tables
+AreContents mode lines EventFile file (Run switch) = played_file lines true file (IsValue switch)
+AreContents mode lines other file contents = ⊥
 
 -- why there are none: memory ran out; or a fault of the text, of the rows, or of the table, as each of them is read
-abbrev pub HasNoContents : Option ℕ → Content → List ℕ → NoContents → Type 0
-HasNoContents lines FlowText file (Ended ended) = IsRead tables_of_text (Err ended) true file
-HasNoContents lines EventFile file (Ended ended) = IsRead (played_file lines) (Err ended) true file
-HasNoContents lines OvsTable file (NotImported error) = NoImport (lines_of file) whole_mode error
-HasNoContents lines OvsTable file (Ended NoMemory) = Unit {0}
-HasNoContents lines other file why = ⊥
+abbrev pub HasNoContents : Mode → Option ℕ → Content → List ℕ → NoContents → Type 0
+HasNoContents mode lines FlowText file (Ended ended) = IsRead tables_of_text (Err ended) true file
+HasNoContents mode lines EventFile file (Ended ended) = IsRead (played_file lines) (Err ended) true file
+HasNoContents mode lines OvsTable file (NotImported error) = NoImport (lines_of file) mode error
+HasNoContents mode lines OvsTable file (Ended NoMemory) = Unit {0}
+HasNoContents mode lines other file why = ⊥
 
 -- ---- the ports
 
@@ -99,7 +99,7 @@ DescribesSwitch given contents s missing = (s ≡ switch_said (chosen_ports give
 -- its flow entries: those of the file with their lines, or those of the switch without lines
 abbrev pub AreFlowsOf : FileContents → FileTables → Type 0
 AreFlowsOf (Tables tables) found = found ≡ tables
-AreFlowsOf (Run switch) found = (found.config ≡ config_of switch) × (found.origins.items ≡ [])
+AreFlowsOf (Run switch) found = (found.config ≡ config_of switch) × (found.origins.items ≡ []) × IsNothing found.left_out
 
 -- ---- the switches of two files, which are compared
 

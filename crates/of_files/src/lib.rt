@@ -16,7 +16,7 @@ pub use flow_lines::text_origins;
 pub use playing::play_file;
 pub use ports::{FIRST_PORTS, missing_ports, named_ports, ports_for};
 pub use switches::{
-    Contents, Described, FileSwitch, NoContents, PortList, both_ports, describe, file_ports,
+    Contents, Described, FileSwitch, NoContents, PortList, WHOLE, both_ports, describe, file_ports,
     file_switch, port_list, push_named, read_contents, switch_of,
 };
-pub use tables::{FileTables, read_table, read_text};
+pub use tables::{FileTables, LeftOut, read_table, read_text};

@@ -8,7 +8,7 @@ use crate::beginning::connect;
 use crate::contents::{Content, content_of};
 use crate::playing::play_file;
 use crate::ports::{missing_ports, named_ports, ports_for};
-use crate::tables::{FileTables, read_table, read_text};
+use crate::tables::{FileTables, nothing, read_table, read_text};
 use of_classifier::Lookup;
 use of_import::{ImportError, Mode};
 use of_ports::Port;
@@ -17,8 +17,8 @@ use of_switch::Switch;
 use of_text::Config;
 use std::alloc::{AllocError, Global};
 
-/// A file of ovs-ofctl is read without leaving anything out.
-const WHOLE: Mode = Mode {
+/// A table of ovs-ofctl is read without leaving anything out, and its tables have its numbers.
+pub const WHOLE: Mode = Mode {
     skip: false,
     renumber: false,
 };
@@ -41,15 +41,17 @@ pub enum NoContents {
     NotImported(ImportError),
 }
 
-/// What a file is read as, that is what it is said to be, or what it begins as; of an event file all lines, or so many first ones.
+/// What a file is read as, that is what it is said to be, or what it begins as; of an event file all lines, or so many first ones; what
+/// ovs-ofctl prints in this mode.
 pub fn read_contents<L: Lookup>(
     alloc: Global,
     file: &[u8],
     said: Option<Content>,
     lines: Option<u64>,
+    mode: Mode,
 ) -> Result<Contents<L>, NoContents>
-    ensures read { IfOk result (λ contents. AreContents lines (content_said said file.now) file.now (view_contents contents)) }
-    ensures failed { IfErr result (HasNoContents lines (content_said said file.now) file.now) }
+    ensures read { IfOk result (λ contents. AreContents mode lines (content_said said file.now) file.now (view_contents contents)) }
+    ensures failed { IfErr result (HasNoContents mode lines (content_said said file.now) file.now) }
 {
     match said.unwrap_or(content_of(file)) {
         Content::FlowText => match read_text(alloc, file) {
@@ -60,7 +62,7 @@ pub fn read_contents<L: Lookup>(
             Ok(switch) => Ok(Contents::Events(switch)),
             Err(ended) => Err(NoContents::Ended(ended)),
         },
-        Content::OvsTable => match read_table(alloc, file, WHOLE) {
+        Content::OvsTable => match read_table(alloc, file, mode) {
             Ok(tables) => Ok(Contents::Tables(tables)),
             Err(error) => Err(NoContents::NotImported(error)),
         },
@@ -256,6 +258,7 @@ pub fn file_switch<L: Lookup>(
             tables: FileTables {
                 config: switch.config()?,
                 origins: Vec::new(alloc),
+                left_out: nothing(alloc),
             },
             switch,
         }),

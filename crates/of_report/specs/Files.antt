@@ -1,5 +1,5 @@
 -- THE REPORT ON A SWITCH: on its flow tables, and on the groups and flows that it has.
-use Rattle.std.specs.Prelude.{◌≡◌, ◌≢◌, ◌++◌, ℕ, Bool, true, false, List, Result, Ok, Err}
+use Rattle.std.specs.Prelude.{◌≡◌, ◌≢◌, ◌++◌, ℕ, Bool, true, false, List, filter, Result, Ok, Err, if◌then◌else◌}
 use Rattle.of_text.specs.Configs.{Configuration}
 use Rattle.of_text.specs.Flows.{Flow}
 use Rattle.of_table.specs.Tables.{Tables}
@@ -8,6 +8,7 @@ use Rattle.of_replay.specs.declared.event_file.Ended.TheVariants.{Done}
 use Rattle.of_check.specs.declared.finding.Finding.{Finding}
 use Rattle.of_check.specs.Findings.{Checks}
 use Rattle.of_check.specs.declared.remark.Remark.{Remark}
+use Rattle.of_check.specs.declared.remark.Remark.TheVariants.{IngressOutput, NoBuckets}
 use Rattle.of_check.specs.Remarks.{remarks_on}
 use Rattle.of_values.specs.Origins.{EntryOrigin}
 use Rattle.of_report.specs.declared.reporting.Form.{Form}
@@ -27,7 +28,17 @@ abbrev pub IsFindingResult : Result Bool Ended → Bool → Type 0
 IsFindingResult (Ok found) is = found ≡ is
 IsFindingResult (Err ended) is = ended ≢ Done
 
+-- a remark on a flow entry or a group alone: of a part of a table it also holds for the whole, whatever other lines that has
+abbrev pub holds_of_whole : Remark → Bool
+holds_of_whole (IngressOutput table place number) = true
+holds_of_whole (NoBuckets id) = true
+holds_of_whole other = false
+
+-- the remarks on a configuration, or on one that is a part of a table
+abbrev pub report_remarks : Bool → Configuration → List Remark
+report_remarks part c = if part then filter holds_of_whole (remarks_on c) else remarks_on c
+
 -- the text of the report on these tables, after so many steps at most for each entry, and on this configuration, whose entries come from these lines; and whether something was found
-abbrev pub IsCheckReport : Result Bool Ended → ℕ → Form → List ℕ → List (List EntryOrigin) → Tables → Configuration → List ℕ → Type 0
-IsCheckReport result steps form further origins ts c text =
-    (findings : List Finding) × Checks ts steps findings × (text ≡ check_report_text form origins c.tables findings (remarks_on c) further) × IsFindingResult result (is_found findings (remarks_on c))
+abbrev pub IsCheckReport : Result Bool Ended → ℕ → Form → Bool → List ℕ → List (List EntryOrigin) → Tables → Configuration → List ℕ → Type 0
+IsCheckReport result steps form part further origins ts c text =
+    (findings : List Finding) × Checks ts steps findings × (text ≡ check_report_text form origins c.tables findings (report_remarks part c) further) × IsFindingResult result (is_found findings (report_remarks part c))

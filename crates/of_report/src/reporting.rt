@@ -1,8 +1,8 @@
 //! The report on the flow tables of a switch.
-ghost use Rattle.std.specs.Prelude.{◌≡◌, ◌<◌, ◌↔◌, IfOk};
+ghost use Rattle.std.specs.Prelude.{◌≡◌, ◌<◌, ◌↔◌, IfOk, filter};
 ghost use Rattle.of_replay.specs.FileRuns.{Writes, ended_as};
 ghost use Rattle.of_values.specs.Origins.{view_origins};
-ghost use Rattle.of_report.specs.Files.{IsCheckReport, check_report_text};
+ghost use Rattle.of_report.specs.Files.{IsCheckReport, check_report_text, holds_of_whole as holds_whatever_is_added, report_remarks};
 
 use crate::counting::is_found;
 use crate::json::json_of;
@@ -50,8 +50,40 @@ fn text_of(
     Ok(text)
 }
 
+// Whether a remark on a part of a table also holds for the whole.
+fn holds_of_whole(remark: &Remark) -> bool
+    ensures { result ≡ holds_whatever_is_added remark.now }
+{
+    matches!(
+        remark,
+        Remark::IngressOutput { .. } | Remark::NoBuckets { .. }
+    )
+}
+
+// The remarks that also hold for the whole.
+fn holding_of_whole(remarks: Vec<Remark>) -> Vec<Remark>
+    ensures { result.items ≡ filter holds_whatever_is_added remarks.items }
+{
+    let mut holding = remarks;
+    holding.retain(|remark| holds_of_whole(remark));
+    holding
+}
+
+// The remarks on a configuration, or on one that is a part of a table.
+fn remarks_of(alloc: Global, config: &Config, part: bool) -> Result<Vec<Remark>, AllocError>
+    ensures { IfOk result (λ remarks. remarks.items ≡ report_remarks part config.now) }
+{
+    let remarks = remarks_on(alloc, config)?;
+    if part {
+        Ok(holding_of_whole(remarks))
+    } else {
+        Ok(remarks)
+    }
+}
+
 /// Writes the report on the entries of a switch, each after at most so many steps, and on its configuration, whose entries come from these lines,
-/// by table, then by age. `further` is a text that follows in words, or further members of the JSON object. Ok says whether something was found.
+/// by table, then by age. If it is a `part` of a table, remarks that another line may refute are left out. `further` is a text that follows in words, or
+/// further members of the JSON object. Ok says whether something was found.
 ///
 /// Err is `WriteFault`, where a write failed and a prefix of the text was written; or `NoMemory`, where nothing was.
 pub fn write_report<L: Lookup, W: Sink>(
@@ -61,18 +93,19 @@ pub fn write_report<L: Lookup, W: Sink>(
     origins: &[Vec<Origin>],
     steps: usize,
     form: Form,
+    part: bool,
     further: &[u8],
     writer: &mut W,
 ) -> Result<bool, Ended>
     requires { W.failures writer.old ≡ 0 }
-    ensures output { Writes (IsCheckReport result steps form further.now (view_origins origins.now) switch.now.core.forwarding.tables config.now)
+    ensures output { Writes (IsCheckReport result steps form part further.now (view_origins origins.now) switch.now.core.forwarding.tables config.now)
         (ended_as result) (W.taken writer.old) (W.taken writer.new) }
     ensures write_fault { (ended_as result ≡ Ended.WriteFault) ↔ (0 < W.failures writer.new) }
 {
     let Ok(findings) = check(alloc, switch, steps) else {
         return Err(Ended::NoMemory);
     };
-    let Ok(remarks) = remarks_on(alloc, config) else {
+    let Ok(remarks) = remarks_of(alloc, config, part) else {
         return Err(Ended::NoMemory);
     };
     let Ok(text) = text_of(alloc, form, config, origins, &findings, &remarks, further) else {

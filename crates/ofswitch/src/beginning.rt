@@ -1,7 +1,7 @@
 //! The groups and flows with which a switch begins.
-use crate::files::{NoFile, read_file_contents};
+use crate::files::{NoFile, config_of, read_file_contents};
 use crate::lookups::Lookups;
-use of_command_line::FileKind;
+use of_command_line::{FileKind, OvsReading};
 use of_explain::push_message;
 use of_files::{Contents, first_events};
 use of_replay::Ended;
@@ -12,21 +12,22 @@ use std::alloc::{AllocError, Global};
 /// The type of an ERROR (OpenFlow 1.3.5, 7.1).
 const ERROR: u8 = 1;
 
-fn events_of(alloc: Global, contents: &Contents<Lookups>) -> Result<Vec<Event>, AllocError> {
-    match contents {
-        Contents::Tables(tables) => first_events(alloc, &tables.config),
-        Contents::Events(switch) => first_events(alloc, &switch.config()?),
-    }
+fn events_of(alloc: Global, contents: Contents<Lookups>) -> Result<Vec<Event>, AllocError> {
+    first_events(alloc, &config_of(contents)?)
 }
 
 /// The events that give a switch the groups and flows of a file; of an event file, those that the switch has after its rows. None of them
 /// without a file.
-pub fn events_of_tables(rt: &HostRuntime, tables: Option<&str>) -> Result<Vec<Event>, NoFile> {
+pub fn events_of_tables(
+    rt: &HostRuntime,
+    tables: Option<&str>,
+    reading: &OvsReading,
+) -> Result<Vec<Event>, NoFile> {
     let Some(path) = tables else {
         return Ok(Vec::new(rt.alloc()));
     };
-    let read = read_file_contents(rt, path, FileKind::Guessed, None, false, &None)?;
-    match events_of(rt.alloc(), &read.contents) {
+    let read = read_file_contents(rt, path, FileKind::Guessed, None, false, true, reading)?;
+    match events_of(rt.alloc(), read.contents) {
         Ok(events) => Ok(events),
         Err(_) => Err(NoFile::ended(rt.alloc(), Ended::NoMemory)),
     }

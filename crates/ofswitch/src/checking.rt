@@ -1,7 +1,8 @@
 //! Reports of `check`.
 use crate::files::{
-    FileRead, NoFile, Unread, content_read, contents_of, refused_table, say_missing,
+    FileRead, NoFile, Unread, content_read, contents_of, mode_of, refused_table, say_missing,
 };
+use crate::left_out::say_part;
 use crate::lookups::Lookups;
 use crate::requiring::{Required, decide_all, missing_on, push_required, read_required};
 use crate::screen::Screen;
@@ -61,13 +62,14 @@ fn verdict_of(found: bool, missing: bool, required: Verdict) -> CheckVerdict {
     }
 }
 
-// The report on a switch and its groups and flows, which come from these lines; and that on requirements.
+// The report on a switch and its groups and flows, which come from these lines, and may be a part of a table; and that on requirements.
 fn reported(
     screen: &Screen<'_>,
     asked: &Check,
     switch: &Switch<Lookups>,
     config: &Config,
     origins: &[Vec<Origin>],
+    part: bool,
     lines: Vec<Line>,
     missing: &[u32],
 ) -> Result<CheckVerdict, NoFile> {
@@ -86,6 +88,7 @@ fn reported(
         origins,
         steps,
         form,
+        part,
         &text,
         &mut writer,
     ) {
@@ -99,6 +102,7 @@ fn tables_reported(
     screen: &Screen<'_>,
     asked: &Check,
     tables: &FileTables,
+    part: bool,
     list: &PortList,
     lines: Vec<Line>,
 ) -> Result<CheckVerdict, NoFile> {
@@ -112,6 +116,7 @@ fn tables_reported(
         &switch,
         &tables.config,
         &tables.origins,
+        part,
         lines,
         &list.missing,
     )
@@ -128,7 +133,7 @@ fn switch_reported(
     let (Ok(config), Ok(missing)) = (switch.config(), missing_on(alloc, switch, &lines)) else {
         return Err(NoFile::ended(alloc, Ended::NoMemory));
     };
-    reported(screen, asked, switch, &config, &[], lines, &missing)
+    reported(screen, asked, switch, &config, &[], false, lines, &missing)
 }
 
 // The ports of the switch of a file, and those that are named and that it does not have.
@@ -158,8 +163,13 @@ fn contents_reported(
                     return Err(NoFile::ended(alloc, ended));
                 }
             }
+            let (json, path) = (asked.output == CheckOutput::Json, asked.of.path.as_str());
+            if let Err(ended) = say_part(screen, json, path, read.left) {
+                return Err(NoFile::ended(alloc, ended));
+            }
+            let part = read.left.is_part();
             match named_list(alloc, asked, &read.contents, &lines) {
-                Ok(list) => tables_reported(screen, asked, tables, &list, lines),
+                Ok(list) => tables_reported(screen, asked, tables, part, &list, lines),
                 Err(_) => Err(NoFile::ended(alloc, Ended::NoMemory)),
             }
         }
@@ -168,11 +178,7 @@ fn contents_reported(
 }
 
 // Whether the switch cannot have the groups and flows of what ovs-ofctl prints.
-fn is_refused(alloc: Global, bytes: &[u8]) -> bool {
-    let mode = Mode {
-        skip: false,
-        renumber: false,
-    };
+fn is_refused(alloc: Global, bytes: &[u8], mode: Mode) -> bool {
     !matches!(
         read_table(alloc, bytes, mode),
         Ok(_) | Err(ImportError::NoMemory)
@@ -225,13 +231,15 @@ fn file_reported(
     lines: Vec<Line>,
 ) -> Result<CheckVerdict, NoFile> {
     let (rt, path, kind) = (screen.rt, asked.of.path.as_str(), asked.of.kind);
-    let (bytes, content) = content_read(rt, path, kind, &asked.of.port_names)?;
-    if content == Content::OvsTable && asked.require.is_none() && is_refused(rt.alloc(), &bytes) {
+    let (bytes, content) = content_read(rt, path, kind, true, &asked.of.reading)?;
+    let mode = mode_of(&asked.of.reading);
+    let may_have_conditions = content == Content::OvsTable && asked.require.is_none() && !mode.skip;
+    if may_have_conditions && is_refused(rt.alloc(), &bytes, mode) {
         if let Some(verdict) = flows_reported(screen, asked, &bytes)? {
             return Ok(verdict);
         }
     }
-    let read = contents_of(rt, path, kind, None, false, bytes, content)?;
+    let read = contents_of(rt, path, kind, None, false, mode, bytes, content)?;
     contents_reported(screen, asked, &read, lines)
 }
 

@@ -1,25 +1,33 @@
 //! Differences of two switches.
-use crate::files::{FileRead, NoFile, Unread, read_file_contents};
+use crate::files::{FileRead, NoFile, Unread, is_without_options, read_file_contents};
+use crate::left_out::say_part;
 use crate::lookups::Lookups;
 use crate::progress::Progress;
 use crate::screen::Screen;
 use of_alike::Compared;
-use of_command_line::{Diff, FileKind};
+use of_command_line::{Diff, FileKind, OvsReading};
 use of_diff_report::{DiffForm, DiffSide, DiffVerdict, FileFlows, write_differences};
-use of_files::{Contents, FileSwitch, both_ports, file_switch};
+use of_files::{Content, FileSwitch, both_ports, file_switch};
 use of_replay::Ended;
 use of_replay::streams::WriterSink;
 
 // What a file is read as. The name of one that is at fault comes before what is wrong with it.
-fn contents_of<'a>(
+fn read_one<'a>(
     rt: &HostRuntime,
     path: &'a str,
-    port_names: &Option<String>,
-) -> Result<Contents<Lookups>, Unread<'a>> {
-    match read_file_contents(rt, path, FileKind::Guessed, None, true, port_names) {
-        Ok(FileRead { contents, .. }) => Ok(contents),
+    reading: &OvsReading,
+) -> Result<FileRead, Unread<'a>> {
+    match read_file_contents(rt, path, FileKind::Guessed, None, true, false, reading) {
+        Ok(read) => Ok(read),
         Err(why) => Err(Unread { path, why }),
     }
+}
+
+// Whether an option is for what ovs-ofctl prints, and neither file is that; standard error says so.
+fn has_idle_option(rt: &HostRuntime, asked: &Diff, first: &FileRead, second: &FileRead) -> bool {
+    first.content != Content::OvsTable
+        && second.content != Content::OvsTable
+        && !is_without_options(rt, &asked.reading, asked.second.as_str())
 }
 
 fn flows_of(of: &FileSwitch<Lookups>) -> FileFlows<'_> {
@@ -77,16 +85,18 @@ fn found_between(
 fn found_in_files(
     screen: &Screen<'_>,
     asked: &Diff,
-    first: Contents<Lookups>,
-    second: Contents<Lookups>,
+    first: FileRead,
+    second: FileRead,
 ) -> Result<DiffVerdict, Ended> {
     let alloc = screen.rt.alloc();
-    let Ok(list) = both_ports(alloc, &asked.ports, &first, &second) else {
+    say_part(screen, asked.json, asked.first.as_str(), first.left)?;
+    say_part(screen, asked.json, asked.second.as_str(), second.left)?;
+    let Ok(list) = both_ports(alloc, &asked.ports, &first.contents, &second.contents) else {
         return Err(Ended::NoMemory);
     };
     let (Ok(first), Ok(second)) = (
-        file_switch(alloc, first, &list.ports),
-        file_switch(alloc, second, &list.ports),
+        file_switch(alloc, first.contents, &list.ports),
+        file_switch(alloc, second.contents, &list.ports),
     ) else {
         return Err(Ended::NoMemory);
     };
@@ -98,11 +108,17 @@ fn found_in_files(
 pub fn diffed<'a>(screen: &Screen<'_>, asked: &'a Diff) -> Result<DiffVerdict, Unread<'a>> {
     let rt = screen.rt;
     let progress = Progress::new(rt);
-    let first = contents_of(rt, asked.first.as_str(), &asked.port_names)?;
+    let first = read_one(rt, asked.first.as_str(), &asked.reading)?;
     progress.say("the first file is read");
-    let second = contents_of(rt, asked.second.as_str(), &asked.port_names);
+    let second = read_one(rt, asked.second.as_str(), &asked.reading);
     progress.end();
     let second = second?;
+    if has_idle_option(rt, asked, &first, &second) {
+        return Err(Unread {
+            path: asked.second.as_str(),
+            why: NoFile::BadOption,
+        });
+    }
     progress.say("both files are read");
     let found = found_in_files(screen, asked, first, second);
     progress.end();

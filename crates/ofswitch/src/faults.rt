@@ -141,7 +141,7 @@ fn document_on(
             help: String::new(alloc),
         }),
         NoFile::Ended { ended, .. } => ended_fault(alloc, ended)?,
-        NoFile::Faults(_) | NoFile::NoNames => None,
+        NoFile::Faults(_) | NoFile::BadOption => None,
     };
     let fault = match (why, &other) {
         (NoFile::Faults(Some(fault)), _) | (_, Some(fault)) => fault,

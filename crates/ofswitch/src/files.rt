@@ -1,20 +1,21 @@
 //! The files of the command line, and the switches that they describe.
 use crate::faults::{Fault, import_fault};
 use crate::importing::{NotImported, say_no_import};
+use crate::left_out::{LeftCount, say_left_out};
 use crate::lookups::Lookups;
 use crate::screen::Screen;
-use of_command_line::{FileKind, SwitchFile};
+use of_command_line::{FileKind, OvsReading, SwitchFile};
 use of_files::{Content, Contents, Described, NoContents, content_of, describe, read_contents};
 use of_hints::Seen;
-use of_import::{ImportError, with_port_numbers};
+use of_import::{ImportError, Mode, with_port_numbers};
 use of_ports::find_port;
 use of_replay::streams::{ReaderSource, WriterSink};
 use of_replay::{Ended, READ_SIZE, ended_by, read_file, write_all, zeros};
 use of_sockets::StandardInput;
 use of_switch::Switch;
-use of_text::cut;
+use of_text::{Config, cut};
 use of_wire::front_of;
-use std::alloc::Global;
+use std::alloc::{AllocError, Global};
 use std::fs::File;
 use std::io::{self, Read};
 
@@ -66,8 +67,8 @@ pub enum NoFile {
     Faults(Option<Fault>),
     /// What was read of it, and how the run ends.
     Ended { seen: Seen, ended: Ended },
-    /// The names of ports are not read, as standard error says.
-    NoNames,
+    /// An option says what cannot be done, as standard error says.
+    BadOption,
 }
 
 impl NoFile {
@@ -115,7 +116,9 @@ pub fn bytes_of(rt: &HostRuntime, path: &str) -> Result<Vec<u8>, NoFile> {
 #[derive(Drop)]
 pub struct FileRead {
     pub bytes: Vec<u8>,
+    pub content: Content,
     pub contents: Contents<Lookups>,
+    pub left: LeftCount,
 }
 
 // What a file is said to be.
@@ -131,6 +134,11 @@ fn content_said(kind: FileKind) -> Option<Content> {
 // Whether a text has the word that each flow of Open vSwitch has.
 fn has_actions(bytes: &[u8]) -> bool {
     bytes.windows(8).any(|word| word.starts_with(b"actions="))
+}
+
+/// Whether a text is what ovs-ofctl prints, and not a flow text with a mistake in its first line.
+pub fn is_table(bytes: &[u8]) -> bool {
+    content_of(bytes) == Content::OvsTable && has_actions(bytes)
 }
 
 // A file of another kind with a mistake in its first line is taken for a table of Open vSwitch.
@@ -169,7 +177,7 @@ pub fn with_ports(
     };
     let Ok(list) = bytes_of(rt, path.as_str()) else {
         let _ = eprintln!(rt; "bad --port-names: cannot read {path}");
-        return Err(NoFile::NoNames);
+        return Err(NoFile::BadOption);
     };
     match with_port_numbers(rt.alloc(), &list, &bytes) {
         Ok(numbered) => Ok(numbered),
@@ -177,17 +185,37 @@ pub fn with_ports(
     }
 }
 
-/// The bytes of a file, and what it is; of what ovs-ofctl prints, ports are numbers.
+/// How a table is read.
+pub fn mode_of(reading: &OvsReading) -> Mode {
+    Mode {
+        skip: reading.skip,
+        renumber: reading.renumber,
+    }
+}
+
+/// Whether there is no option for what ovs-ofctl prints; if there is one, standard error says which, and that the file is of another kind.
+pub fn is_without_options(rt: &HostRuntime, reading: &OvsReading, path: &str) -> bool {
+    let Some(option) = reading.own_option() else {
+        return true;
+    };
+    let _ = eprintln!(rt; "bad {option}: {path} is not what ovs-ofctl prints");
+    false
+}
+
+/// The bytes of a file, and what it is; of what ovs-ofctl prints, ports are numbers. If it is `alone`, it is to have no options of another kind.
 pub fn content_read(
     rt: &HostRuntime,
     path: &str,
     kind: FileKind,
-    port_names: &Option<String>,
+    alone: bool,
+    reading: &OvsReading,
 ) -> Result<(Vec<u8>, Content), NoFile> {
     let bytes = bytes_of(rt, path)?;
     let content = content_said(kind).unwrap_or(content_of(&bytes));
     if content == Content::OvsTable {
-        Ok((with_ports(rt, port_names, bytes)?, content))
+        Ok((with_ports(rt, &reading.port_names, bytes)?, content))
+    } else if alone && !is_without_options(rt, reading, path) {
+        Err(NoFile::BadOption)
     } else {
         Ok((bytes, content))
     }
@@ -201,38 +229,54 @@ fn say_name(rt: &HostRuntime, path: &str, named: bool) {
 }
 
 /// What a file is read as that an option or its content says; of an event file only so many first lines, if they are given. If it is `named`,
-/// standard error has its name before what is wrong with it.
+/// standard error has its name before what is wrong with it. If it is `alone`, it is to have no options of another kind.
 pub fn read_file_contents(
     rt: &HostRuntime,
     path: &str,
     kind: FileKind,
     lines: Option<u64>,
     named: bool,
-    port_names: &Option<String>,
+    alone: bool,
+    reading: &OvsReading,
 ) -> Result<FileRead, NoFile> {
-    let (bytes, content) = match content_read(rt, path, kind, port_names) {
+    let (bytes, content) = match content_read(rt, path, kind, alone, reading) {
         Ok(read) => read,
-        Err(NoFile::NoNames) => return Err(NoFile::NoNames),
+        Err(NoFile::BadOption) => return Err(NoFile::BadOption),
         Err(why) => {
             say_name(rt, path, named);
             return Err(why);
         }
     };
-    contents_of(rt, path, kind, lines, named, bytes, content)
+    contents_of(
+        rt,
+        path,
+        kind,
+        lines,
+        named,
+        mode_of(reading),
+        bytes,
+        content,
+    )
 }
 
-/// What the bytes of a file are read as, as by `read_file_contents`.
+/// What the bytes of a file are read as, as by `read_file_contents`. Standard error names what is left out.
 pub fn contents_of(
     rt: &HostRuntime,
     path: &str,
     kind: FileKind,
     lines: Option<u64>,
     named: bool,
+    mode: Mode,
     bytes: Vec<u8>,
     content: Content,
 ) -> Result<FileRead, NoFile> {
-    match read_contents(rt.alloc(), &bytes, Some(content), lines) {
-        Ok(contents) => Ok(FileRead { bytes, contents }),
+    match read_contents(rt.alloc(), &bytes, Some(content), lines, mode) {
+        Ok(contents) => Ok(FileRead {
+            left: say_left_out(rt, &bytes, &contents),
+            bytes,
+            content,
+            contents,
+        }),
         Err(NoContents::Ended(ended)) => {
             say_name(rt, path, named);
             Err(NoFile::Ended {
@@ -247,16 +291,40 @@ pub fn contents_of(
     }
 }
 
+/// The groups and flows of what was read; of an event file, those that its switch has.
+pub fn config_of(contents: Contents<Lookups>) -> Result<Config, AllocError> {
+    match contents {
+        Contents::Tables(tables) => Ok(tables.config),
+        Contents::Events(switch) => switch.config(),
+    }
+}
+
+/// The switch of a file, and how much of the file was left out.
+#[derive(Drop)]
+pub struct SwitchRead {
+    pub described: Described<Lookups>,
+    pub left: LeftCount,
+}
+
 /// The switch of a file; of an event file after so many first lines, if they are given.
 pub fn read_switch(
     rt: &HostRuntime,
     of: &SwitchFile,
     lines: Option<u64>,
     named: bool,
-) -> Result<Described<Lookups>, NoFile> {
-    let read = read_file_contents(rt, of.path.as_str(), of.kind, lines, named, &of.port_names)?;
-    match describe(rt.alloc(), read.contents, &of.ports) {
-        Ok(described) => Ok(described),
+) -> Result<SwitchRead, NoFile> {
+    let path = of.path.as_str();
+    let FileRead { contents, left, .. } = read_file_contents(
+        rt,
+        path,
+        of.kind,
+        lines,
+        named,
+        true,
+        &of.reading,
+    )?;
+    match describe(rt.alloc(), contents, &of.ports) {
+        Ok(described) => Ok(SwitchRead { described, left }),
         Err(_) => Err(NoFile::ended(rt.alloc(), Ended::NoMemory)),
     }
 }

@@ -132,8 +132,8 @@ fn say_words(rt: &HostRuntime, bytes: &[u8], count: usize, it: &LineFaults) {
     }
 }
 
-// Names the first lines that are refused on standard error, and how often which keyword is.
-fn say_faults(rt: &HostRuntime, bytes: &[u8], faults: &[LineFaults], refused: &[LineRefusal]) {
+/// Names the first lines that are refused on standard error, and how often which keyword is.
+pub fn say_faults(rt: &HostRuntime, bytes: &[u8], faults: &[LineFaults], refused: &[LineRefusal]) {
     for (count, it) in faults.iter().take(NAMED).enumerate() {
         say_words(rt, bytes, count, it);
     }

@@ -3,6 +3,7 @@
 
 ghost use Rattle.std.specs.Prelude.{◌≡◌};
 
+mod assembling;
 mod beginning;
 mod checking;
 mod diffing;
@@ -11,6 +12,7 @@ mod files;
 mod folding;
 mod history;
 mod importing;
+mod left_out;
 mod live;
 mod lookups;
 mod paths;
@@ -23,11 +25,14 @@ mod serving;
 mod tracing;
 mod words;
 
+use crate::assembling::assembled;
 use crate::beginning::events_of_tables;
 use crate::checking::{CheckVerdict, checked};
 use crate::diffing::diffed;
 use crate::faults::print_fault;
-use crate::files::{NoFile, Opened, bytes_of, open, read_whole, said_dpid, with_ports};
+use crate::files::{
+    NoFile, Opened, bytes_of, is_table, mode_of, open, read_whole, said_dpid, with_ports,
+};
 use crate::folding::Folded;
 use crate::history::{HistoryVerdict, recounted};
 use crate::lookups::Lookups;
@@ -38,13 +43,12 @@ use crate::words::say_word;
 use importing::{NotImported, imported, imported_as_json};
 use live::{are_peers, live_rows};
 use of_command_line::{
-    Check, CheckOutput, Diff, FileRun, HistoryAsked, Live, NoRequest, PathsAsked, ReplayOutput,
-    Request, Run, Serve, Trace, read_request,
+    Check, CheckOutput, Diff, FileRun, HistoryAsked, Live, NoRequest, OvsReading, PathsAsked,
+    ReplayOutput, Request, Run, Serve, SwitchFile, Trace, read_request,
 };
 use of_diff_report::DiffVerdict;
 use of_explain::{Answering, Explaining, ExplainingJson};
 use of_hints::{Seen, Watched, end, end_file};
-use of_import::Mode;
 use of_paths_report::PathsVerdict;
 use of_replay::streams::{ReaderSource, WriterSink};
 use of_replay::{Ended, Plain, RowPrinter, Sink, Source, asm, dis, print_file, status, write_all};
@@ -127,36 +131,20 @@ fn carry_out(screen: &Screen<'_>, request: &Request) -> ExitCode {
         Request::Paths(asked) => run_paths(screen, asked),
         Request::Import {
             file,
-            skip,
-            renumber,
+            reading,
             json,
-            port_names,
-        } => run_import(
-            screen,
-            file.as_str(),
-            Mode {
-                skip: *skip,
-                renumber: *renumber,
-            },
-            *json,
-            port_names,
-        ),
+        } => run_import(screen, file.as_str(), reading, *json),
+        Request::Assemble(of) => run_assembly(screen, of),
         Request::Say { messages } => run_say(screen, messages.as_str()),
         Request::Serve(asked) => run_serve(rt, asked),
         Request::Live(asked) => run_live(rt, asked),
     }
 }
 
-fn run_import(
-    screen: &Screen<'_>,
-    path: &str,
-    mode: Mode,
-    json: bool,
-    port_names: &Option<String>,
-) -> ExitCode {
-    let rt = screen.rt;
+fn run_import(screen: &Screen<'_>, path: &str, reading: &OvsReading, json: bool) -> ExitCode {
+    let (rt, mode) = (screen.rt, mode_of(reading));
     let numbered = match bytes_of(rt, path) {
-        Ok(bytes) => with_ports(rt, port_names, bytes),
+        Ok(bytes) => with_ports(rt, &reading.port_names, bytes),
         Err(why) => Err(why),
     };
     let bytes = match numbered {
@@ -174,6 +162,13 @@ fn run_import(
         Ok(_) => ExitCode::from(LEFT_OUT),
         Err(NotImported::Faults) => ExitCode::from(BAD_LINES),
         Err(NotImported::Ended(ended)) => end_file(rt, path, &Seen::nothing(rt.alloc()), &ended),
+    }
+}
+
+fn run_assembly(screen: &Screen<'_>, of: &SwitchFile) -> ExitCode {
+    match assembled(screen, of) {
+        Ok(()) => ExitCode::SUCCESS,
+        Err(why) => end_unread(screen.rt, of.path.as_str(), why),
     }
 }
 
@@ -202,7 +197,7 @@ fn run_file(screen: &Screen<'_>, asked: &FileRun) -> ExitCode {
         Ok(Opened::File(file)) => {
             say_other_switch(rt, path, &asked.run);
             let ended = run(screen, &asked.run, file);
-            end_file(rt, path, &seen_again(rt, path, &ended), &ended)
+            end_run(rt, asked, &seen_again(rt, path, &ended), &ended)
         }
         Ok(Opened::Input(input)) => run_over(screen, asked, input),
         Err(error) => end_unopened(rt, path, &error),
@@ -234,6 +229,16 @@ fn seen_again(rt: &HostRuntime, path: &str, ended: &Ended) -> Seen {
     }
 }
 
+// How a run over a file ended. If what ovs-ofctl prints was read as flow text, standard error says what reads it.
+fn end_run(rt: &HostRuntime, asked: &FileRun, seen: &Seen, ended: &Ended) -> ExitCode {
+    let path = asked.file.as_str();
+    let code = end_file(rt, path, seen, ended);
+    if asked.run == Run::Assemble && *ended != Ended::Done && is_table(seen.bytes()) {
+        let _ = eprintln!(rt; "to read what ovs-ofctl prints: asm --ovs {path}");
+    }
+    code
+}
+
 // A file that gives its lines only once. A flow text is read before it is used.
 fn run_over<R: Read + Drop>(screen: &Screen<'_>, asked: &FileRun, reader: R) -> ExitCode {
     let (rt, path) = (screen.rt, asked.file.as_str());
@@ -246,7 +251,7 @@ fn run_over<R: Read + Drop>(screen: &Screen<'_>, asked: &FileRun, reader: R) -> 
         Ok(text) => {
             let seen = Seen::whole(text);
             let ended = run(screen, &asked.run, seen.bytes());
-            end_file(rt, path, &seen, &ended)
+            end_run(rt, asked, &seen, &ended)
         }
         Err(ended) => end_file(rt, path, &Seen::nothing(rt.alloc()), &ended),
     }
@@ -317,7 +322,7 @@ fn end_unread(rt: &HostRuntime, path: &str, why: NoFile) -> ExitCode {
         NoFile::Ended { seen, ended } => end_file(rt, path, &seen, &ended),
         NoFile::Unopened(error) => end_unopened(rt, path, &error),
         NoFile::Faults(_) => ExitCode::from(BAD_LINES),
-        NoFile::NoNames => ExitCode::from(BAD_ARGUMENTS),
+        NoFile::BadOption => ExitCode::from(BAD_ARGUMENTS),
     }
 }
 
@@ -348,10 +353,11 @@ struct Given {
 fn given_by(
     rt: &HostRuntime,
     tables: &Option<String>,
+    reading: &OvsReading,
     events: &Option<String>,
 ) -> Result<Given, ExitCode> {
     let tables = tables.as_ref().map(|path| path.as_str());
-    let first = match events_of_tables(rt, tables) {
+    let first = match events_of_tables(rt, tables, reading) {
         Ok(first) => first,
         Err(why) => return Err(end_unread(rt, tables.unwrap_or("-"), why)),
     };
@@ -360,7 +366,7 @@ fn given_by(
 }
 
 fn run_serve(rt: &HostRuntime, asked: &Serve) -> ExitCode {
-    match given_by(rt, &asked.tables, &asked.events) {
+    match given_by(rt, &asked.tables, &asked.reading, &asked.events) {
         Ok(Given { first, rows }) => {
             let teller = Teller::new(rt);
             let ended = serve_rows(&teller, asked, &first, rows);
@@ -371,7 +377,7 @@ fn run_serve(rt: &HostRuntime, asked: &Serve) -> ExitCode {
 }
 
 fn run_live(rt: &HostRuntime, asked: &Live) -> ExitCode {
-    match given_by(rt, &asked.tables, &asked.events) {
+    match given_by(rt, &asked.tables, &asked.reading, &asked.events) {
         Ok(Given { first, rows }) => {
             let teller = Teller::new(rt);
             if !are_peers(&teller, asked, &rows) {

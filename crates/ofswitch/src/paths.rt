@@ -1,10 +1,10 @@
 //! Paths of the frames of a switch.
-use crate::files::{NoFile, has_port, read_switch, say_missing};
+use crate::files::{NoFile, SwitchRead, has_port, read_switch, say_missing};
+use crate::left_out::say_part;
 use crate::lookups::Lookups;
 use crate::screen::Screen;
 use crate::words::say_word;
 use of_command_line::{Leading, PathsAsked};
-use of_files::Described;
 use of_frame_words::{NoFrame, read_conditions};
 use of_paths::Merging;
 use of_paths_report::{Asked, Destination, PathsForm, PathsVerdict, write_paths};
@@ -78,14 +78,17 @@ fn unfinished(rt: &HostRuntime, ended: Ended) -> NoPaths {
 fn paths_within(
     screen: &Screen<'_>,
     asked: &PathsAsked,
-    described: &Described<Lookups>,
+    read: &SwitchRead,
 ) -> Result<PathsVerdict, NoPaths> {
     let rt = screen.rt;
     let within = match read_conditions(rt.alloc(), asked.within.as_bytes()) {
         Ok(within) => within,
         Err(why) => return Err(without_match(rt, &why)),
     };
-    let missing = match say_missing(screen, asked.json, &described.missing) {
+    if let Err(ended) = say_part(screen, asked.json, asked.of.path.as_str(), read.left) {
+        return Err(unfinished(rt, ended));
+    }
+    let missing = match say_missing(screen, asked.json, &read.described.missing) {
         Ok(missing) => missing,
         Err(ended) => return Err(unfinished(rt, ended)),
     };
@@ -105,7 +108,7 @@ fn paths_within(
         form_of(asked.json),
         WriterSink::new(screen.report()),
     );
-    match write_paths(alloc, &described.switch, &of_frames, form, &mut out) {
+    match write_paths(alloc, &read.described.switch, &of_frames, form, &mut out) {
         Ok(PathsVerdict::Complete) if missing => Ok(PathsVerdict::Undecided),
         Ok(verdict) => Ok(verdict),
         Err(ended) => Err(unfinished(rt, ended)),
@@ -116,8 +119,8 @@ fn paths_within(
 pub fn divided(screen: &Screen<'_>, asked: &PathsAsked) -> Result<PathsVerdict, NoPaths> {
     let rt = screen.rt;
     match read_switch(rt, &asked.of, None, true) {
-        Ok(described) if has_ports(rt, asked, &described.switch) => {
-            paths_within(screen, asked, &described)
+        Ok(read) if has_ports(rt, asked, &read.described.switch) => {
+            paths_within(screen, asked, &read)
         }
         Ok(_) => Err(NoPaths::NoPort),
         Err(why) => Err(NoPaths::File(why)),

@@ -1,5 +1,8 @@
 //! Traces of frames.
-use crate::files::{NoFile, bytes_of, has_port, read_switch, say_missing};
+use crate::files::{
+    NoFile, SwitchRead, bytes_of, has_port, is_without_options, read_switch, say_missing,
+};
+use crate::left_out::say_part;
 use crate::lookups::Lookups;
 use crate::screen::Screen;
 use of_command_line::{Asked, FileKind, Trace};
@@ -43,8 +46,11 @@ fn output_of(asked: &Trace) -> Output {
 
 // The trace on the switch of a file that an option calls a flow text, which has ports 1 to 64.
 fn traced_on_text(screen: &Screen<'_>, asked: &Trace) -> Result<TraceVerdict, NoFile> {
-    let rt = screen.rt;
-    let bytes = bytes_of(rt, asked.of.path.as_str())?;
+    let (rt, path) = (screen.rt, asked.of.path.as_str());
+    if !is_without_options(rt, &asked.of.reading, path) {
+        return Err(NoFile::BadOption);
+    }
+    let bytes = bytes_of(rt, path)?;
     let (alloc, port, frame) = (rt.alloc(), asked.port, asked.frame.as_slice());
     let mut reader = ReaderSource::new(bytes.as_slice());
     let mut writer = WriterSink::new(screen.report());
@@ -62,11 +68,16 @@ fn traced_on_text(screen: &Screen<'_>, asked: &Trace) -> Result<TraceVerdict, No
 fn traced_on_switch(screen: &Screen<'_>, asked: &Trace) -> Result<TraceVerdict, NoFile> {
     let rt = screen.rt;
     let lines = asked.at.map(|row| u64::from(row).saturating_sub(1));
-    let Described { switch, missing } = read_switch(rt, &asked.of, lines, false)?;
+    let SwitchRead { described, left } = read_switch(rt, &asked.of, lines, false)?;
+    let Described { switch, missing } = described;
     if !has_port(rt, &switch, "--port", asked.port) {
         return Ok(TraceVerdict::NoPort);
     }
     let (alloc, frame, output) = (rt.alloc(), asked.frame.as_slice(), output_of(asked));
+    let is_for_programs = asked.json || asked.lines;
+    if let Err(ended) = say_part(screen, is_for_programs, asked.of.path.as_str(), left) {
+        return Err(NoFile::ended(alloc, ended));
+    }
     let some_missing = match say_missing(screen, asked.json, &missing) {
         Ok(some) => some,
         Err(ended) => return Err(NoFile::ended(alloc, ended)),
