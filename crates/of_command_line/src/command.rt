@@ -64,9 +64,12 @@ by one space:
   # ...                                 a comment
 
 The event file connects a controller, which sends HELLO, a GROUP_MOD for each
-group, and a FLOW_MOD for each flow.
+group, and a FLOW_MOD for each flow. With --ovs it is that of what ovs-ofctl
+prints (`ofswitch import --help`), and with --events that of the groups and
+flows after the rows of another event file.
 
-  ofswitch asm examples/router.flows > router.events";
+  ofswitch asm examples/router.flows > router.events
+  ofswitch asm --ovs br0.txt --skip --renumber > br0.events";
 
 const DISASSEMBLY: &str =
     "Plays the rows as `replay` does, without printing their effects. Then it prints
@@ -225,7 +228,8 @@ document about the import instead, or about the lines that are refused, and
 nothing on standard error.
 
 Ports are numbers. With --port-names, names are read as well, as
-in_port=\"s1-eth1\" or output:s1-eth1.
+in_port=\"s1-eth1\" or output:s1-eth1. Each command that reads such a file has
+the options --skip, --renumber and --port-names.
 
   ofswitch import examples/ovs-router.txt
   ovs-ofctl -O OpenFlow13 --no-names dump-flows br0 |
@@ -540,7 +544,7 @@ pub(crate) const SUBCOMMANDS: [Subcommand; 12] = [
     },
     Subcommand {
         name: "asm",
-        about: "Prints an event file that builds the groups and flows of a flow text",
+        about: "Prints an event file that builds the groups and flows of a file",
         text: FLOW_TEXT,
         arguments: &ASSEMBLE,
         of_tables: &OVS_READING,

@@ -14,7 +14,7 @@ use Rattle.of_files.specs.declared.tables.LeftOut.{LeftOut}
 use Rattle.of_files.specs.FlowLines.{text_origins_below}
 
 -- nothing is left out
-pub record IsNothing (l : LeftOut) : Type 0 where
+pub record IsNothingLeftOut (l : LeftOut) : Type 0 where
   pub faults : l.faults.items ≡ []
   pub refused : l.refused.items ≡ []
   pub changed : l.changed ≡ 0
@@ -22,7 +22,7 @@ pub record IsNothing (l : LeftOut) : Type 0 where
 -- A FLOW TEXT: its flows come from the lines at which they begin
 abbrev pub tables_of_text : Meaning FileTables
 tables_of_text false file outcome = ⊥
-tables_of_text true file (IsValue t) = (bad_line file ≡ None) × EncodeConfig (lines_of file) t.config × (view_origins t.origins.items ≡ text_origins_below 16 file) × IsNothing t.left_out
+tables_of_text true file (IsValue t) = (bad_line file ≡ None) × EncodeConfig (lines_of file) t.config × (view_origins t.origins.items ≡ text_origins_below 16 file) × IsNothingLeftOut t.left_out
 tables_of_text true file (IsBad n) = bad_line file ≡ Some n
 tables_of_text true file (HasFault f) = (bad_line file ≡ None) × IsTextFault file f
 

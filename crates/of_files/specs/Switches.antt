@@ -20,7 +20,7 @@ use Rattle.of_files.specs.declared.switches.NoContents.TheVariants.{Ended, NotIm
 use Rattle.of_files.specs.declared.switches.PortList.{PortList}
 use Rattle.of_files.specs.declared.tables.FileTables.{FileTables}
 use Rattle.of_files.specs.Contents.{content_of}
-use Rattle.of_files.specs.FileTables.{IsNothing, IsTableRead, tables_of_text}
+use Rattle.of_files.specs.FileTables.{IsNothingLeftOut, IsTableRead, tables_of_text}
 use Rattle.of_files.specs.FirstEvents.{with_controller}
 use Rattle.of_files.specs.NamedPorts.{missing_ports, named_ports, ports_with}
 use Rattle.of_files.specs.Playing.{played_file}
@@ -99,7 +99,7 @@ DescribesSwitch given contents s missing = (s ≡ switch_said (chosen_ports give
 -- its flow entries: those of the file with their lines, or those of the switch without lines
 abbrev pub AreFlowsOf : FileContents → FileTables → Type 0
 AreFlowsOf (Tables tables) found = found ≡ tables
-AreFlowsOf (Run switch) found = (found.config ≡ config_of switch) × (found.origins.items ≡ []) × IsNothing found.left_out
+AreFlowsOf (Run switch) found = (found.config ≡ config_of switch) × (found.origins.items ≡ []) × IsNothingLeftOut found.left_out
 
 -- ---- the switches of two files, which are compared
 

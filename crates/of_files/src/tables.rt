@@ -3,7 +3,7 @@ ghost use Rattle.std.specs.Prelude.{◌≡◌, IfErr, IfOk, true};
 ghost use Rattle.of_text.specs.Lines.{lines_of};
 ghost use Rattle.of_import.specs.Imports.{NoImport};
 ghost use Rattle.of_replay.specs.FileRuns.{IsRead};
-ghost use Rattle.of_files.specs.FileTables.{IsNothing, IsTableRead, tables_of_text};
+ghost use Rattle.of_files.specs.FileTables.{IsNothingLeftOut, IsTableRead, tables_of_text};
 
 use crate::flow_lines::text_origins;
 use of_import::{
@@ -28,7 +28,7 @@ pub struct LeftOut {
 
 /// Nothing is left out.
 pub fn nothing(alloc: Global) -> LeftOut
-    ensures { IsNothing result }
+    ensures { IsNothingLeftOut result }
 {
     LeftOut {
         faults: Vec::new(alloc),

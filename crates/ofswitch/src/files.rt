@@ -272,7 +272,7 @@ pub fn contents_of(
 ) -> Result<FileRead, NoFile> {
     match read_contents(rt.alloc(), &bytes, Some(content), lines, mode) {
         Ok(contents) => Ok(FileRead {
-            left: say_left_out(rt, &bytes, &contents),
+            left: say_left_out(rt, named.then_some(path), &bytes, &contents),
             bytes,
             content,
             contents,

@@ -35,8 +35,13 @@ impl LeftCount {
     }
 }
 
-/// Names on standard error what is left out, and returns how much that is.
-pub fn say_left_out(rt: &HostRuntime, bytes: &[u8], contents: &Contents<Lookups>) -> LeftCount {
+/// Names on standard error what is left out, behind the name of the file if it is given, and returns how much that is.
+pub fn say_left_out(
+    rt: &HostRuntime,
+    name: Option<&str>,
+    bytes: &[u8],
+    contents: &Contents<Lookups>,
+) -> LeftCount {
     let Contents::Tables(tables) = contents else {
         return LeftCount {
             lines: 0,
@@ -48,9 +53,15 @@ pub fn say_left_out(rt: &HostRuntime, bytes: &[u8], contents: &Contents<Lookups>
         refused,
         changed,
     } = &tables.left_out;
+    let lines = left_out(faults, refused, 0);
+    if let Some(name) = name {
+        if lines > 0 {
+            let _ = eprint!(rt; "{name}: ");
+        }
+    }
     say_faults(rt, bytes, faults, refused);
     LeftCount {
-        lines: left_out(faults, refused, 0),
+        lines,
         changed: *changed,
     }
 }
