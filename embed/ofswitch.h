@@ -16,6 +16,7 @@
 #include <stdbool.h>
 #include <stddef.h>
 #include <stdint.h>
+#include <stdio.h>
 #include <stdlib.h>
 
 #ifdef __cplusplus
@@ -127,6 +128,16 @@ static inline void ofswitch_free(struct ofswitch_switch *at) {
     if (at != NULL)
         ofswitch_end(at);
     free(at);
+}
+
+/* A port is added, with its hardware address, a name of 1 to 15 lower-case letters and digits, and the state of its link: a row `port add`. Status 2: the
+   name is none. Other changes of ports are rows (`port link 1 down`, `port remove 1`). */
+static inline void ofswitch_port(struct ofswitch_switch *at, uint32_t port, const uint8_t hw[6], const char *name, bool up, uint8_t *text,
+                                 size_t text_room, struct ofswitch_answer *answer) {
+    char row[64];
+    int length = snprintf(row, sizeof row, "port add %lu %02x%02x%02x%02x%02x%02x %.16s %s", (unsigned long)port, hw[0], hw[1], hw[2], hw[3], hw[4], hw[5],
+                          name, up ? "up" : "down");
+    ofswitch_row(at, (const uint8_t *)row, (size_t)length, text, text_room, answer);
 }
 
 #ifdef __cplusplus

@@ -69,7 +69,7 @@ def path_of(program: str, asked: argparse.Namespace, text: str) -> tuple[int, st
 def never_winning(program: str, text: str) -> set[tuple[int, int]]:
     """Table and place of each flow that never wins, from `ofswitch check`."""
     found = json.loads(run_to_end([program, "check", "--json", "--flows", "-"], text.encode(), _TIMEOUT, good=(0, _FOUND, _UNDECIDED)))
-    return {(it["table"], it["entry"]) for it in found["flows"] if it["verdict"] == "never wins"}
+    return {(it["table"], it["entry"]) for it in found["flows"] if it["verdict"].startswith("never wins")}
 
 
 def render(graph: str, path: str) -> None:

@@ -16,7 +16,7 @@ use Rattle.of_regions.specs.Searching.{IsStart, IsUndecided, LeavesUnreceived}
 use Rattle.of_regions.specs.Witness.{IsIngressPort}
 use Rattle.of_table.specs.Table.{FlowEntry, winner_place}
 use Rattle.of_check.specs.declared.verdict.Verdict.{Verdict}
-use Rattle.of_check.specs.declared.verdict.Verdict.TheVariants.{Wins, Never, Open}
+use Rattle.of_check.specs.declared.verdict.Verdict.TheVariants.{Wins, Never, Unreceived, Open}
 
 -- ---- packets
 
@@ -108,23 +108,33 @@ pub record AreRivals (flows : List FlowEntry) (k : ℕ) (own : FlowEntry) (rival
   pub conditions : (q : Rival) → Contains rivals q → AreConditions q.fields.now
   pub all : (j : ℕ) (b : GoesBefore flows j k) → ((q : Rival) × Contains rivals q × (q.name ≡ j)) ⊎ (overlaps_match b.first.flow.fields own.flow.fields ≡ false)
 
--- of the entry at k either no switch receives a packet with which it wins, since none has such a port; or the search took so many steps, and was not done
-pub record IsOpen (flows : List FlowEntry) (k steps : ℕ) : Type 0 where
+-- among the packets of the entry at k a search beside its rivals found this
+pub record IsSearched (flows : List FlowEntry) (k : ℕ) (Outcome : List Region → List Rival → Type 0) : Type 0 where
   pub own : FlowEntry
   pub there : slice_get flows k ≡ Some own
   pub rivals : List Rival
   pub are : AreRivals flows k own rivals
   pub start : List Region
   pub begins : IsStart own.flow.fields start
-  pub undecided : ((r : Region) × LeavesUnreceived start rivals r) ⊎ IsUndecided start rivals steps
+  pub outcome : Outcome start rivals
 
--- a verdict on the entry at k after so many steps at most; `Open` says that no one entry covers it, and that there is no such entry, or why it is not decided
+-- it wins with some packets, but no switch receives any of these, since none has such a port
+abbrev pub IsUnreceivedAlone : List FlowEntry → ℕ → Type 0
+IsUnreceivedAlone flows k = IsSearched flows k (λ start rivals. (r : Region) × LeavesUnreceived start rivals r)
+
+-- the search took so many steps, and was not done
+abbrev pub IsOpen : List FlowEntry → ℕ → ℕ → Type 0
+IsOpen flows k steps = IsSearched flows k (λ start rivals. IsUndecided start rivals steps)
+
+-- a verdict on the entry at k after so many steps at most; `Unreceived` and `Open` say that no one entry covers it, and `Open` that there is no such entry, or that it is not decided
 abbrev pub VerdictHolds : List FlowEntry → ℕ → ℕ → Verdict → Type 0
 VerdictHolds flows k steps (Wins frame in_port metadata) = WinsWith flows k (record { frame = frame.items; in_port = in_port; metadata = metadata })
 VerdictHolds flows k steps (Never by tie) = NeverWins flows k by.items × (tie ≡ is_tie flows k by.items)
+VerdictHolds flows k steps Unreceived = ((j : ℕ) → ¬ (Covers flows j k)) × IsUnreceivedAlone flows k
 VerdictHolds flows k steps Open = ((j : ℕ) → ¬ (Covers flows j k)) × ((slice_get flows k ≡ None) ⊎ IsOpen flows k steps)
 
 abbrev pub is_never : Verdict → Bool
 is_never (Never by tie) = true
 is_never (Wins frame in_port metadata) = false
+is_never Unreceived = true
 is_never Open = false

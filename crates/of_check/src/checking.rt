@@ -53,12 +53,12 @@ pub fn check<L: Lookup>(
     Ok(findings)
 }
 
-/// Whether an entry never wins.
+/// Whether an entry never wins, or not at a port that a switch has.
 pub fn is_never(verdict: &Verdict) -> bool
     ensures { result ≡ is_never_in verdict.now }
 {
     match verdict {
-        Verdict::Never { .. } => true,
+        Verdict::Never { .. } | Verdict::Unreceived => true,
         Verdict::Wins { .. } | Verdict::Open => false,
     }
 }

@@ -70,7 +70,7 @@ fn searched<L: Lookup>(
             let tie = is_tied(switch, table, place, own, &by);
             Ok(Verdict::Never { by, tie })
         }
-        Found::Unreceived(_) => Ok(Verdict::Open),
+        Found::Unreceived(_) => Ok(Verdict::Unreceived),
         Found::Undecided => Ok(Verdict::Open),
     }
 }
@@ -100,8 +100,7 @@ pub fn check_among<L: Lookup>(
 }
 
 /// The verdict on the entry of a table at a place by age, from 0 (OpenFlow 1.3.5, 5.3). An entry that no one entry covers is searched: `Open`
-/// means that it was not decided in so many steps, or that it wins, but no packet that comes in by a port that a switch may have; or that there is
-/// no such entry.
+/// means that it was not decided in so many steps, or that there is no such entry.
 pub fn check_entry<L: Lookup>(
     alloc: Global,
     switch: &Switch<L>,

@@ -16,6 +16,8 @@ pub enum Verdict {
         by: Vec<usize>,
         tie: bool,
     },
-    /// It was not decided, or no packet with which it wins comes in by a port that a switch may have.
+    /// It never wins at a port that a switch has: it wins, but with no packet that comes in by such a port.
+    Unreceived,
+    /// It was not decided.
     Open,
 }

@@ -149,22 +149,24 @@ for which the two switches send different output; it ran each frame on both:
       also: 1 difference, by port 2   others whose frames hit the same changed
                                    entries
   undecided: 2 sets of frames: ..  why it is not known if frames are treated alike
-  1 difference, 2 undecided        or `same: all frames are treated alike`
+  1 difference, 2 undecided        or `same: all frames that a port receives
+                                   are treated alike`
 
 Each difference is of a set of frames, of which one is printed, or of several
 sets that differ likewise: then a line has their number, `sets of frames: 2`.
-If it prints `same`, the two switches treat each frame alike: by each port the
-same frames leave in the same order, and the controller gets the same packets,
-with the same reason, table, cookie and metadata. With --frames, packets to the
-controller are not compared. Counters, timeouts and the time are not compared.
+If it prints `same`, the two switches treat each frame that a port receives
+alike: by each port the same frames leave in the same order, and the controller
+gets the same packets, with the same reason, table, cookie and metadata. With
+--frames, packets to the controller are not compared. Counters, timeouts, the
+time and frames that a PACKET_OUT begins are not compared.
 Switches with different ports are not compared: `the switches have different
 ports`. If A or B names a port that the switches do not have, the first line
 says so, and it does not print `same`.
 
-Exit status: 0 all frames are treated alike; 4 there is a difference, or the
-ports differ; 5 no difference was found, but frames are undecided, or a port is
-named that the switches do not have. If a file is at fault, the status is 1, 2
-or 3, and the name of the file is before the fault.
+Exit status: 0 all frames that a port receives are treated alike; 4 there is a
+difference, or the ports differ; 5 no difference was found, but frames are
+undecided, or a port is named that the switches do not have. If a file is at
+fault, the status is 1, 2 or 3, and the name of the file is before the fault.
 
   ofswitch diff examples/router.flows examples/router2.flows
   ovs-ofctl -O OpenFlow13 --no-names dump-flows br0 | ofswitch diff br0.flows -";

@@ -9,6 +9,7 @@ mod command;
 mod counts;
 mod history;
 mod inputs;
+mod numbers;
 mod ovs_reading;
 mod paths;
 mod port_list;
@@ -33,6 +34,7 @@ use counts::{DEFAULT_READS, idle_of, live_turns_of, reads_of, turns_of};
 use history::history_of;
 pub use history::{EntriesAsked, HistoryAsked, HistoryOf};
 use inputs::{log_of, running_rows_of, tables_of};
+use numbers::{dpid_of, long_number_in, number_in};
 use of_frame_words::Refusal;
 use of_wire::limits::TABLES;
 pub use ovs_reading::OvsReading;
@@ -466,14 +468,6 @@ fn diff_of(alloc: Global, matches: &ArgMatches<'_>) -> Result<Diff, NoRequest> {
     })
 }
 
-// A number of 32 bits as event files and flow texts write it: without a sign, and without zeros before it.
-fn number_in(word: &str) -> Option<u32> {
-    if word.starts_with('+') || word.len() > 1 && word.starts_with('0') {
-        return None;
-    }
-    u32::from_str_radix(word, 10).ok()
-}
-
 // The number of a line.
 fn row_of(alloc: Global, word: Option<&str>) -> Result<Option<u32>, NoRequest> {
     let Some(word) = word else {
@@ -704,24 +698,6 @@ fn address_of<N: Net>(alloc: Global, net: &N, word: &str) -> Result<SocketAddr, 
             alloc,
             "bad address\nan address is an IP address or a host, and a port, such as 127.0.0.1:6653, [::1]:6653 or localhost:6653\n",
         )?),
-    }
-}
-
-// A number of 64 bits: decimal, or hexadecimal after 0x.
-fn long_number_in(word: &str) -> Option<u64> {
-    match word.strip_prefix("0x") {
-        Some(digits) => u64::from_str_radix(digits, 16).ok(),
-        None => u64::from_str_radix(word, 10).ok(),
-    }
-}
-
-fn dpid_of(alloc: Global, word: Option<&str>) -> Result<u64, NoRequest> {
-    let Some(word) = word else {
-        return Ok(DEFAULT_DPID);
-    };
-    match long_number_in(word) {
-        Some(dpid) => Ok(dpid),
-        None => Err(refused(alloc, "bad dpid: a 64-bit number\n")?),
     }
 }
 

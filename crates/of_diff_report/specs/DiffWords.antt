@@ -219,7 +219,7 @@ are_same_with missing limits ds = if is_reserved missing limits then false else 
 
 -- the switches treat all frames alike, as far as this is compared
 abbrev pub same_unless : Option Limits → List ℕ
-same_unless None = codes "same: all frames are treated alike"
+same_unless None = codes "same: all frames that a port receives are treated alike"
 same_unless (Some limits) = codes "no difference, except perhaps in how much of a frame a PACKET_IN has"
 
 abbrev pub same_words : List ℕ → Option Limits → List ℕ

@@ -559,7 +559,7 @@ fn sentence_of_limits(limits: Option<Limits>) -> &'static [u8]
     ensures { result.now ≡ same_unless limits }
 {
     match limits {
-        None => b"same: all frames are treated alike",
+        None => b"same: all frames that a port receives are treated alike",
         Some(_) => b"no difference, except perhaps in how much of a frame a PACKET_IN has",
     }
 }

@@ -1,11 +1,20 @@
 -- THE EVENTS THAT GIVE A NEW SWITCH THE GROUPS AND FLOWS OF A CONFIGURATION: a controller connects, says HELLO, sends the messages that `asm` writes, and
--- is gone.
+-- is gone. And of those with which it only connects.
 use Rattle.std.specs.Prelude.{List, [], ◌∷◌, ◌++◌, map}
 use Rattle.of_text.specs.Configs.{Configuration}
 use Rattle.of_build.specs.Building.{hello}
 use Rattle.of_build.specs.Listing.{messages_of}
 use Rattle.of_switch.specs.declared.event.Event.{Event}
 use Rattle.of_switch.specs.declared.event.Event.TheVariants.{Chunk, Connect, Lost}
+use Rattle.of_switch.specs.State.{State}
+use Rattle.of_switch.specs.Runs.{run}
+
+abbrev pub connection_events : List Event
+connection_events = Connect ∷ Chunk hello ∷ []
 
 abbrev pub first_events : Configuration → List Event
-first_events c = Connect ∷ Chunk hello ∷ map Chunk (messages_of c) ++ Lost ∷ []
+first_events c = connection_events ++ map Chunk (messages_of c) ++ Lost ∷ []
+
+-- the switch after a controller connected and said HELLO
+abbrev pub with_controller : State → State
+with_controller s = (run connection_events s).state

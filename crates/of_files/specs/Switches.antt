@@ -21,6 +21,7 @@ use Rattle.of_files.specs.declared.switches.PortList.{PortList}
 use Rattle.of_files.specs.declared.tables.FileTables.{FileTables}
 use Rattle.of_files.specs.Contents.{content_of}
 use Rattle.of_files.specs.FileTables.{IsNothingLeftOut, IsTableRead, tables_of_text}
+use Rattle.of_files.specs.FirstEvents.{with_controller}
 use Rattle.of_files.specs.NamedPorts.{missing_ports, named_ports, ports_with}
 use Rattle.of_files.specs.Playing.{played_file}
 
@@ -81,10 +82,10 @@ pub record ArePorts (given : Option (List ℕ)) (named : List ℕ) (list : PortL
   pub ports : list.ports.items ≡ chosen_ports given named
   pub missing : list.missing.items ≡ missing_ports named (chosen_ports given named)
 
--- ---- THE SWITCH: groups and flows on a new switch with these ports; an event file says its own
+-- ---- THE SWITCH: groups and flows on a new switch with these ports, to which a controller has connected; an event file says its own
 
 abbrev pub switch_said : List ℕ → FileContents → State
-switch_said ports (Tables tables) = switch_with ports tables.config
+switch_said ports (Tables tables) = with_controller (switch_with ports tables.config)
 switch_said ports (Run switch) = switch
 
 -- the ports that are named and that it does not have

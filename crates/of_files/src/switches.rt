@@ -1,7 +1,10 @@
 //! The switch that a file describes, and its ports.
 ghost use Rattle.std.specs.Prelude.{◌≡◌, ◌++◌, IfErr, IfOk, OnOk, is_some, map};
+ghost use Rattle.of_replay.specs.Loaded.{switch_with};
+ghost use Rattle.of_files.specs.FirstEvents.{with_controller};
 ghost use Rattle.of_files.specs.Switches.{AreContents, AreFlowsOf, ArePorts, ArePortsOfBoth, HasNoContents, DescribesSwitch, chosen_ports, content_said, missing_said, own_ports as ports_of_run, ports_given, ports_named, switch_said, view_contents};
 
+use crate::beginning::connect;
 use crate::contents::{Content, content_of};
 use crate::playing::play_file;
 use crate::ports::{missing_ports, named_ports, ports_for};
@@ -11,6 +14,7 @@ use of_import::{ImportError, Mode};
 use of_ports::Port;
 use of_replay::{Ended, switch_of_config};
 use of_switch::Switch;
+use of_text::Config;
 use std::alloc::{AllocError, Global};
 
 /// A table of ovs-ofctl is read without leaving anything out, and its tables have its numbers.
@@ -132,7 +136,20 @@ pub fn file_ports<L: Lookup>(
     Ok(list)
 }
 
-/// The switch of what was read: with these ports, unless an event file says its own.
+// The switch of groups and flows, which has these ports and a controller.
+fn switch_of_tables<L: Lookup>(
+    alloc: Global,
+    config: &Config,
+    ports: &[u32],
+) -> Result<Switch<L>, AllocError>
+    ensures { IfOk result (λ s. s ≡ with_controller (switch_with ports.now config.now)) }
+{
+    let mut switch = switch_of_config(alloc, config, ports)?;
+    connect(alloc, &mut switch)?;
+    Ok(switch)
+}
+
+/// The switch of what was read: with these ports and a controller, unless an event file says its own.
 pub fn switch_of<L: Lookup>(
     alloc: Global,
     contents: Contents<L>,
@@ -141,7 +158,7 @@ pub fn switch_of<L: Lookup>(
     ensures { IfOk result (λ s. s ≡ switch_said ports.now (view_contents contents)) }
 {
     match contents {
-        Contents::Tables(tables) => switch_of_config(alloc, &tables.config, ports),
+        Contents::Tables(tables) => switch_of_tables(alloc, &tables.config, ports),
         Contents::Events(switch) => Ok(switch),
     }
 }
@@ -234,7 +251,7 @@ pub fn file_switch<L: Lookup>(
 {
     match contents {
         Contents::Tables(tables) => Ok(FileSwitch {
-            switch: switch_of_config(alloc, &tables.config, ports)?,
+            switch: switch_of_tables(alloc, &tables.config, ports)?,
             tables,
         }),
         Contents::Events(switch) => Ok(FileSwitch {

@@ -8,7 +8,7 @@ use Rattle.of_check.specs.declared.remark.Remark.{Remark}
 use Rattle.of_check.specs.declared.remark.Remark.TheVariants.{Unreachable, NoTableMiss, EmptyGoto, IngressOutput, UnseenActions, UnusedGroup, NoBuckets}
 use Rattle.of_check.specs.declared.finding.Finding.{Finding}
 use Rattle.of_check.specs.declared.verdict.Verdict.{Verdict}
-use Rattle.of_check.specs.declared.verdict.Verdict.TheVariants.{Wins, Never, Open}
+use Rattle.of_check.specs.declared.verdict.Verdict.TheVariants.{Wins, Never, Unreceived, Open}
 use Rattle.of_check.specs.Verdicts.{is_never}
 use Rattle.of_values.specs.Numbers.{hexadecimal}
 use Rattle.of_values.specs.Origins.{EntryOrigin}
@@ -68,6 +68,7 @@ never_members origins tables table by tie =
 unfoldable pub verdict_members : List (List EntryOrigin) → List (List Flow) → ℕ → Verdict → List ℕ
 verdict_members origins tables table (Wins frame in_port metadata) = packet_members frame.items in_port metadata
 verdict_members origins tables table (Never by tie) = never_members origins tables table by.items tie
+verdict_members origins tables table Unreceived = text_member (codes "verdict") (codes "never wins at a port that a switch has")
 verdict_members origins tables table Open = text_member (codes "verdict") (codes "undecided")
 
 unfoldable pub finding_object : List (List EntryOrigin) → List (List Flow) → Finding → List ℕ

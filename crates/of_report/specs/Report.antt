@@ -7,7 +7,7 @@ use Rattle.of_check.specs.declared.remark.Remark.{Remark}
 use Rattle.of_check.specs.declared.remark.Remark.TheVariants.{Unreachable, NoTableMiss, EmptyGoto, IngressOutput, UnseenActions, UnusedGroup, NoBuckets}
 use Rattle.of_check.specs.declared.finding.Finding.{Finding}
 use Rattle.of_check.specs.declared.verdict.Verdict.{Verdict}
-use Rattle.of_check.specs.declared.verdict.Verdict.TheVariants.{Wins, Never, Open}
+use Rattle.of_check.specs.declared.verdict.Verdict.TheVariants.{Wins, Never, Unreceived, Open}
 use Rattle.of_check.specs.Verdicts.{is_never}
 use Rattle.of_values.specs.Numbers.{hexadecimal, port_in_words}
 use Rattle.of_values.specs.Origins.{EntryOrigin}
@@ -27,8 +27,13 @@ shadow_line origins tables table place = codes "    " ++ entry origins tables ta
 abbrev pub shadow_lines : List (List EntryOrigin) → List (List Flow) → ℕ → List ℕ → List ℕ
 shadow_lines origins tables table places = flat_map (shadow_line origins tables table) places
 
+-- nothing shadows an entry that wins only with ports that no switch has
+unfoldable pub unreceived_words : List ℕ
+unreceived_words = codes " never wins at a port that a switch has" ++ 10 ∷ []
+
 unfoldable pub never_words : List (List EntryOrigin) → List (List Flow) → ℕ → ℕ → Verdict → List ℕ
 never_words origins tables table place (Never by tie) = entry origins tables table place ++ tie_words tie ++ shadow_lines origins tables table by.items
+never_words origins tables table place Unreceived = entry origins tables table place ++ unreceived_words
 never_words origins tables table place (Wins frame in_port metadata) = []
 never_words origins tables table place Open = []
 
@@ -38,6 +43,7 @@ unfoldable pub open_words : List (List EntryOrigin) → List (List Flow) → ℕ
 open_words origins tables table place Open = entry origins tables table place ++ codes " is undecided" ++ 10 ∷ []
 open_words origins tables table place (Wins frame in_port metadata) = []
 open_words origins tables table place (Never by tie) = []
+open_words origins tables table place Unreceived = []
 
 -- ---- entries that win, each with a packet
 
@@ -62,6 +68,7 @@ packet_said words frame in_port metadata = words_or (words_asked words (packet_a
 unfoldable pub win_words : Bool → List (List EntryOrigin) → List (List Flow) → ℕ → ℕ → Verdict → List ℕ
 win_words words origins tables table place (Wins frame in_port metadata) = entry origins tables table place ++ codes " wins: " ++ packet_said words frame.items in_port metadata ++ 10 ∷ []
 win_words words origins tables table place (Never by tie) = []
+win_words words origins tables table place Unreceived = []
 win_words words origins tables table place Open = []
 
 -- the lines of each finding, one after the other
@@ -102,12 +109,14 @@ reported_remark_line all remarks origins tables r = if all || is_finding remarks
 abbrev pub is_win : Verdict → Bool
 is_win (Wins frame in_port metadata) = true
 is_win (Never by tie) = false
+is_win Unreceived = false
 is_win Open = false
 
 abbrev pub is_open : Verdict → Bool
 is_open Open = true
 is_open (Wins frame in_port metadata) = false
 is_open (Never by tie) = false
+is_open Unreceived = false
 
 abbrev pub count : (Verdict → Bool) → List Finding → ℕ
 count is findings = length (filter (λ f. is f.verdict) findings)

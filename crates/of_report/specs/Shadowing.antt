@@ -6,11 +6,11 @@ use Rattle.of_values.specs.Origins.{further_counter, view_words}
 use Rattle.of_replay.specs.declared.event_file.Ended.{Ended}
 use Rattle.of_check.specs.declared.finding.Finding.{Finding}
 use Rattle.of_check.specs.declared.verdict.Verdict.{Verdict}
-use Rattle.of_check.specs.declared.verdict.Verdict.TheVariants.{Wins, Never, Open}
+use Rattle.of_check.specs.declared.verdict.Verdict.TheVariants.{Wins, Never, Unreceived, Open}
 use Rattle.of_shadowing.specs.declared.listed_flow.ListedFlow.{ListedFlow}
 use Rattle.of_shadowing.specs.Shadows.{AreVerdicts}
 use Rattle.of_report.specs.Files.{IsFindingResult}
-use Rattle.of_report.specs.Report.{counted_words, is_found, packet_said, summary, tie_words}
+use Rattle.of_report.specs.Report.{counted_words, is_found, packet_said, summary, tie_words, unreceived_words}
 
 -- A FLOW: `table 10 line 25 (priority 50, eth_type 0x0800, reg0=0x1)`
 unfoldable pub flow_name : ListedFlow → List ℕ
@@ -25,6 +25,7 @@ indented_flow flows place = codes "    " ++ listed_flow_at (slice_get flows plac
 
 unfoldable pub flow_never_words : List ListedFlow → ℕ → Verdict → List ℕ
 flow_never_words flows place (Never by tie) = listed_flow_at (slice_get flows place) ++ tie_words tie ++ flat_map (indented_flow flows) by.items
+flow_never_words flows place Unreceived = listed_flow_at (slice_get flows place) ++ unreceived_words
 flow_never_words flows place (Wins frame in_port metadata) = []
 flow_never_words flows place Open = []
 
@@ -32,10 +33,12 @@ unfoldable pub flow_open_words : List ListedFlow → ℕ → Verdict → List �
 flow_open_words flows place Open = listed_flow_at (slice_get flows place) ++ codes " is undecided" ++ 10 ∷ []
 flow_open_words flows place (Wins frame in_port metadata) = []
 flow_open_words flows place (Never by tie) = []
+flow_open_words flows place Unreceived = []
 
 unfoldable pub flow_win_words : Bool → List ListedFlow → ℕ → Verdict → List ℕ
 flow_win_words words flows place (Wins frame in_port metadata) = listed_flow_at (slice_get flows place) ++ codes " wins if its words hold and no others: " ++ packet_said words frame.items in_port metadata ++ 10 ∷ []
 flow_win_words words flows place (Never by tie) = []
+flow_win_words words flows place Unreceived = []
 flow_win_words words flows place Open = []
 
 -- what is checked, and how many flows have conditions

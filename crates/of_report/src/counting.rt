@@ -12,7 +12,7 @@ fn is_win(verdict: &Verdict) -> bool
 {
     match verdict {
         Verdict::Wins { .. } => true,
-        Verdict::Never { .. } | Verdict::Open => false,
+        Verdict::Never { .. } | Verdict::Unreceived | Verdict::Open => false,
     }
 }
 
@@ -21,7 +21,7 @@ fn is_open(verdict: &Verdict) -> bool
 {
     match verdict {
         Verdict::Open => true,
-        Verdict::Wins { .. } | Verdict::Never { .. } => false,
+        Verdict::Wins { .. } | Verdict::Never { .. } | Verdict::Unreceived => false,
     }
 }
 

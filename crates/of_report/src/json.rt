@@ -108,6 +108,11 @@ fn push_verdict(
             metadata,
         } => push_packet(alloc, out, frame, *in_port, *metadata),
         Verdict::Never { by, tie } => push_never(out, config, origins, table, by, *tie),
+        Verdict::Unreceived => push_text_member(
+            out,
+            b"verdict",
+            b"never wins at a port that a switch has",
+        ),
         Verdict::Open => push_text_member(out, b"verdict", b"undecided"),
     }
 }

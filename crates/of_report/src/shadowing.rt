@@ -7,7 +7,7 @@ ghost use Rattle.of_report.specs.Shadowing.{IsShadowReport, conditions_line, lis
 use crate::counting::is_found;
 use crate::packets::push_packet;
 use crate::report::{push_count, push_summary};
-use crate::words::push_reason;
+use crate::words::{push_reason, push_unreceived};
 use of_check::{Finding, Verdict};
 use of_replay::{Ended, Sink, write_all};
 use of_shadowing::{ListedFlow, check_flows};
@@ -74,6 +74,10 @@ fn push_never(out: &mut Vec<u8>, flows: &[ListedFlow], finding: &Finding) -> Res
             push_reason(out, *tie)?;
             push_all_indented(out, flows, by)
         }
+        Verdict::Unreceived => {
+            push_flow_at(out, flows, finding.place)?;
+            push_unreceived(out)
+        }
         Verdict::Wins { .. } | Verdict::Open => Ok(()),
     }
 }
@@ -88,7 +92,7 @@ fn push_open(out: &mut Vec<u8>, flows: &[ListedFlow], finding: &Finding) -> Resu
             push_flow_at(out, flows, finding.place)?;
             out.extend_from_slice(b" is undecided\n")
         }
-        Verdict::Wins { .. } | Verdict::Never { .. } => Ok(()),
+        Verdict::Wins { .. } | Verdict::Never { .. } | Verdict::Unreceived => Ok(()),
     }
 }
 
@@ -115,7 +119,7 @@ fn push_win(
             out.push(b'\n')?;
             Ok(())
         }
-        Verdict::Never { .. } | Verdict::Open => Ok(()),
+        Verdict::Never { .. } | Verdict::Unreceived | Verdict::Open => Ok(()),
     }
 }
 

@@ -1,6 +1,6 @@
 //! Findings in words.
 ghost use Rattle.std.specs.Prelude.{◌≡◌, ◌++◌, ◌∷◌, OnOk};
-ghost use Rattle.of_report.specs.Report.{never_words, of_findings, open_words, tie_words, shadow_line, shadow_lines, win_words};
+ghost use Rattle.of_report.specs.Report.{never_words, of_findings, open_words, tie_words, shadow_line, shadow_lines, unreceived_words, win_words};
 ghost use Rattle.of_values.specs.Origins.{view_origins};
 
 use crate::entries::push_entry;
@@ -22,6 +22,16 @@ pub fn push_reason(out: &mut Vec<u8>, tie: bool) -> Result<(), AllocError>
     } else {
         out.extend_from_slice(b" never wins: shadowed by")?;
     }
+    out.push(b'\n')?;
+    Ok(())
+}
+
+/// Appends that an entry never wins at a port that a switch has.
+#[tactic(auto, unfolding(crate::specs::Report::unreceived_words))]
+pub fn push_unreceived(out: &mut Vec<u8>) -> Result<(), AllocError>
+    ensures { OnOk result (out.new.items ≡ out.old.items ++ unreceived_words) }
+{
+    out.extend_from_slice(b" never wins at a port that a switch has")?;
     out.push(b'\n')?;
     Ok(())
 }
@@ -75,6 +85,10 @@ fn push_never(
             push_reason(out, *tie)?;
             push_shadows(out, config, origins, finding.table, by)
         }
+        Verdict::Unreceived => {
+            push_entry(out, config, origins, finding.table, finding.place)?;
+            push_unreceived(out)
+        }
         Verdict::Wins { .. } | Verdict::Open => Ok(()),
     }
 }
@@ -95,7 +109,7 @@ fn push_open(
             push_entry(out, config, origins, finding.table, finding.place)?;
             out.extend_from_slice(b" is undecided\n")
         }
-        Verdict::Wins { .. } | Verdict::Never { .. } => Ok(()),
+        Verdict::Wins { .. } | Verdict::Never { .. } | Verdict::Unreceived => Ok(()),
     }
 }
 
@@ -124,7 +138,7 @@ fn push_win(
             out.push(b'\n')?;
             Ok(())
         }
-        Verdict::Never { .. } | Verdict::Open => Ok(()),
+        Verdict::Never { .. } | Verdict::Unreceived | Verdict::Open => Ok(()),
     }
 }
 

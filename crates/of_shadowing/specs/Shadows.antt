@@ -14,7 +14,7 @@ use Rattle.of_regions.specs.Witness.{IsIngressPort}
 use Rattle.of_check.specs.Verdicts.{IsPacket, Packet}
 use Rattle.of_check.specs.declared.finding.Finding.{Finding}
 use Rattle.of_check.specs.declared.verdict.Verdict.{Verdict}
-use Rattle.of_check.specs.declared.verdict.Verdict.TheVariants.{Wins, Never, Open}
+use Rattle.of_check.specs.declared.verdict.Verdict.TheVariants.{Wins, Never, Unreceived, Open}
 use Rattle.of_shadowing.specs.declared.listed_flow.ListedFlow.{ListedFlow}
 use Rattle.of_shadowing.specs.Worlds.{World, all_hold, own_world, says_word, takes_world}
 
@@ -101,21 +101,23 @@ pub record AreFlowRivals (flows : List ListedFlow) (k : ℕ) (own : ListedFlow) 
   pub conditions : (q : Rival) → Contains rivals q → AreConditions q.fields.now
   pub all : (j : ℕ) (b : FlowGoesBefore flows j k) → all_hold (says_word own) b.first ≡ true → ((q : Rival) × Contains rivals q × (q.name ≡ j)) ⊎ (overlaps_match b.first.fields own.fields ≡ false)
 
--- of the flow at k either no switch receives a packet with which it wins, since none has such a port; or the search took so many steps, and was not done
-pub record IsOpenFlow (flows : List ListedFlow) (k steps : ℕ) : Type 0 where
+-- among the packets of the flow at k a search beside its rivals found this
+pub record IsSearchedFlow (flows : List ListedFlow) (k : ℕ) (Outcome : List Region → List Rival → Type 0) : Type 0 where
   pub own : ListedFlow
   pub there : slice_get flows k ≡ Some own
   pub rivals : List Rival
   pub are : AreFlowRivals flows k own rivals
   pub start : List Region
   pub begins : IsStart own.fields start
-  pub undecided : ((r : Region) × LeavesUnreceived start rivals r) ⊎ IsUndecided start rivals steps
+  pub outcome : Outcome start rivals
 
--- a verdict on the flow at k after so many steps at most; `Open` says that no one flow covers it, and that there is no such flow, or why it is not decided
+-- a verdict on the flow at k after so many steps at most: `Unreceived`, that it wins with some packets, but no switch receives any of these, since none has such a port;
+-- `Open`, that there is no such flow, or that the search took so many steps and was not done; of both no one flow covers it
 abbrev pub FlowVerdictHolds : List ListedFlow → ℕ → ℕ → Verdict → Type 0
 FlowVerdictHolds flows k steps (Wins frame in_port metadata) = FlowWinsWith flows k (record { frame = frame.items; in_port = in_port; metadata = metadata })
 FlowVerdictHolds flows k steps (Never by tie) = FlowNeverWins flows k by.items × (tie ≡ is_tie_of_flows flows k by.items)
-FlowVerdictHolds flows k steps Open = ((j : ℕ) → ¬ (FlowCovers flows j k)) × ((slice_get flows k ≡ None) ⊎ IsOpenFlow flows k steps)
+FlowVerdictHolds flows k steps Unreceived = ((j : ℕ) → ¬ (FlowCovers flows j k)) × IsSearchedFlow flows k (λ start rivals. (r : Region) × LeavesUnreceived start rivals r)
+FlowVerdictHolds flows k steps Open = ((j : ℕ) → ¬ (FlowCovers flows j k)) × ((slice_get flows k ≡ None) ⊎ IsSearchedFlow flows k (λ start rivals. IsUndecided start rivals steps))
 
 -- a finding on the flow at k
 pub record IsFindingOn (flows : List ListedFlow) (steps k : ℕ) (f : Finding) : Type 0 where

@@ -60,7 +60,7 @@ fn searched(
             let tie = is_tied(flows, place, own, &by);
             Ok(Verdict::Never { by, tie })
         }
-        Found::Unreceived(_) => Ok(Verdict::Open),
+        Found::Unreceived(_) => Ok(Verdict::Unreceived),
         Found::Undecided => Ok(Verdict::Open),
     }
 }
@@ -68,8 +68,8 @@ fn searched(
 /// The verdict on the flow at a place, from 0, by the order of the lines (OpenFlow 1.3.5, 5.3).
 ///
 /// `Wins` has a packet with which the flow wins if its words hold and no others. `Never`: in no world does it win, whatever words hold; flows are
-/// named by their places. `Open`: no one flow covers it, and it was not decided in so many steps, or wins with no packet that comes in by a port that
-/// a switch may have; or there is no such flow.
+/// named by their places. `Unreceived`: it wins, but with no packet that comes in by a port that a switch may have. `Open`: no one flow covers it, and
+/// it was not decided in so many steps; or there is no such flow.
 pub fn check_flow(
     alloc: Global,
     flows: &[ListedFlow],

@@ -25,7 +25,13 @@ pub returns-in-Unreceived : goal.returns-in-Unreceived
 returns-in-Unreceived g c =
     let own = entry_of c.args.own.now in
     let f : Finds own.flow.fields c.args.rivals.now c.args.steps (found.Unreceived c.in-Unreceived.field-0) = subst (Finds own.flow.fields c.args.rivals.now c.args.steps) c.in-Unreceived.is c.in_ok-frame.ensures in
-    (c.requires.uncovered, inr (record { own = own; there = c.requires.there; rivals = c.args.rivals.now; are = c.requires.are; start = f.0; begins = f.1; undecided = inl (c.in-Unreceived.field-0, f.2) }))
+    (c.requires.uncovered, record { own = own; there = c.requires.there; rivals = c.args.rivals.now; are = c.requires.are; start = f.0; begins = f.1; outcome = (c.in-Unreceived.field-0, f.2) })
+
+pub returns-in-Undecided : goal.returns-in-Undecided
+returns-in-Undecided g c =
+    let own = entry_of c.args.own.now in
+    let f : Finds own.flow.fields c.args.rivals.now c.args.steps found.Undecided = subst (Finds own.flow.fields c.args.rivals.now c.args.steps) c.in-Undecided.is c.in_ok-frame.ensures in
+    (c.requires.uncovered, inr (record { own = own; there = c.requires.there; rivals = c.args.rivals.now; are = c.requires.are; start = f.0; begins = f.1; outcome = f.2 }))
 
 pub search-requires : goal.search-requires
 search-requires g c = c.requires.are.conditions
