@@ -582,7 +582,7 @@ pub(crate) const SUBCOMMANDS: [Subcommand; 12] = [
     },
     Subcommand {
         name: "dis",
-        about: "Prints the groups and flows that an event file makes, as flow text, or for ovs-ofctl",
+        about: "Prints groups and flows of a file as flow text, or for ovs-ofctl",
         text: DISASSEMBLY,
         arguments: &DISASSEMBLE,
         of_tables: &OVS_READING,

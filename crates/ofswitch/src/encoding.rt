@@ -52,11 +52,11 @@ fn say_no_message(rt: &HostRuntime, words: &str, why: &NoMessage) {
             let _ = eprintln!(rt; "bad message: type {} code {}", code.kind, code.code);
             say_refusal(rt, *code);
         }
-        NoMessage::Word(word) => {
+        NoMessage::Word(word) if !word.is_empty() => {
             let word = std::str::from_utf8(word).unwrap_or("?");
             let _ = eprintln!(rt; "bad message: {word}: not a word, or a value, of {kind}");
         }
-        NoMessage::Missing => {
+        NoMessage::Word(_) | NoMessage::Missing => {
             let _ = eprintln!(rt; "bad message: {kind}: a word is missing");
         }
     }
