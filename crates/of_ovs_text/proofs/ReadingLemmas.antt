@@ -1,6 +1,6 @@
 -- What import makes of lines is one text, and the lines have no other.
-use Rattle.std.proofs.Common.{◌≡◌, ◌∙◌, ◌+◌, ◌<◌, ◌≤◌, ℕ, zero, suc, Bool, true, false, List, [], ◌∷◌, ◌++◌, length, map, refl, sym, ap, arith, subst}
-use Rattle.std.specs.Prelude.{◌==◌, ◌&&◌, Some, None}
+use Rattle.std.proofs.Common.{◌≡◌, ◌∙◌, ◌+◌, ℕ, Bool, true, false, List, [], ◌∷◌, ◌++◌, length, map, refl, sym, ap, arith, subst}
+use Rattle.std.specs.Prelude.{◌==◌, ◌&&◌}
 use Rattle.std.specs.Str.{bytes_eq}
 use Rattle.std.proofs.lemmas.Bool.Decides.{Decides-eqb}
 use Rattle.std.proofs.lemmas.Slice.Eq.{bytes_eq-Decides}
@@ -8,12 +8,10 @@ use Rattle.of_text.specs.Configs.{Configuration, all_flows, config_text, tables_
 use Rattle.of_text.specs.Groups.{TextGroup}
 use Rattle.of_text.specs.Lines.{lines_of}
 use Rattle.of_text.specs.Texts.{groups_and_flows_text}
-use Rattle.of_import.specs.declared.import.ImportError.{ImportError}
-use Rattle.of_import.specs.declared.import.ImportError.TheVariants.{NoMemory, Faults, Refused, TooMany}
 use Rattle.of_import.specs.declared.kept.LineRefusal.{LineRefusal}
 use Rattle.of_import.specs.declared.parsed_lines.LineFaults.{LineFaults}
 use Rattle.of_import.specs.Counters.{with_counters}
-use Rattle.of_import.specs.Imports.{IsConfigOf, IsImportText, IsTextOf, NoImport, kept_in, notes_for, parsed}
+use Rattle.of_import.specs.Imports.{IsConfigOf, IsImportText, IsTextOf, kept_in, notes_for, parsed}
 use Rattle.of_import.specs.Kept.{Kept, flows_in, groups_in}
 use Rattle.of_import.specs.KeptViews.{view_refusal}
 use Rattle.of_import.specs.ParsedLines.{FlowAt}
@@ -27,10 +25,6 @@ one_text : (k : Kept) (notes a b : List ℕ) → IsTextOf k notes a → IsTextOf
 one_text k notes a b i j =
     let same : config_text i.config ≡ config_text j.config = text_of_config k.groups k.flows i.config i.is ∙ sym (text_of_config k.groups k.flows j.config j.is) in
     i.text_is ∙ (ap (λ (t : List ℕ). notes ++ with_counters k.flows t) same ∙ sym j.text_is)
-
-none_of_none : {A B : Type 0} (f : A → B) (xs : List A) → map f xs ≡ [] → length xs ≡ 0
-none_of_none f [] e = refl
-none_of_none f (x ∷ xs) e = cc
 
 empty : {A : Type 0} (xs : List A) → length xs ≡ 0 → xs ≡ []
 empty [] e = refl
@@ -72,13 +66,3 @@ answered text c found wanted faults refused changed true i w t =
 answered text c found wanted faults refused changed false i w t = λ j.
     let h : (found ≡ config_text c) × (changed ≡ 0) = other_text (lines_of text) found (config_text c) faults refused changed i j in
     not_both (bytes_eq found wanted) (changed == 0) t ((bytes_eq-Decides found wanted).1 (h.0 ∙ sym w)) ((Decides-eqb changed 0).1 h.1)
-
--- import gives none, unless memory ran out
-pub no_text : (lines : List (List ℕ)) (wanted : List ℕ) (e : ImportError) → (e ≡ NoMemory → ⊥) → NoImport lines whole_file e → IsImportText lines whole_file wanted [] [] 0 → ⊥
-no_text lines wanted NoMemory other n i = other refl
-no_text lines wanted (Faults faults refused) other n i =
-    let f : length faults.items ≡ 0 = none_of_none view_faults faults.items (n.1 ∙ sym i.faults_are) in
-    let r : length refused.items ≡ 0 = none_of_none view_refusal refused.items (n.2 ∙ sym i.refused_are) in
-    omega (arith, f, r, n.3)
-no_text lines wanted (Refused line code) other n i = let h : Some (n.0, code) ≡ None = sym n.1 ∙ i.text_is.is.stand in cc
-no_text lines wanted (TooMany count) other n i = omega (arith, n.0, n.1, i.few)

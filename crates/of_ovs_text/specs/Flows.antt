@@ -21,7 +21,7 @@ unfoldable pub flow_head_words : FlowHead → List ℕ
 flow_head_words h =
     cookie_part h.cookie ++ number_part (codes "table=") h.table
     ++ unless_default (codes "idle_timeout=") 0 h.idle ++ unless_default (codes "hard_timeout=") 0 h.hard
-    ++ flags_part h.flags ++ codes "priority=" ++ decimal h.priority
+    ++ flags_part h.flags ++ (codes "priority=" ++ decimal h.priority)
 
 -- A FLOW: `cookie=0x1,table=0,idle_timeout=5,priority=100,ip,nw_src=10.0.0.0/8,actions=output:2`
 unfoldable pub flow_line : Flow → List ℕ

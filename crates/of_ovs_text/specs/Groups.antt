@@ -20,4 +20,4 @@ bucket_in_words b =
 
 -- A GROUP: `group_id=1,type=ff,bucket=watch_port:2,actions=output:2`
 unfoldable pub group_line : TextGroup → List ℕ
-group_line g = (codes "group_id=" ++ decimal g.head.id) ++ codes ",type=" ++ kind_in_words g.head.kind ++ flat_map bucket_in_words g.buckets ++ 10 ∷ []
+group_line g = codes "group_id=" ++ decimal g.head.id ++ codes ",type=" ++ kind_in_words g.head.kind ++ flat_map bucket_in_words g.buckets ++ 10 ∷ []
