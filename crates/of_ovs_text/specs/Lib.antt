@@ -1,0 +1,6 @@
+pub mod Parts
+pub mod Fields
+pub mod Actions
+pub mod Flows
+pub mod Groups
+pub mod Lines
