@@ -1,5 +1,5 @@
 -- PACKET_OUT IN WORDS (OpenFlow 1.3.5, 7.3.7): the words of a flow whose match is the ingress port, and whose actions are those of the message, and the frame.
-use Rattle.std.specs.Prelude.{ℕ, ◌^◌, ◌==◌, nat_lt, List, [], ◌∷◌, ◌++◌, codes, length, Option, Some, None, Result, Ok, Err, if◌then◌else◌}
+use Rattle.std.specs.Prelude.{ℕ, ◌^◌, ◌==◌, nat_lt, true, List, [], ◌∷◌, ◌++◌, codes, length, Option, Some, None, Result, Ok, Err, if◌then◌else◌}
 use Rattle.std.specs.Str.{bytes_eq}
 use Rattle.hex.specs.Hex.{decode_of}
 use Rattle.of_wire.specs.declared.limits.TheConstants.{OFP_NO_BUFFER}
@@ -48,10 +48,14 @@ abbrev pub ingress_of : List MatchField → Option ℕ
 ingress_of (e ∷ []) = ingress_by e.field e.mask e.value
 ingress_of other = None
 
+abbrev pub actions_by : Instruction → Option (List Action)
+actions_by (Apply actions) = Some actions
+actions_by other = None
+
 -- the actions, if there is no other instruction
 abbrev pub actions_of : List Instruction → Option (List Action)
 actions_of [] = Some []
-actions_of (Apply actions ∷ []) = Some actions
+actions_of (instruction ∷ []) = actions_by instruction
 actions_of other = None
 
 -- without a buffer

@@ -83,22 +83,24 @@ fn names_table(words: &[u8]) -> bool
     false
 }
 
-fn copy_of(actions: &Vec<Action>) -> Result<Vec<Action>, AllocError>
+/// A copy of actions.
+pub fn copy_of(actions: &Vec<Action>) -> Result<Vec<Action>, AllocError>
     ensures { IfOk result (λ copy. copy.items ≡ actions.now.items) }
 {
     Ok(actions.clone()?)
 }
 
+#[tactic(auto, using(crate::proofs::InstructionLemmas::supported_nowhere))]
 fn list_of(actions: &Vec<Action>) -> Result<Option<ActionList>, AllocError>
     ensures some { IfOk result (λ list. IfSome list (λ xs. xs ≡ actions.now.items)) }
-    ensures none { IfOk result (λ list. IfNone list (are_supported true actions.now.items ≡ false)) }
+    ensures none { IfOk result (λ list. IfNone list (are_supported false actions.now.items ≡ false)) }
 {
     Ok(ActionList::new(copy_of(actions)?))
 }
 
 fn apply_of(actions: &Vec<Action>) -> Result<Option<Instruction>, AllocError>
     ensures some { IfOk result (λ i. IfSome i (λ x. x ≡ Apply actions.now.items)) }
-    ensures none { IfOk result (λ i. IfNone i (are_supported true actions.now.items ≡ false)) }
+    ensures none { IfOk result (λ i. IfNone i (are_supported false actions.now.items ≡ false)) }
 {
     match list_of(actions)? {
         Some(list) => Ok(Some(Instruction::Apply(list))),
@@ -108,7 +110,7 @@ fn apply_of(actions: &Vec<Action>) -> Result<Option<Instruction>, AllocError>
 
 fn write_of(actions: &Vec<Action>) -> Result<Option<Instruction>, AllocError>
     ensures some { IfOk result (λ i. IfSome i (λ x. x ≡ Write actions.now.items)) }
-    ensures none { IfOk result (λ i. IfNone i (are_supported true actions.now.items ≡ false)) }
+    ensures none { IfOk result (λ i. IfNone i (are_supported false actions.now.items ≡ false)) }
 {
     match list_of(actions)? {
         Some(list) => Ok(Some(Instruction::Write(list))),
@@ -179,10 +181,10 @@ fn match_of(alloc: Global, flow: &FlowText) -> Result<Match, NoMessage>
     ensures failed { IfErr result (FailsBy (refusal_alone (without_instructions (view flow.now)))) }
 {
     let bare = bare_of(alloc, flow)?;
-    if let Some(code) = refusal_beside(&[], &bare) {
-        return Err(NoMessage::Refused(code));
+    match refusal_beside(&[], &bare) {
+        Some(code) => Err(NoMessage::Refused(code)),
+        None => Ok(bare.to_match()?),
     }
-    Ok(bare.to_match()?)
 }
 
 // The FLOW_MOD of a flow with that match and these instructions.

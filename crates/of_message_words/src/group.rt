@@ -1,9 +1,9 @@
 //! GROUP_MOD in words.
-ghost use Rattle.std.specs.Prelude.{◌≡◌, ◌∷◌, [], IfOk};
+ghost use Rattle.std.specs.Prelude.{◌≡◌, false, IfOk};
 ghost use Rattle.std.specs.List.{AllByRecursion, list_all};
 ghost use Rattle.of_actions.specs.Supported.{are_supported as are_supported_so};
 ghost use Rattle.of_groups.specs.Buckets.{are_fit};
-ghost use Rattle.of_lines.specs.Rows.{Fits};
+ghost use Rattle.of_text.specs.Rows.{Fits};
 ghost use Rattle.of_text.specs.Groups.{buckets_of, group_rows};
 ghost use Rattle.of_text.specs.Views.{view_group};
 ghost use Rattle.of_import.specs.LineContentViews.{view_line_content};
@@ -96,6 +96,17 @@ fn all_supported(alloc: Global, buckets: &[BucketText]) -> Result<bool, AllocErr
     Ok(true)
 }
 
+// Whether GROUP_MODs can say the group: 16 buckets at most, each with actions that are supported.
+#[tactic(auto, using(crate::proofs::InstructionLemmas::fit_so))]
+fn is_fit(alloc: Global, group: &GroupText) -> Result<bool, AllocError>
+    ensures { IfOk result (λ yes. yes ≡ are_fit (buckets_of (view_group group.now))) }
+{
+    if 16 < group.buckets.len() {
+        return Ok(false);
+    }
+    all_supported(alloc, &group.buckets)
+}
+
 // The refusal of a group as the only one of a switch.
 fn refusal_of(alloc: Global, group: GroupText) -> Result<NoMessage, AllocError>
     requires { AllByRecursion Fits (group_rows (view_group group)) }
@@ -116,7 +127,7 @@ fn with_buckets(alloc: Global, xid: u32, command: u8, group: GroupText) -> Resul
     requires { AllByRecursion Fits (group_rows (view_group group)) }
     ensures { Tells result (group_mod_said xid command (view_group group)) }
 {
-    if 16 < group.buckets.len() || !all_supported(alloc, &group.buckets)? {
+    if !is_fit(alloc, &group)? {
         return Err(refusal_of(alloc, group)?);
     }
     let buckets = write_buckets(alloc, &group.to_buckets()?)?;

@@ -6,11 +6,11 @@ ghost use Rattle.of_text.specs.Views.{view, view_instruction};
 ghost use Rattle.of_import.specs.LineContentViews.{view_line_content};
 ghost use Rattle.of_import.specs.Sound.{IsSoundContent, IsSoundFlow};
 ghost use Rattle.of_message_words.specs.Flows.{line_said};
-ghost use Rattle.of_message_words.specs.PacketOuts.{actions_of as actions_in, ingress_by, ingress_of as ingress_in, packet_by, packet_content_said, packet_of_flow, packet_out as packet_out_bytes, packet_said, packet_words, with_packet_word};
+ghost use Rattle.of_message_words.specs.PacketOuts.{actions_by, actions_of as actions_in, ingress_by, ingress_of as ingress_in, packet_by, packet_content_said, packet_of_flow, packet_out as packet_out_bytes, packet_said, packet_words, with_packet_word};
 ghost use Rattle.of_message_words.specs.PacketViews.{view_packet_words};
 ghost use Rattle.of_message_words.specs.Reasons.{Fails, Tells, Word};
 
-use crate::flow::{MODE, refusal_of};
+use crate::flow::{MODE, copy_of, refusal_of};
 use crate::no_message::NoMessage;
 use crate::writing::message_of;
 use hex::FromHexError;
@@ -90,6 +90,15 @@ fn ingress_of(fields: &[MatchField]) -> Option<u32>
     }
 }
 
+fn applied_by(instruction: &InstructionText) -> Result<Option<Vec<Action>>, AllocError>
+    ensures { IfOk result (λ found. option_map (λ xs. xs.items) found ≡ actions_by (view_instruction instruction.now)) }
+{
+    match instruction {
+        InstructionText::Apply(actions) => Ok(Some(copy_of(actions)?)),
+        _ => Ok(None),
+    }
+}
+
 // The actions, if there is no other instruction.
 fn actions_of(
     alloc: Global,
@@ -99,7 +108,7 @@ fn actions_of(
 {
     match instructions {
         [] => Ok(Some(Vec::new(alloc))),
-        [InstructionText::Apply(actions)] => Ok(Some(actions.clone()?)),
+        [instruction] => applied_by(instruction),
         _ => Ok(None),
     }
 }
@@ -176,9 +185,9 @@ fn with_digits(alloc: Global, xid: u32, digits: Vec<u8>, others: &[u8]) -> Resul
 pub fn packet_message(alloc: Global, xid: u32, text: &[u8]) -> Result<Bytes, NoMessage>
     ensures { Tells result (packet_said xid text.now) }
 {
-    let words = words_of(alloc, text)?;
-    match words.frame {
-        Some(digits) => with_digits(alloc, xid, digits, &words.others),
+    let PacketWords { frame, others } = words_of(alloc, text)?;
+    match frame {
+        Some(digits) => with_digits(alloc, xid, digits, &others),
         None => Err(NoMessage::Missing),
     }
 }
