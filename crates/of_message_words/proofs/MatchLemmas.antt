@@ -24,7 +24,7 @@ use Rattle.of_text.proofs.ConfigLemmas.{IsWhole, Parts, rows_from, both_stand}
 use Rattle.of_text.proofs.EntryLemmas.{none_both, none_next, config_entries}
 use Rattle.of_text.proofs.FillLemmas.{table_at}
 use Rattle.of_import.specs.Sound.{IsSoundFlow}
-use Rattle.of_message_words.specs.Flows.{refusal_alone, without_instructions}
+use Rattle.of_message_words.specs.Flows.{lone_refusal, without_instructions}
 
 -- in order without its instructions
 bare_whole : (f : Flow) → IsSoundFlow f → IsWhole (without_instructions f)
@@ -38,7 +38,7 @@ bare_whole f s =
     }
 
 -- the only flow of a configuration without groups
-alone : (f : Flow) → IsWhole f → refusal_alone f ≡ None → IsConfig (record { groups = []; tables = tables_of_flows (f ∷ []) })
+alone : (f : Flow) → IsWhole f → lone_refusal f ≡ None → IsConfig (record { groups = []; tables = tables_of_flows (f ∷ []) })
 alone f w h = record {
   flows = f ∷ [];
   rows = rows_from [] (f ∷ []) (record { fits = tt; place = start_place; order = refl; whole = (w, tt) });
@@ -46,7 +46,7 @@ alone f w h = record {
   filled = refl;
 }
 
-small_table : (f : Flow) → refusal_alone f ≡ None → f.head.table < 16
+small_table : (f : Flow) → lone_refusal f ≡ None → f.head.table < 16
 unfolding flow_refusals
 small_table f h =
     let flags : Bool × Code = (not (eqb (bit_and f.head.flags 25) f.head.flags), refusal 5 7) in
@@ -60,7 +60,7 @@ alone_for f = rw (same f.head.table) refl
     same : (n : ℕ) → eqb n n ≡ true
     same n = grind (arith, nat_tests)
 
-bare_match : (f : Flow) → IsSoundFlow f → refusal_alone (without_instructions f) ≡ None → IsMatch f.fields
+bare_match : (f : Flow) → IsSoundFlow f → lone_refusal (without_instructions f) ≡ None → IsMatch f.fields
 bare_match f s h =
     let b = without_instructions f in
     let c : Configuration = record { groups = []; tables = tables_of_flows (b ∷ []) } in
@@ -70,5 +70,5 @@ bare_match f s h =
     one.0.fields
 
 -- a flow that is another one without its instructions
-pub match_of_bare : (b f : Flow) → b ≡ without_instructions f → IsSoundFlow f → refusal_alone b ≡ None → IsMatch b.fields
-match_of_bare b f e s h = subst IsMatch (sym (ap (λ (x : Flow). x.fields) e)) (bare_match f s (ap refusal_alone (sym e) ∙ h))
+pub match_of_bare : (b f : Flow) → b ≡ without_instructions f → IsSoundFlow f → lone_refusal b ≡ None → IsMatch b.fields
+match_of_bare b f e s h = subst IsMatch (sym (ap (λ (x : Flow). x.fields) e)) (bare_match f s (ap lone_refusal (sym e) ∙ h))

@@ -6,8 +6,8 @@ ghost use Rattle.of_actions.specs.declared.instruction.Instruction.TheVariants.{
 ghost use Rattle.of_text.specs.Views.{view, view_instruction};
 ghost use Rattle.of_import.specs.LineContentViews.{view_line_content};
 ghost use Rattle.of_import.specs.Sound.{IsSoundContent, IsSoundFlow};
-ghost use Rattle.of_message_words.specs.Flows.{flow_command, flow_command_named, flow_content_said, flow_line, flow_mod_of, flow_mod_said, flow_said, names_table as has_table, refusal_alone, table_said, without_instructions};
-ghost use Rattle.of_message_words.specs.Reasons.{FailsBy, Tells, refused_by};
+ghost use Rattle.of_message_words.specs.Flows.{flow_command, flow_command_named, flow_content_said, flow_line, commanded_flow_mod, flow_mod_said, flow_words_said, has_table_word, lone_refusal, table_said, without_instructions};
+ghost use Rattle.of_message_words.specs.Reasons.{FailsBy, SaysOrFails, error_of_refusal};
 
 use crate::cutting::cut_first;
 use crate::no_message::NoMessage;
@@ -70,7 +70,7 @@ fn line_of(alloc: Global, command: FlowModCommand, words: &[u8]) -> Result<Vec<u
 
 // Whether a word says a table.
 fn names_table(words: &[u8]) -> bool
-    ensures { result ≡ has_table words.now }
+    ensures { result ≡ has_table_word words.now }
 {
     let mut rest = words;
     while !rest.is_empty() {
@@ -155,7 +155,7 @@ pub fn instructions_of(
 
 /// The refusal of a flow as the only one of a switch without groups.
 pub fn refusal_of(flow: &FlowText) -> NoMessage
-    ensures { result ≡ refused_by (refusal_alone (view flow.now)) }
+    ensures { result ≡ error_of_refusal (lone_refusal (view flow.now)) }
 {
     match refusal_beside(&[], flow) {
         Some(code) => NoMessage::Refused(code),
@@ -177,8 +177,8 @@ fn bare_of(alloc: Global, flow: &FlowText) -> Result<FlowText, AllocError>
 fn match_of(alloc: Global, flow: &FlowText) -> Result<Match, NoMessage>
     requires { IsSoundFlow (view flow.now) }
     ensures found { IfOk result (λ m. m ≡ (view flow.now).fields) }
-    ensures accepted { OnOk result (refusal_alone (without_instructions (view flow.now)) ≡ None) }
-    ensures failed { IfErr result (FailsBy (refusal_alone (without_instructions (view flow.now)))) }
+    ensures accepted { OnOk result (lone_refusal (without_instructions (view flow.now)) ≡ None) }
+    ensures failed { IfErr result (FailsBy (lone_refusal (without_instructions (view flow.now)))) }
 {
     let bare = bare_of(alloc, flow)?;
     match refusal_beside(&[], &bare) {
@@ -195,7 +195,7 @@ fn flow_mod_with(
     fields: Match,
     instructions: InstructionList,
 ) -> FlowMod
-    ensures { result ≡ flow_mod_of command table (record { head = head; fields = fields; instructions = instructions }) }
+    ensures { result ≡ commanded_flow_mod command table (record { head = head; fields = fields; instructions = instructions }) }
 {
     FlowMod {
         cookie: head.cookie,
@@ -224,7 +224,7 @@ fn flow_mod(
     flow: &FlowText,
 ) -> Result<Bytes, NoMessage>
     requires { IsSoundFlow (view flow.now) }
-    ensures { Tells result (flow_mod_said xid command table (view flow.now)) }
+    ensures { SaysOrFails result (flow_mod_said xid command table (view flow.now)) }
 {
     let fields = match_of(alloc, flow)?;
     match instructions_of(alloc, &flow.instructions)? {
@@ -256,7 +256,7 @@ fn flow_content(
     content: LineContent,
 ) -> Result<Bytes, NoMessage>
     requires { IsSoundContent content }
-    ensures { Tells result (flow_content_said xid command words.now (view_line_content content)) }
+    ensures { SaysOrFails result (flow_content_said xid command words.now (view_line_content content)) }
 {
     match content {
         LineContent::Flow(flow, _) => flow_mod(
@@ -272,9 +272,9 @@ fn flow_content(
 }
 
 /// FLOW_MOD (OpenFlow 1.3.5, 7.3.4.1).
-#[tactic(auto, unfolding(crate::specs::Flows::flow_said))]
+#[tactic(auto, unfolding(crate::specs::Flows::flow_words_said))]
 pub fn flow_message(alloc: Global, xid: u32, text: &[u8]) -> Result<Bytes, NoMessage>
-    ensures { Tells result (flow_said xid text.now) }
+    ensures { SaysOrFails result (flow_words_said xid text.now) }
 {
     let (command, words) = command_of(text);
     let line = line_of(alloc, command, words)?;
