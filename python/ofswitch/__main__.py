@@ -22,7 +22,7 @@ from .effects import Effect
 from .interfaces import Interface, InterfaceError
 from .live import LiveSwitch
 from .pcap import CaptureError
-from .program import ProgramError
+from .program import ProgramError, table_options
 from .recording import PortFile
 from .switch import Switch
 
@@ -154,6 +154,7 @@ def add_live(commands: argparse._SubParsersAction[Parser]) -> None:
     way.add_argument("--connect", metavar="ADDR", help="the controller to connect to")
     live.add_argument("--events", metavar="FILE", help="an event file that is played at the start, after the ports are added")
     live.add_argument("--tables", metavar="FILE", help="begin with the groups and flows of a flow text, of what ovs-ofctl prints, or of an event file")
+    add_table_options(live, "--tables")
     live.add_argument("--log", metavar="FILE", help="log all events to this event file")
     live.add_argument("--idle", metavar="S", help="close a connection of which nothing was heard for S seconds (by default never)")
     live.add_argument("--turns", metavar="N", help="end after N turns (by default never)")
@@ -169,14 +170,19 @@ def add_draw(commands: argparse._SubParsersAction[Parser]) -> None:
     text.add_argument("--flows", metavar="FILE", help="a flow text")
     text.add_argument("--events", metavar="FILE", help="an event file: draw the tables that a switch has after it")
     text.add_argument("--ovs", metavar="FILE", help="what ovs-ofctl prints or reads (docs/IMPORT.md)")
-    draw.add_argument("--skip", action="store_true", help="with --ovs, leave out what this switch refuses")
-    draw.add_argument("--renumber", action="store_true", help="with --ovs, give the tables the numbers 0 to 15, in their order")
-    draw.add_argument("--port-names", metavar="FILE", help="with --ovs, what `ovs-ofctl dump-ports-desc` prints, for the names of ports")
+    add_table_options(draw, "--ovs")
     draw.add_argument("--port", metavar="N", type=int, help="the port at which the frame comes in; with --path, only frames of this port are divided")
     draw.add_argument("--path", metavar="K", type=int, help="draw path K, from 1, of those that `ofswitch paths` finds")
     draw.add_argument("--svg", metavar="FILE", help="write a picture to this file, with `dot` of Graphviz, instead of printing the graph")
     draw.add_argument("--program", metavar="PATH", help="the program ofswitch (by default OFSWITCH, or the one on the PATH)")
     draw.add_argument("frame", metavar="HEX", nargs="?", help="a frame whose path is drawn, two hexadecimal digits per byte")
+
+
+def add_table_options(command: Parser, option: str) -> None:
+    """The options for what `ovs-ofctl` prints, which is the file of an option (docs/IMPORT.md)."""
+    command.add_argument("--skip", action="store_true", help=f"with {option}, leave out lines of what ovs-ofctl prints that this switch refuses")
+    command.add_argument("--renumber", action="store_true", help=f"with {option}, give tables of what ovs-ofctl prints the numbers 0 to 15, in their order")
+    command.add_argument("--port-names", metavar="FILE", help=f"with {option}, what `ovs-ofctl dump-ports-desc` prints, for the names of ports")
 
 
 def add_view(commands: argparse._SubParsersAction[Parser]) -> None:
@@ -338,7 +344,7 @@ def run_live(asked: argparse.Namespace) -> int:
     if len(ports) < len(asked.ports):
         parser().error("a port has one interface")
     words = [word for name in ("listen", "connect", "idle", "tables", "log", "turns", "dpid") if (value := getattr(asked, name)) is not None for word in (f"--{name}", value)]
-    words += ["--quiet"] if asked.quiet else []
+    words += [*table_options(asked.skip, asked.renumber, asked.port_names), *(["--quiet"] if asked.quiet else [])]
     for number in (signal.SIGTERM, signal.SIGHUP):
         signal.signal(number, terminate)
     try:

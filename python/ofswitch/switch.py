@@ -3,6 +3,7 @@
 from __future__ import annotations
 
 import contextlib
+import functools
 import os
 import re
 import tempfile
@@ -50,6 +51,9 @@ _PORT_DESC = bytes.fromhex("0400000800000000" "0412001000000001" "000d0000000000
 _BAD_ARGUMENT = 1
 _BAD_FILE = 2
 _LEFT_OUT = 4
+
+# How many messages in words are kept, so that words that are used again start no program.
+_MESSAGES_KEPT = 1024
 
 # Hexadecimal digits, which are a frame as well as words are.
 _DIGITS = re.compile(r"[0-9a-fA-F]+")
@@ -133,9 +137,9 @@ class Switch:
         """The connection with the controller is lost."""
         return self._play(rows.lost())
 
-    def feed(self, data: Octets) -> list[Effect]:
-        """The next bytes of the controller, which may be cut anywhere: bytes, or a message of os-ken or pyof."""
-        return self._play(rows.feed(data))
+    def feed(self, data: Octets | str) -> list[Effect]:
+        """The next bytes of the controller, which may be cut anywhere: bytes, a message of os-ken or pyof, or words, as `message_of` reads them."""
+        return self._play(rows.feed(self.message_of(data) if isinstance(data, str) else data))
 
     def frame(self, port: int, frame: Octets | str) -> list[Effect]:
         """A frame comes in on a port: bytes, a packet of scapy or os-ken, or words, as `frame_of` reads them."""
@@ -256,6 +260,10 @@ class Switch:
                 return bytes.fromhex(answer)
         # a run of its own says what is wrong with the words
         return _frame_in_words(self._program, words, self._timeout)
+
+    def message_of(self, words: str) -> bytes:
+        """The message of a controller that words say: "flow priority=10,ip,actions=output:2" (docs/EVENTS.md). ValueError if there is none."""
+        return _message_in_words(self._program, words, self._timeout)
 
     def steps(self, port: int, frame: Octets | str, *, explain: bool = False) -> str:
         """Each step that this frame would take now, one per line, and then what leaves (docs/TRACE.md); with notes if `explain`."""
@@ -523,6 +531,17 @@ def _frame_in_words(program: str, words: str, timeout: float) -> bytes:
         return received(program, words, 1, timeout)[1]
     except ProgramError as fault:
         if fault.status != _BAD_ARGUMENT:
+            raise
+        raise ValueError(fault.said) from None
+
+
+@functools.lru_cache(maxsize=_MESSAGES_KEPT)
+def _message_in_words(program: str, words: str, timeout: float) -> bytes:
+    """The bytes of the message that these words say. ValueError if there is none."""
+    try:
+        return bytes.fromhex(run_to_end([program, "say", "--hex", words], b"", timeout))
+    except ProgramError as fault:
+        if fault.status not in (_BAD_ARGUMENT, _BAD_FILE):
             raise
         raise ValueError(fault.said) from None
 

@@ -522,3 +522,26 @@ def test_frames_in_words(switch, monkeypatch):
         switch.frame(1, "nw_src=10.0.0.1")
     with pytest.raises(ValueError, match="in_port"):
         switch.frame_of("in_port=1,tcp")
+
+
+def without_xid(message):
+    return message[:4] + message[8:]
+
+
+def test_messages_in_words(switch, monkeypatch):
+    started(switch)
+    words = "flow priority=10,in_port=1,actions=output:2"
+    assert without_xid(switch.message_of(words)) == without_xid(messages.flow(messages.output(2, 0), in_port=1))
+    assert switch.feed(words) == []
+    assert switch.frame(1, FRAME) == [Sent(2, FRAME)]
+    sending = f"packet-out in_port=controller,packet={FRAME.hex()},actions=output:1"
+    assert without_xid(switch.message_of(sending)) == without_xid(messages.packet_out(FRAME, messages.output(1, 0)))
+    assert switch.feed(sending) == [Sent(1, FRAME)]
+    # words that were used before start no program
+    monkeypatch.setattr("ofswitch.program.subprocess.run", None)
+    assert switch.feed(words) == []
+    monkeypatch.undo()
+    assert switch.feed("flow delete in_port=1") == []
+    assert switch.frame(1, FRAME) == []
+    with pytest.raises(ValueError, match="nw_src: needs ip"):
+        switch.feed("flow nw_src=10.0.0.1,actions=output:2")

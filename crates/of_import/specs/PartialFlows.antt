@@ -130,8 +130,9 @@ with_applied s word =
     else if s.mode.skip && may_be_left word then Ok (record s { left = s.left ++ word ∷ [] })
     else with_action_in_word s.settings [] s.dropped s.apply word >>= λ r. Ok (record s { dropped = r.0; apply = r.1 })
 
+-- without actions it is no instruction, as ovs-ofctl sends it
 abbrev pub with_write : PartialFlow → List ℕ → Result PartialFlow Why
-with_write s value = may_follow s 2 >>= λ _. actions_in_words s.settings s.apply [] (words_from 0 value) >>= λ actions. Ok (record s { stage = 2; writes = true; write = actions })
+with_write s value = may_follow s 2 >>= λ _. actions_in_words s.settings s.apply [] (words_from 0 value) >>= λ actions. Ok (record s { stage = 2; writes = not (length actions == 0); write = actions })
 
 unfoldable pub with_instruction : PartialFlow → Verb → List ℕ → Result PartialFlow Why
 with_instruction s verbs.Clear word = may_follow s 1 >>= λ _. without_value (word_value word) >>= λ _. Ok (record s { stage = 1; clears = true })

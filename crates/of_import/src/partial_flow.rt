@@ -265,8 +265,9 @@ impl PartialFlow {
         self.may_follow(2)?;
         let mut write = Vec::new(alloc);
         push_actions(&self.settings, &self.apply, &mut write, value)?;
+        // ovs-ofctl sends no WRITE_ACTIONS without actions
+        self.writes = !write.is_empty();
         self.write = write;
-        self.writes = true;
         self.stage = 2;
         Ok(())
     }

@@ -19,12 +19,12 @@ use Rattle.of_ovs_words.specs.Words.{word_name, words_from}
 use Rattle.of_import.specs.declared.mode.Mode.{Mode}
 use Rattle.of_import.specs.LineContents as contents
 use Rattle.of_import.specs.LineContents.{LineContent, parsed_line}
-use Rattle.of_message_words.specs.Cutting.{commanded_by, first_word}
-use Rattle.of_message_words.specs.Reasons.{Said, Faults, Refused, Missing, refused}
+use Rattle.of_message_words.specs.Cutting.{behind_command, leading_word}
+use Rattle.of_message_words.specs.Reasons.{BytesOrReason, Faults, Refused, Missing, reason_of_refusal}
 
 -- what a line says, none of whose words may be left out
-abbrev pub line_said : List ℕ → LineContent
-line_said line = parsed_line (record { skip = false; renumber = false }) [] line
+abbrev pub content_of_line : List ℕ → LineContent
+content_of_line line = parsed_line (record { skip = false; renumber = false }) [] line
 
 -- OFPFC_*
 unfoldable pub flow_command_named : List ℕ → Option FlowModCommand
@@ -37,47 +37,47 @@ flow_command_named word =
     else None
 
 abbrev pub flow_command : List ℕ → FlowModCommand × List ℕ
-flow_command text = commanded_by Add text (flow_command_named (first_word text))
+flow_command text = behind_command Add text (flow_command_named (leading_word text))
 
 -- a DELETE has no actions
 abbrev pub flow_line : FlowModCommand → List ℕ → List ℕ
 flow_line command words = if is_delete command then words ++ codes ",actions=drop" else words
 
-abbrev pub names_table : List ℕ → Bool
-names_table words = list_any (λ word. bytes_eq (word_name word) (codes "table")) (words_from 0 words)
+abbrev pub has_table_word : List ℕ → Bool
+has_table_word words = list_any (λ word. bytes_eq (word_name word) (codes "table")) (words_from 0 words)
 
 -- a DELETE without a table is about all tables
 abbrev pub table_said : FlowModCommand → List ℕ → Flow → ℕ
-table_said command words f = if is_delete command && not (names_table words) then OFPTT_ALL else f.head.table
+table_said command words f = if is_delete command && not (has_table_word words) then OFPTT_ALL else f.head.table
 
 -- THE FLOW_MOD: that which adds the flow, with another command and table
-abbrev pub flow_mod_of : FlowModCommand → ℕ → Flow → FlowMod
-flow_mod_of command table f = record (add_of f) { command = command; table = table }
+abbrev pub commanded_flow_mod : FlowModCommand → ℕ → Flow → FlowMod
+commanded_flow_mod command table f = record (add_of f) { command = command; table = table }
 
 -- the refusal of a flow as the only one of a switch without groups
-abbrev pub refusal_alone : Flow → Option Code
-refusal_alone f = first_of (refusals_behind [] [] f)
+abbrev pub lone_refusal : Flow → Option Code
+lone_refusal f = first_of (refusals_behind [] [] f)
 
 abbrev pub without_instructions : Flow → Flow
 without_instructions f = record f { instructions = [] }
 
 -- what FLOW_MODs cannot say is refused: a table, a flag or a match; then instructions
-abbrev pub flow_mod_unless : Option Code → ℕ → FlowModCommand → ℕ → Flow → Said
+abbrev pub flow_mod_unless : Option Code → ℕ → FlowModCommand → ℕ → Flow → BytesOrReason
 flow_mod_unless (Some code) xid command table f = Err (Refused code)
 flow_mod_unless None xid command table f =
-    if are_kept f.instructions then Ok (flow_mod_bytes xid (flow_mod_of command table f)) else Err (refused (refusal_alone f))
+    if are_kept f.instructions then Ok (flow_mod_bytes xid (commanded_flow_mod command table f)) else Err (reason_of_refusal (lone_refusal f))
 
-unfoldable pub flow_mod_said : ℕ → FlowModCommand → ℕ → Flow → Said
-flow_mod_said xid command table f = flow_mod_unless (refusal_alone (without_instructions f)) xid command table f
+unfoldable pub flow_mod_said : ℕ → FlowModCommand → ℕ → Flow → BytesOrReason
+flow_mod_said xid command table f = flow_mod_unless (lone_refusal (without_instructions f)) xid command table f
 
-abbrev pub flow_content_said : ℕ → FlowModCommand → List ℕ → LineContent → Said
+abbrev pub flow_content_said : ℕ → FlowModCommand → List ℕ → LineContent → BytesOrReason
 flow_content_said xid command words (contents.Flow f marks) = flow_mod_said xid command (table_said command words f) f
 flow_content_said xid command words (contents.Refused faults) = Err (Faults faults)
 flow_content_said xid command words other = Err Missing
 
-abbrev pub commanded_flow : ℕ → FlowModCommand × List ℕ → Said
-commanded_flow xid c = flow_content_said xid c.0 c.1 (line_said (flow_line c.0 c.1))
+abbrev pub commanded_flow : ℕ → FlowModCommand × List ℕ → BytesOrReason
+commanded_flow xid c = flow_content_said xid c.0 c.1 (content_of_line (flow_line c.0 c.1))
 
 -- [COMMAND] WORDS
-unfoldable pub flow_said : ℕ → List ℕ → Said
-flow_said xid text = commanded_flow xid (flow_command text)
+unfoldable pub flow_words_said : ℕ → List ℕ → BytesOrReason
+flow_words_said xid text = commanded_flow xid (flow_command text)

@@ -19,9 +19,9 @@ use Rattle.of_import.specs.LineContents as contents
 use Rattle.of_import.specs.LineContents.{LineContent}
 use Rattle.of_message_words.specs.declared.group.Command.{Command}
 use Rattle.of_message_words.specs.declared.group.Command.TheVariants.{Add, Modify, Delete}
-use Rattle.of_message_words.specs.Cutting.{commanded_by, first_word}
-use Rattle.of_message_words.specs.Flows.{line_said}
-use Rattle.of_message_words.specs.Reasons.{Said, Faults, Missing, Word, refused}
+use Rattle.of_message_words.specs.Cutting.{behind_command, leading_word}
+use Rattle.of_message_words.specs.Flows.{content_of_line}
+use Rattle.of_message_words.specs.Reasons.{BytesOrReason, Faults, Missing, Word, reason_of_refusal}
 
 -- OFPGC_*
 unfoldable pub group_command_named : List ℕ → Option Command
@@ -32,44 +32,44 @@ group_command_named word =
     else None
 
 abbrev pub group_command : List ℕ → Command × List ℕ
-group_command text = commanded_by Add text (group_command_named (first_word text))
+group_command text = behind_command Add text (group_command_named (leading_word text))
 
 -- its command, the type of the group and its number, and the bytes of its buckets
-abbrev pub group_mod : ℕ → ℕ → ℕ → ℕ → List ℕ → List ℕ
-group_mod xid command type id buckets = message GROUP_MOD xid (written tables.group_mod (command ∷ type ∷ id ∷ []) ++ buckets)
+abbrev pub group_mod_bytes : ℕ → ℕ → ℕ → ℕ → List ℕ → List ℕ
+group_mod_bytes xid command type id buckets = message GROUP_MOD xid (written tables.group_mod (command ∷ type ∷ id ∷ []) ++ buckets)
 
 -- the refusal of a group as the only one of a switch
 abbrev pub group_refusal : TextGroup → Option Code
 group_refusal g = option_map (λ r. r.1) (first_refusal (g ∷ []) [])
 
 -- what GROUP_MODs cannot say is refused: more than 16 buckets, more than 64 actions, or actions that are not supported
-unfoldable pub group_mod_said : ℕ → ℕ → TextGroup → Said
+unfoldable pub group_mod_said : ℕ → ℕ → TextGroup → BytesOrReason
 group_mod_said xid command g =
-    if are_fit (buckets_of g) then Ok (group_mod xid command (kind_number g.head.kind) g.head.id (canonical_buckets (buckets_of g)))
-    else Err (refused (group_refusal g))
+    if are_fit (buckets_of g) then Ok (group_mod_bytes xid command (kind_number g.head.kind) g.head.id (canonical_buckets (buckets_of g)))
+    else Err (reason_of_refusal (group_refusal g))
 
-abbrev pub group_content_said : ℕ → ℕ → LineContent → Said
+abbrev pub group_content_said : ℕ → ℕ → LineContent → BytesOrReason
 group_content_said xid command (contents.Group g) = group_mod_said xid command g
 group_content_said xid command (contents.Refused faults) = Err (Faults faults)
 group_content_said xid command other = Err Missing
 
 -- the number of a group: group_id=N, or all
-unfoldable pub group_in : List ℕ → Option ℕ
-group_in word =
+unfoldable pub group_number_in : List ℕ → Option ℕ
+group_number_in word =
     if bytes_eq word (codes "all") then Some OFPG_ALL
     else if bytes_eq (word_name word) (codes "group_id") then number_in (2 ^ 32) (word_value word)
     else None
 
 -- its type is not read (6.5)
-abbrev pub delete_said : ℕ → Option ℕ → List ℕ → Said
-delete_said xid (Some id) word = Ok (group_mod xid 2 0 id [])
+abbrev pub delete_said : ℕ → Option ℕ → List ℕ → BytesOrReason
+delete_said xid (Some id) word = Ok (group_mod_bytes xid 2 0 id [])
 delete_said xid None word = Err (Word word)
 
-abbrev pub commanded_group : ℕ → Command → List ℕ → Said
-commanded_group xid Add words = group_content_said xid 0 (line_said words)
-commanded_group xid Modify words = group_content_said xid 1 (line_said words)
-commanded_group xid Delete words = delete_said xid (group_in words) words
+abbrev pub commanded_group : ℕ → Command → List ℕ → BytesOrReason
+commanded_group xid Add words = group_content_said xid 0 (content_of_line words)
+commanded_group xid Modify words = group_content_said xid 1 (content_of_line words)
+commanded_group xid Delete words = delete_said xid (group_number_in words) words
 
 -- [COMMAND] WORDS
-unfoldable pub group_said : ℕ → List ℕ → Said
-group_said xid text = commanded_group xid (group_command text).0 (group_command text).1
+unfoldable pub group_words_said : ℕ → List ℕ → BytesOrReason
+group_words_said xid text = commanded_group xid (group_command text).0 (group_command text).1

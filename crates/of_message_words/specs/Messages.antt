@@ -4,40 +4,40 @@ use Rattle.std.specs.Str.{bytes_eq}
 use Rattle.of_wire.specs.declared.code.Code.{Code}
 use Rattle.of_messages.specs.declared.message.Message.{Message}
 use Rattle.of_messages.specs.Messages.{message_of}
-use Rattle.of_message_words.specs.Cutting.{after_first, first_word}
-use Rattle.of_message_words.specs.Short.{bare_said, bare_type, config_said, role_said}
-use Rattle.of_message_words.specs.Flows.{flow_said}
-use Rattle.of_message_words.specs.Groups.{group_said}
-use Rattle.of_message_words.specs.PacketOuts.{packet_said}
-use Rattle.of_message_words.specs.Reasons.{Said, Kind, Refused}
+use Rattle.of_message_words.specs.Cutting.{after_leading, leading_word}
+use Rattle.of_message_words.specs.Short.{bare_words_said, bare_type, config_words_said, role_words_said}
+use Rattle.of_message_words.specs.Flows.{flow_words_said}
+use Rattle.of_message_words.specs.Groups.{group_words_said}
+use Rattle.of_message_words.specs.PacketOuts.{packet_words_said}
+use Rattle.of_message_words.specs.Reasons.{BytesOrReason, Kind, Refused}
 
 -- a kind with content
-abbrev pub said_of_kind : ℕ → List ℕ → List ℕ → Said
+abbrev pub said_of_kind : ℕ → List ℕ → List ℕ → BytesOrReason
 said_of_kind xid kind rest =
-    if bytes_eq kind (codes "flow") then flow_said xid rest
-    else if bytes_eq kind (codes "group") then group_said xid rest
-    else if bytes_eq kind (codes "packet-out") then packet_said xid rest
-    else if bytes_eq kind (codes "role") then role_said xid rest
-    else if bytes_eq kind (codes "set-config") then config_said xid rest
+    if bytes_eq kind (codes "flow") then flow_words_said xid rest
+    else if bytes_eq kind (codes "group") then group_words_said xid rest
+    else if bytes_eq kind (codes "packet-out") then packet_words_said xid rest
+    else if bytes_eq kind (codes "role") then role_words_said xid rest
+    else if bytes_eq kind (codes "set-config") then config_words_said xid rest
     else Err Kind
 
-abbrev pub said_of_type : ℕ → List ℕ → List ℕ → Option ℕ → Said
-said_of_type xid kind rest (Some type) = bare_said xid type rest
+abbrev pub said_of_type : ℕ → List ℕ → List ℕ → Option ℕ → BytesOrReason
+said_of_type xid kind rest (Some type) = bare_words_said xid type rest
 said_of_type xid kind rest None = said_of_kind xid kind rest
 
 -- the bytes, whether or not the switch refuses them
-unfoldable pub bytes_said : ℕ → List ℕ → List ℕ → Said
+unfoldable pub bytes_said : ℕ → List ℕ → List ℕ → BytesOrReason
 bytes_said xid kind rest = said_of_type xid kind rest (bare_type kind)
 
 -- as the switch reads them
-abbrev pub unless_refused : List ℕ → Result Message Code → Said
-unless_refused bytes (Ok message) = Ok bytes
-unless_refused bytes (Err code) = Err (Refused code)
+abbrev pub bytes_unless_refused : List ℕ → Result Message Code → BytesOrReason
+bytes_unless_refused bytes (Ok message) = Ok bytes
+bytes_unless_refused bytes (Err code) = Err (Refused code)
 
-abbrev pub read_said : Said → Said
-read_said (Ok bytes) = unless_refused bytes (message_of bytes)
+abbrev pub read_said : BytesOrReason → BytesOrReason
+read_said (Ok bytes) = bytes_unless_refused bytes (message_of bytes)
 read_said (Err reason) = Err reason
 
 -- THE MESSAGE with that transaction id that words say, which the switch reads; or why there is none
-unfoldable pub message_said : ℕ → List ℕ → Said
-message_said xid words = read_said (bytes_said xid (first_word words) (after_first words))
+unfoldable pub message_in_words : ℕ → List ℕ → BytesOrReason
+message_in_words xid words = read_said (bytes_said xid (leading_word words) (after_leading words))

@@ -14,32 +14,32 @@ pub data Reason : Type 0 where
   Missing : Reason
 
 -- the bytes of a message, or why there are none
-abbrev pub Said : Type 0
-Said = Result (List ℕ) Reason
+abbrev pub BytesOrReason : Type 0
+BytesOrReason = Result (List ℕ) Reason
 
 -- an error is that memory ran out, or a reason for which this holds
-abbrev pub Fails : (Reason → Type 0) → NoMessage → Type 0
-Fails is_reason errors.NoMemory = Unit {0}
-Fails is_reason errors.Kind = is_reason Kind
-Fails is_reason (errors.Faults faults) = is_reason (Faults (map view_word_fault faults.items))
-Fails is_reason (errors.Refused code) = is_reason (Refused code)
-Fails is_reason (errors.Word word) = is_reason (Word word.items)
-Fails is_reason errors.Missing = is_reason Missing
+abbrev pub HasReason : (Reason → Type 0) → NoMessage → Type 0
+HasReason is_reason errors.NoMemory = Unit {0}
+HasReason is_reason errors.Kind = is_reason Kind
+HasReason is_reason (errors.Faults faults) = is_reason (Faults (map view_word_fault faults.items))
+HasReason is_reason (errors.Refused code) = is_reason (Refused code)
+HasReason is_reason (errors.Word word) = is_reason (Word word.items)
+HasReason is_reason errors.Missing = is_reason Missing
 
 -- what was returned is what the words say, unless memory ran out
-abbrev pub Tells : {V : Type 0} → Result V NoMessage → Result V Reason → Type 0
-Tells (Ok value) said = said ≡ Ok value
-Tells (Err e) said = Fails (λ reason. said ≡ Err reason) e
+abbrev pub SaysOrFails : {V : Type 0} → Result V NoMessage → Result V Reason → Type 0
+SaysOrFails (Ok value) said = said ≡ Ok value
+SaysOrFails (Err e) said = HasReason (λ reason. said ≡ Err reason) e
 
 -- the refusal of a switch, if there is one
-abbrev pub refused : Option Code → Reason
-refused (Some code) = Refused code
-refused None = Missing
+abbrev pub reason_of_refusal : Option Code → Reason
+reason_of_refusal (Some code) = Refused code
+reason_of_refusal None = Missing
 
 -- the same as an error
-abbrev pub refused_by : Option Code → NoMessage
-refused_by (Some code) = errors.Refused code
-refused_by None = errors.Missing
+abbrev pub error_of_refusal : Option Code → NoMessage
+error_of_refusal (Some code) = errors.Refused code
+error_of_refusal None = errors.Missing
 
 -- memory ran out, or this is refused
 abbrev pub FailsBy : Option Code → NoMessage → Type 0

@@ -6,8 +6,8 @@ ghost use Rattle.of_actions.specs.declared.instruction.Instruction.TheVariants.{
 ghost use Rattle.of_text.specs.Views.{view, view_instruction};
 ghost use Rattle.of_import.specs.LineContentViews.{view_line_content};
 ghost use Rattle.of_import.specs.Sound.{IsSoundContent, IsSoundFlow};
-ghost use Rattle.of_message_words.specs.Flows.{flow_command, flow_command_named, flow_content_said, flow_line, flow_mod_of, flow_mod_said, flow_said, names_table as has_table, refusal_alone, table_said, without_instructions};
-ghost use Rattle.of_message_words.specs.Reasons.{FailsBy, Tells, refused_by};
+ghost use Rattle.of_message_words.specs.Flows.{flow_command, flow_command_named, flow_content_said, flow_line, commanded_flow_mod, flow_mod_said, flow_words_said, has_table_word, lone_refusal, table_said, without_instructions};
+ghost use Rattle.of_message_words.specs.Reasons.{FailsBy, SaysOrFails, error_of_refusal};
 
 use crate::cutting::cut_first;
 use crate::no_message::NoMessage;
@@ -70,7 +70,7 @@ fn line_of(alloc: Global, command: FlowModCommand, words: &[u8]) -> Result<Vec<u
 
 // Whether a word says a table.
 fn names_table(words: &[u8]) -> bool
-    ensures { result ≡ has_table words.now }
+    ensures { result ≡ has_table_word words.now }
 {
     let mut rest = words;
     while !rest.is_empty() {
@@ -83,22 +83,24 @@ fn names_table(words: &[u8]) -> bool
     false
 }
 
-fn copy_of(actions: &Vec<Action>) -> Result<Vec<Action>, AllocError>
+/// A copy of actions.
+pub fn copy_of(actions: &Vec<Action>) -> Result<Vec<Action>, AllocError>
     ensures { IfOk result (λ copy. copy.items ≡ actions.now.items) }
 {
     Ok(actions.clone()?)
 }
 
+#[tactic(auto, using(crate::proofs::InstructionLemmas::supported_nowhere))]
 fn list_of(actions: &Vec<Action>) -> Result<Option<ActionList>, AllocError>
     ensures some { IfOk result (λ list. IfSome list (λ xs. xs ≡ actions.now.items)) }
-    ensures none { IfOk result (λ list. IfNone list (are_supported true actions.now.items ≡ false)) }
+    ensures none { IfOk result (λ list. IfNone list (are_supported false actions.now.items ≡ false)) }
 {
     Ok(ActionList::new(copy_of(actions)?))
 }
 
 fn apply_of(actions: &Vec<Action>) -> Result<Option<Instruction>, AllocError>
     ensures some { IfOk result (λ i. IfSome i (λ x. x ≡ Apply actions.now.items)) }
-    ensures none { IfOk result (λ i. IfNone i (are_supported true actions.now.items ≡ false)) }
+    ensures none { IfOk result (λ i. IfNone i (are_supported false actions.now.items ≡ false)) }
 {
     match list_of(actions)? {
         Some(list) => Ok(Some(Instruction::Apply(list))),
@@ -108,7 +110,7 @@ fn apply_of(actions: &Vec<Action>) -> Result<Option<Instruction>, AllocError>
 
 fn write_of(actions: &Vec<Action>) -> Result<Option<Instruction>, AllocError>
     ensures some { IfOk result (λ i. IfSome i (λ x. x ≡ Write actions.now.items)) }
-    ensures none { IfOk result (λ i. IfNone i (are_supported true actions.now.items ≡ false)) }
+    ensures none { IfOk result (λ i. IfNone i (are_supported false actions.now.items ≡ false)) }
 {
     match list_of(actions)? {
         Some(list) => Ok(Some(Instruction::Write(list))),
@@ -153,7 +155,7 @@ pub fn instructions_of(
 
 /// The refusal of a flow as the only one of a switch without groups.
 pub fn refusal_of(flow: &FlowText) -> NoMessage
-    ensures { result ≡ refused_by (refusal_alone (view flow.now)) }
+    ensures { result ≡ error_of_refusal (lone_refusal (view flow.now)) }
 {
     match refusal_beside(&[], flow) {
         Some(code) => NoMessage::Refused(code),
@@ -175,14 +177,14 @@ fn bare_of(alloc: Global, flow: &FlowText) -> Result<FlowText, AllocError>
 fn match_of(alloc: Global, flow: &FlowText) -> Result<Match, NoMessage>
     requires { IsSoundFlow (view flow.now) }
     ensures found { IfOk result (λ m. m ≡ (view flow.now).fields) }
-    ensures accepted { OnOk result (refusal_alone (without_instructions (view flow.now)) ≡ None) }
-    ensures failed { IfErr result (FailsBy (refusal_alone (without_instructions (view flow.now)))) }
+    ensures accepted { OnOk result (lone_refusal (without_instructions (view flow.now)) ≡ None) }
+    ensures failed { IfErr result (FailsBy (lone_refusal (without_instructions (view flow.now)))) }
 {
     let bare = bare_of(alloc, flow)?;
-    if let Some(code) = refusal_beside(&[], &bare) {
-        return Err(NoMessage::Refused(code));
+    match refusal_beside(&[], &bare) {
+        Some(code) => Err(NoMessage::Refused(code)),
+        None => Ok(bare.to_match()?),
     }
-    Ok(bare.to_match()?)
 }
 
 // The FLOW_MOD of a flow with that match and these instructions.
@@ -193,7 +195,7 @@ fn flow_mod_with(
     fields: Match,
     instructions: InstructionList,
 ) -> FlowMod
-    ensures { result ≡ flow_mod_of command table (record { head = head; fields = fields; instructions = instructions }) }
+    ensures { result ≡ commanded_flow_mod command table (record { head = head; fields = fields; instructions = instructions }) }
 {
     FlowMod {
         cookie: head.cookie,
@@ -222,7 +224,7 @@ fn flow_mod(
     flow: &FlowText,
 ) -> Result<Bytes, NoMessage>
     requires { IsSoundFlow (view flow.now) }
-    ensures { Tells result (flow_mod_said xid command table (view flow.now)) }
+    ensures { SaysOrFails result (flow_mod_said xid command table (view flow.now)) }
 {
     let fields = match_of(alloc, flow)?;
     match instructions_of(alloc, &flow.instructions)? {
@@ -254,7 +256,7 @@ fn flow_content(
     content: LineContent,
 ) -> Result<Bytes, NoMessage>
     requires { IsSoundContent content }
-    ensures { Tells result (flow_content_said xid command words.now (view_line_content content)) }
+    ensures { SaysOrFails result (flow_content_said xid command words.now (view_line_content content)) }
 {
     match content {
         LineContent::Flow(flow, _) => flow_mod(
@@ -270,9 +272,9 @@ fn flow_content(
 }
 
 /// FLOW_MOD (OpenFlow 1.3.5, 7.3.4.1).
-#[tactic(auto, unfolding(crate::specs::Flows::flow_said))]
+#[tactic(auto, unfolding(crate::specs::Flows::flow_words_said))]
 pub fn flow_message(alloc: Global, xid: u32, text: &[u8]) -> Result<Bytes, NoMessage>
-    ensures { Tells result (flow_said xid text.now) }
+    ensures { SaysOrFails result (flow_words_said xid text.now) }
 {
     let (command, words) = command_of(text);
     let line = line_of(alloc, command, words)?;

@@ -1,16 +1,16 @@
 //! GROUP_MOD in words.
-ghost use Rattle.std.specs.Prelude.{◌≡◌, ◌∷◌, [], IfOk};
+ghost use Rattle.std.specs.Prelude.{◌≡◌, false, IfOk};
 ghost use Rattle.std.specs.List.{AllByRecursion, list_all};
 ghost use Rattle.of_actions.specs.Supported.{are_supported as are_supported_so};
 ghost use Rattle.of_groups.specs.Buckets.{are_fit};
-ghost use Rattle.of_lines.specs.Rows.{Fits};
+ghost use Rattle.of_text.specs.Rows.{Fits};
 ghost use Rattle.of_text.specs.Groups.{buckets_of, group_rows};
 ghost use Rattle.of_text.specs.Views.{view_group};
 ghost use Rattle.of_import.specs.LineContentViews.{view_line_content};
 ghost use Rattle.of_import.specs.Sound.{IsSoundContent};
-ghost use Rattle.of_message_words.specs.Flows.{line_said};
-ghost use Rattle.of_message_words.specs.Groups.{delete_said, group_command, group_command_named, group_content_said, group_in as group_in_word, group_mod as group_mod_bytes, group_mod_said, group_refusal, group_said};
-ghost use Rattle.of_message_words.specs.Reasons.{Tells, refused_by};
+ghost use Rattle.of_message_words.specs.Flows.{content_of_line};
+ghost use Rattle.of_message_words.specs.Groups.{delete_said, group_command, group_command_named, group_content_said, group_number_in, group_mod_bytes, group_mod_said, group_refusal, group_words_said};
+ghost use Rattle.of_message_words.specs.Reasons.{SaysOrFails, error_of_refusal};
 
 use crate::cutting::cut_first;
 use crate::flow::{MODE, instructions_of};
@@ -96,10 +96,21 @@ fn all_supported(alloc: Global, buckets: &[BucketText]) -> Result<bool, AllocErr
     Ok(true)
 }
 
+// Whether GROUP_MODs can say the group: 16 buckets at most, each with actions that are supported.
+#[tactic(auto, using(crate::proofs::InstructionLemmas::fit_so))]
+fn is_fit(alloc: Global, group: &GroupText) -> Result<bool, AllocError>
+    ensures { IfOk result (λ yes. yes ≡ are_fit (buckets_of (view_group group.now))) }
+{
+    if 16 < group.buckets.len() {
+        return Ok(false);
+    }
+    all_supported(alloc, &group.buckets)
+}
+
 // The refusal of a group as the only one of a switch.
 fn refusal_of(alloc: Global, group: GroupText) -> Result<NoMessage, AllocError>
     requires { AllByRecursion Fits (group_rows (view_group group)) }
-    ensures { IfOk result (λ e. e ≡ refused_by (group_refusal (view_group group))) }
+    ensures { IfOk result (λ e. e ≡ error_of_refusal (group_refusal (view_group group))) }
 {
     let mut groups = Vec::new(alloc);
     groups.push(group)?;
@@ -114,9 +125,9 @@ fn refusal_of(alloc: Global, group: GroupText) -> Result<NoMessage, AllocError>
 #[tactic(auto, unfolding(crate::specs::Groups::group_mod_said))]
 fn with_buckets(alloc: Global, xid: u32, command: u8, group: GroupText) -> Result<Bytes, NoMessage>
     requires { AllByRecursion Fits (group_rows (view_group group)) }
-    ensures { Tells result (group_mod_said xid command (view_group group)) }
+    ensures { SaysOrFails result (group_mod_said xid command (view_group group)) }
 {
-    if 16 < group.buckets.len() || !all_supported(alloc, &group.buckets)? {
+    if !is_fit(alloc, &group)? {
         return Err(refusal_of(alloc, group)?);
     }
     let buckets = write_buckets(alloc, &group.to_buckets()?)?;
@@ -138,7 +149,7 @@ fn group_content(
     content: LineContent,
 ) -> Result<Bytes, NoMessage>
     requires { IsSoundContent content }
-    ensures { Tells result (group_content_said xid command (view_line_content content)) }
+    ensures { SaysOrFails result (group_content_said xid command (view_line_content content)) }
 {
     match content {
         LineContent::Group(group) => with_buckets(alloc, xid, command, group),
@@ -148,16 +159,16 @@ fn group_content(
 }
 
 fn change_message(alloc: Global, xid: u32, command: u8, line: &[u8]) -> Result<Bytes, NoMessage>
-    ensures { Tells result (group_content_said xid command (line_said line.now)) }
+    ensures { SaysOrFails result (group_content_said xid command (content_of_line line.now)) }
 {
     let content = read_line(alloc, MODE, &[], line)?;
     group_content(alloc, xid, command, content)
 }
 
 // The number of a group in words: `group_id=N`, or `all`.
-#[tactic(auto, unfolding(crate::specs::Groups::group_in))]
+#[tactic(auto, unfolding(crate::specs::Groups::group_number_in))]
 fn group_in(word: &[u8]) -> Option<u32>
-    ensures { result ≡ group_in_word word.now }
+    ensures { result ≡ group_number_in word.now }
 {
     if is(word, b"all") {
         return Some(OFPG_ALL);
@@ -173,7 +184,7 @@ fn group_in(word: &[u8]) -> Option<u32>
 
 // The GROUP_MOD that deletes a group, or all. Its type is not read.
 fn delete_message(alloc: Global, xid: u32, word: &[u8]) -> Result<Bytes, NoMessage>
-    ensures { Tells result (delete_said xid (group_in_word word.now) word.now) }
+    ensures { SaysOrFails result (delete_said xid (group_number_in word.now) word.now) }
 {
     match group_in(word) {
         Some(id) => Ok(group_mod(alloc, xid, 2, 0, id, &[])?),
@@ -182,9 +193,9 @@ fn delete_message(alloc: Global, xid: u32, word: &[u8]) -> Result<Bytes, NoMessa
 }
 
 /// GROUP_MOD (OpenFlow 1.3.5, 7.3.4.2).
-#[tactic(auto, unfolding(crate::specs::Groups::group_said))]
+#[tactic(auto, unfolding(crate::specs::Groups::group_words_said))]
 pub fn group_message(alloc: Global, xid: u32, text: &[u8]) -> Result<Bytes, NoMessage>
-    ensures { Tells result (group_said xid text.now) }
+    ensures { SaysOrFails result (group_words_said xid text.now) }
 {
     let (command, words) = command_of(text);
     match command {

@@ -5,12 +5,12 @@ ghost use Rattle.hex.specs.Hex.{decode_of};
 ghost use Rattle.of_text.specs.Views.{view, view_instruction};
 ghost use Rattle.of_import.specs.LineContentViews.{view_line_content};
 ghost use Rattle.of_import.specs.Sound.{IsSoundContent, IsSoundFlow};
-ghost use Rattle.of_message_words.specs.Flows.{line_said};
-ghost use Rattle.of_message_words.specs.PacketOuts.{actions_of as actions_in, ingress_by, ingress_of as ingress_in, packet_by, packet_content_said, packet_of_flow, packet_out as packet_out_bytes, packet_said, packet_words, with_packet_word};
+ghost use Rattle.of_message_words.specs.Flows.{content_of_line};
+ghost use Rattle.of_message_words.specs.PacketOuts.{actions_by, applied_actions, ingress_by, lone_ingress, packet_by, packet_content_said, packet_of_flow, packet_out_bytes, packet_words_said, packet_out_words, with_packet_word};
 ghost use Rattle.of_message_words.specs.PacketViews.{view_packet_words};
-ghost use Rattle.of_message_words.specs.Reasons.{Fails, Tells, Word};
+ghost use Rattle.of_message_words.specs.Reasons.{SaysOrFails};
 
-use crate::flow::{MODE, refusal_of};
+use crate::flow::{MODE, copy_of, refusal_of};
 use crate::no_message::NoMessage;
 use crate::writing::message_of;
 use hex::FromHexError;
@@ -48,7 +48,7 @@ fn add_word(alloc: Global, words: &mut PacketWords, word: &[u8]) -> Result<(), A
 }
 
 fn words_of(alloc: Global, text: &[u8]) -> Result<PacketWords, AllocError>
-    ensures { IfOk result (λ words. view_packet_words words ≡ packet_words text.now) }
+    ensures { IfOk result (λ words. view_packet_words words ≡ packet_out_words text.now) }
 {
     let mut words = PacketWords {
         frame: None,
@@ -82,11 +82,20 @@ fn ingress_by_field(e: MatchField) -> Option<u32>
 
 // The ingress port, if the match has no other field.
 fn ingress_of(fields: &[MatchField]) -> Option<u32>
-    ensures { result ≡ ingress_in fields.now }
+    ensures { result ≡ lone_ingress fields.now }
 {
     match fields {
         [e] => ingress_by_field(*e),
         _ => None,
+    }
+}
+
+fn applied_by(instruction: &InstructionText) -> Result<Option<Vec<Action>>, AllocError>
+    ensures { IfOk result (λ found. option_map (λ xs. xs.items) found ≡ actions_by (view_instruction instruction.now)) }
+{
+    match instruction {
+        InstructionText::Apply(actions) => Ok(Some(copy_of(actions)?)),
+        _ => Ok(None),
     }
 }
 
@@ -95,11 +104,11 @@ fn actions_of(
     alloc: Global,
     instructions: &[InstructionText],
 ) -> Result<Option<Vec<Action>>, AllocError>
-    ensures { IfOk result (λ found. option_map (λ xs. xs.items) found ≡ actions_in (map view_instruction instructions.now)) }
+    ensures { IfOk result (λ found. option_map (λ xs. xs.items) found ≡ applied_actions (map view_instruction instructions.now)) }
 {
     match instructions {
         [] => Ok(Some(Vec::new(alloc))),
-        [InstructionText::Apply(actions)] => Ok(Some(actions.clone()?)),
+        [instruction] => applied_by(instruction),
         _ => Ok(None),
     }
 }
@@ -128,7 +137,7 @@ fn packet_out(
 // The PACKET_OUT that sends a frame as a flow does whose match is its ingress port.
 #[tactic(auto, unfolding(crate::specs::PacketOuts::packet_of_flow))]
 fn with_flow(alloc: Global, xid: u32, flow: &FlowText, frame: &[u8]) -> Result<Bytes, NoMessage>
-    ensures { Tells result (packet_of_flow xid frame.now (view flow.now)) }
+    ensures { SaysOrFails result (packet_of_flow xid frame.now (view flow.now)) }
 {
     let Some(in_port) = ingress_of(&flow.fields) else {
         return Err(NoMessage::Missing);
@@ -148,7 +157,7 @@ fn with_content(
     frame: &[u8],
     content: LineContent,
 ) -> Result<Bytes, NoMessage>
-    ensures { Tells result (packet_content_said xid frame.now (view_line_content content)) }
+    ensures { SaysOrFails result (packet_content_said xid frame.now (view_line_content content)) }
 {
     match content {
         LineContent::Flow(flow, _) => with_flow(alloc, xid, &flow, frame),
@@ -159,7 +168,7 @@ fn with_content(
 
 // The PACKET_OUT with a frame in hex digits, and the other words.
 fn with_digits(alloc: Global, xid: u32, digits: Vec<u8>, others: &[u8]) -> Result<Bytes, NoMessage>
-    ensures { Tells result (packet_by xid digits.items others.now (decode_of digits.items)) }
+    ensures { SaysOrFails result (packet_by xid digits.items others.now (decode_of digits.items)) }
 {
     match hex::decode(alloc, digits.as_slice()) {
         Ok(frame) => {
@@ -172,13 +181,13 @@ fn with_digits(alloc: Global, xid: u32, digits: Vec<u8>, others: &[u8]) -> Resul
 }
 
 /// PACKET_OUT (OpenFlow 1.3.5, 7.3.7).
-#[tactic(auto, unfolding(crate::specs::PacketOuts::packet_said))]
+#[tactic(auto, unfolding(crate::specs::PacketOuts::packet_words_said))]
 pub fn packet_message(alloc: Global, xid: u32, text: &[u8]) -> Result<Bytes, NoMessage>
-    ensures { Tells result (packet_said xid text.now) }
+    ensures { SaysOrFails result (packet_words_said xid text.now) }
 {
-    let words = words_of(alloc, text)?;
-    match words.frame {
-        Some(digits) => with_digits(alloc, xid, digits, &words.others),
+    let PacketWords { frame, others } = words_of(alloc, text)?;
+    match frame {
+        Some(digits) => with_digits(alloc, xid, digits, &others),
         None => Err(NoMessage::Missing),
     }
 }

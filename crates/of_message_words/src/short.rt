@@ -3,8 +3,8 @@ ghost use Rattle.std.specs.Prelude.{◌≡◌, ◌∷◌, [], IfOk};
 ghost use Rattle.of_formats.specs.Structs.{written};
 ghost use Rattle.of_formats.specs.Tables.{role as role_struct, switch_config};
 ghost use Rattle.of_messages.specs.Written.{message};
-ghost use Rattle.of_message_words.specs.Short.{bare_type, role_named, role_said, generation_in, bare_said, config_said};
-ghost use Rattle.of_message_words.specs.Reasons.{Tells};
+ghost use Rattle.of_message_words.specs.Short.{bare_type, role_named, role_words_said, generation_in, bare_words_said, config_words_said};
+ghost use Rattle.of_message_words.specs.Reasons.{SaysOrFails};
 
 use crate::cutting::cut_first;
 use crate::no_message::NoMessage;
@@ -39,9 +39,9 @@ pub fn bare_type_of(kind: &[u8]) -> Option<u8>
 }
 
 /// A message without content, behind whose kind no word may come.
-#[tactic(auto, unfolding(crate::specs::Short::bare_said))]
+#[tactic(auto, unfolding(crate::specs::Short::bare_words_said))]
 pub fn bare_message(alloc: Global, xid: u32, kind: u8, rest: &[u8]) -> Result<Bytes, NoMessage>
-    ensures { Tells result (bare_said xid kind rest.now) }
+    ensures { SaysOrFails result (bare_words_said xid kind rest.now) }
 {
     if !rest.is_empty() {
         return Err(NoMessage::Word(rest.to_vec(alloc)?));
@@ -92,9 +92,9 @@ fn role_request(alloc: Global, xid: u32, role: u32, generation: u64) -> Result<B
 }
 
 /// ROLE_REQUEST (OpenFlow 1.3.5, 7.3.9): the role, and a generation_id.
-#[tactic(auto, unfolding(crate::specs::Short::role_said))]
+#[tactic(auto, unfolding(crate::specs::Short::role_words_said))]
 pub fn role_message(alloc: Global, xid: u32, rest: &[u8]) -> Result<Bytes, NoMessage>
-    ensures { Tells result (role_said xid rest.now) }
+    ensures { SaysOrFails result (role_words_said xid rest.now) }
 {
     let (word, generation) = cut_first(rest);
     let Some(role) = role_number(word) else {
@@ -116,9 +116,9 @@ fn set_config(alloc: Global, xid: u32, miss_send_len: u16) -> Result<Bytes, Allo
 }
 
 /// SET_CONFIG (OpenFlow 1.3.5, 7.3.2): `miss_send_len=N`, without flags.
-#[tactic(auto, unfolding(crate::specs::Short::config_said))]
+#[tactic(auto, unfolding(crate::specs::Short::config_words_said))]
 pub fn config_message(alloc: Global, xid: u32, word: &[u8]) -> Result<Bytes, NoMessage>
-    ensures { Tells result (config_said xid word.now) }
+    ensures { SaysOrFails result (config_words_said xid word.now) }
 {
     if is(name_of(word), b"miss_send_len")
         && let Ok(length) = numbered(0x1_0000, value_of(word))

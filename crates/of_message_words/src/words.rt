@@ -1,6 +1,6 @@
 //! The message that words say.
-ghost use Rattle.of_message_words.specs.Messages.{bytes_said, message_said};
-ghost use Rattle.of_message_words.specs.Reasons.{Tells};
+ghost use Rattle.of_message_words.specs.Messages.{bytes_said, message_in_words};
+ghost use Rattle.of_message_words.specs.Reasons.{SaysOrFails};
 
 use crate::cutting::cut_first;
 use crate::flow::flow_message;
@@ -16,7 +16,7 @@ use std::alloc::Global;
 // The message of that kind, whether or not the switch refuses it.
 #[tactic(auto, unfolding(crate::specs::Messages::bytes_said))]
 fn message_of_kind(alloc: Global, xid: u32, kind: &[u8], rest: &[u8]) -> Result<Bytes, NoMessage>
-    ensures { Tells result (bytes_said xid kind.now rest.now) }
+    ensures { SaysOrFails result (bytes_said xid kind.now rest.now) }
 {
     if let Some(number) = bare_type_of(kind) {
         bare_message(alloc, xid, number, rest)
@@ -36,9 +36,9 @@ fn message_of_kind(alloc: Global, xid: u32, kind: &[u8], rest: &[u8]) -> Result<
 }
 
 /// The bytes of the message of a controller that words say, with that transaction id: one that the switch reads.
-#[tactic(auto, unfolding(crate::specs::Messages::message_said))]
+#[tactic(auto, unfolding(crate::specs::Messages::message_in_words))]
 pub fn message_bytes(alloc: Global, xid: u32, words: &[u8]) -> Result<Bytes, NoMessage>
-    ensures { Tells result (message_said xid words.now) }
+    ensures { SaysOrFails result (message_in_words xid words.now) }
 {
     let (kind, rest) = cut_first(words);
     let bytes = message_of_kind(alloc, xid, kind, rest)?;

@@ -1,19 +1,17 @@
 -- GROUPS AS LINES (ovs-ofctl(8)): what has its default is not written.
-use Rattle.std.specs.Prelude.{ℕ, ◌==◌, List, [], ◌∷◌, ◌++◌, codes, decimal, if◌then◌else◌}
+use Rattle.std.specs.Prelude.{ℕ, List, [], ◌∷◌, ◌++◌, codes, decimal}
 use Rattle.std.specs.List.{flat_map}
 use Rattle.of_wire.specs.declared.limits.TheConstants.{OFPG_ANY, OFPP_ANY}
 use Rattle.of_groups.specs.declared.group.GroupKind.{GroupKind}
 use Rattle.of_groups.specs.declared.group.GroupKind.TheVariants.{All, Indirect, FastFailover}
 use Rattle.of_text.specs.Groups.{TextBucket, TextGroup}
+use Rattle.of_ovs_text.specs.Parts.{unless_default}
 use Rattle.of_ovs_text.specs.Actions.{actions_in_words_of}
 
 abbrev pub kind_in_words : GroupKind → List ℕ
 kind_in_words All = codes "all"
 kind_in_words Indirect = codes "indirect"
 kind_in_words FastFailover = codes "ff"
-
-abbrev pub unless_default : List ℕ → ℕ → ℕ → List ℕ
-unless_default name default n = if n == default then [] else name ++ decimal n ++ codes ","
 
 unfoldable pub bucket_in_words : TextBucket → List ℕ
 bucket_in_words b =

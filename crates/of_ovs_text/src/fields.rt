@@ -3,10 +3,11 @@ ghost use Rattle.std.specs.Prelude.{◌≡◌, ◌++◌, OnOk};
 ghost use Rattle.std.specs.List.{flat_map};
 ghost use Rattle.of_ovs_text.specs.Fields.{chosen_field_words, comes_first as comes_first_of_all, is_chosen as is_chosen_field, keyword_of, mask_behind_slash, match_in_words, ethertype_words, new_value_words, ovs_field_words, protocol_in_words, says_transport as says_such_transport, tag_words, ip_protocol_words};
 
+use crate::parts::push_named;
 use of_layers::{Field, Prerequisite};
 use of_ovs_words::text_for;
 use of_oxm::{MatchField, is_met};
-use of_values::{push_decimal, push_hexadecimal, push_value_words};
+use of_values::{push_hexadecimal, push_value_words};
 use of_wire::keyword;
 use std::alloc::AllocError;
 
@@ -96,8 +97,7 @@ fn push_transport(
     if says_transport(protocol) {
         return Ok(());
     }
-    out.extend_from_slice(b",nw_proto=")?;
-    push_decimal(out, number)
+    push_named(out, b",nw_proto=", number)
 }
 
 fn push_mask(out: &mut Vec<u8>, mask: Option<u128>) -> Result<(), AllocError>
@@ -117,8 +117,7 @@ fn push_tag(out: &mut Vec<u8>, value: u128, mask: Option<u128>) -> Result<(), Al
     ensures { OnOk result (out.new.items ≡ out.old.items ++ tag_words value mask) }
 {
     if mask.is_none() && value >= PRESENT {
-        out.extend_from_slice(b",dl_vlan=")?;
-        return push_decimal(out, value - PRESENT);
+        return push_named(out, b",dl_vlan=", value - PRESENT);
     }
     out.extend_from_slice(b",vlan_vid=")?;
     push_hexadecimal(out, 4, value)?;
@@ -156,10 +155,7 @@ fn push_field(
     ensures { OnOk result (out.new.items ≡ out.old.items ++ ovs_field_words protocol e.now.field e.now.value e.now.mask) }
 {
     match e.field {
-        Field::InPort => {
-            out.extend_from_slice(b",in_port=")?;
-            push_decimal(out, e.value)
-        }
+        Field::InPort => push_named(out, b",in_port=", e.value),
         Field::EthType => push_network(out, protocol, e.value),
         Field::VlanVid => push_tag(out, e.value, e.mask),
         Field::IpProto => push_transport(out, protocol, e.value),

@@ -2,12 +2,13 @@
 ghost use Rattle.std.specs.Prelude.{◌≡◌, ◌++◌, OnOk};
 ghost use Rattle.std.specs.List.{flat_map};
 ghost use Rattle.of_text.specs.Views.{view, view_flows};
-ghost use Rattle.of_ovs_text.specs.Flows.{cookie_part, flag_part, flow_line, flow_head_words, timeout_part};
+ghost use Rattle.of_ovs_text.specs.Flows.{cookie_part, flag_part, flags_part, flow_head_words, flow_line};
 
 use crate::actions::push_instructions;
 use crate::fields::push_match;
+use crate::parts::{push_named, push_part, push_unless};
 use of_text::{FlowHead, FlowText};
-use of_values::{push_decimal, push_hexadecimal};
+use of_values::push_hexadecimal;
 use std::alloc::AllocError;
 
 fn push_cookie(out: &mut Vec<u8>, cookie: u64) -> Result<(), AllocError>
@@ -21,17 +22,6 @@ fn push_cookie(out: &mut Vec<u8>, cookie: u64) -> Result<(), AllocError>
     out.extend_from_slice(b",")
 }
 
-fn push_timeout(out: &mut Vec<u8>, name: &[u8], seconds: u16) -> Result<(), AllocError>
-    ensures { OnOk result (out.new.items ≡ out.old.items ++ timeout_part name.now seconds) }
-{
-    if seconds == 0 {
-        return Ok(());
-    }
-    out.extend_from_slice(name)?;
-    push_decimal(out, u128::from(seconds))?;
-    out.extend_from_slice(b",")
-}
-
 fn push_flag(out: &mut Vec<u8>, name: &[u8], flags: u16, flag: u16) -> Result<(), AllocError>
     ensures { OnOk result (out.new.items ≡ out.old.items ++ flag_part name.now flags flag) }
 {
@@ -42,21 +32,25 @@ fn push_flag(out: &mut Vec<u8>, name: &[u8], flags: u16, flag: u16) -> Result<()
     }
 }
 
+#[tactic(auto, unfolding(crate::specs::Flows::flags_part))]
+fn push_flags(out: &mut Vec<u8>, flags: u16) -> Result<(), AllocError>
+    ensures { OnOk result (out.new.items ≡ out.old.items ++ flags_part flags) }
+{
+    push_flag(out, b"send_flow_rem,", flags, 1)?;
+    push_flag(out, b"no_packet_counts,", flags, 8)?;
+    push_flag(out, b"no_byte_counts,", flags, 16)
+}
+
 #[tactic(auto, unfolding(crate::specs::Flows::flow_head_words))]
 fn push_head(out: &mut Vec<u8>, head: FlowHead) -> Result<(), AllocError>
     ensures { OnOk result (out.new.items ≡ out.old.items ++ flow_head_words head) }
 {
     push_cookie(out, head.cookie)?;
-    out.extend_from_slice(b"table=")?;
-    push_decimal(out, u128::from(head.table))?;
-    out.push(b',')?;
-    push_timeout(out, b"idle_timeout=", head.idle)?;
-    push_timeout(out, b"hard_timeout=", head.hard)?;
-    push_flag(out, b"send_flow_rem,", head.flags, 1)?;
-    push_flag(out, b"no_packet_counts,", head.flags, 8)?;
-    push_flag(out, b"no_byte_counts,", head.flags, 16)?;
-    out.extend_from_slice(b"priority=")?;
-    push_decimal(out, u128::from(head.priority))
+    push_part(out, b"table=", u128::from(head.table))?;
+    push_unless(out, b"idle_timeout=", 0, u32::from(head.idle))?;
+    push_unless(out, b"hard_timeout=", 0, u32::from(head.hard))?;
+    push_flags(out, head.flags)?;
+    push_named(out, b"priority=", u128::from(head.priority))
 }
 
 // Appends the line of a flow.

@@ -2,12 +2,12 @@
 ghost use Rattle.std.specs.Prelude.{◌≡◌, ◌++◌, OnOk, map};
 ghost use Rattle.std.specs.List.{flat_map};
 ghost use Rattle.of_text.specs.Views.{view_bucket, view_group, view_groups};
-ghost use Rattle.of_ovs_text.specs.Groups.{bucket_in_words, group_line, kind_in_words, unless_default};
+ghost use Rattle.of_ovs_text.specs.Groups.{bucket_in_words, group_line, kind_in_words};
 
 use crate::actions::push_actions;
+use crate::parts::{push_named, push_unless};
 use of_groups::GroupKind;
 use of_text::{BucketText, GroupText};
-use of_values::push_decimal;
 use of_wire::limits::{OFPG_ANY, OFPP_ANY};
 use std::alloc::AllocError;
 
@@ -21,30 +21,14 @@ fn push_kind(out: &mut Vec<u8>, kind: GroupKind) -> Result<(), AllocError>
     }
 }
 
-fn push_unless_default(
-    out: &mut Vec<u8>,
-    name: &[u8],
-    default: u32,
-    number: u32,
-) -> Result<(), AllocError>
-    ensures { OnOk result (out.new.items ≡ out.old.items ++ unless_default name.now default number) }
-{
-    if number == default {
-        return Ok(());
-    }
-    out.extend_from_slice(name)?;
-    push_decimal(out, u128::from(number))?;
-    out.extend_from_slice(b",")
-}
-
 #[tactic(auto, unfolding(crate::specs::Groups::bucket_in_words))]
 fn push_bucket(out: &mut Vec<u8>, bucket: &BucketText) -> Result<(), AllocError>
     ensures { OnOk result (out.new.items ≡ out.old.items ++ bucket_in_words (view_bucket bucket.now)) }
 {
     out.extend_from_slice(b",bucket=")?;
-    push_unless_default(out, b"weight:", 0, u32::from(bucket.head.weight))?;
-    push_unless_default(out, b"watch_port:", OFPP_ANY, bucket.head.watch_port)?;
-    push_unless_default(out, b"watch_group:", OFPG_ANY, bucket.head.watch_group)?;
+    push_unless(out, b"weight:", 0, u32::from(bucket.head.weight))?;
+    push_unless(out, b"watch_port:", OFPP_ANY, bucket.head.watch_port)?;
+    push_unless(out, b"watch_group:", OFPG_ANY, bucket.head.watch_group)?;
     out.extend_from_slice(b"actions=")?;
     push_actions(out, &bucket.actions)
 }
@@ -63,8 +47,7 @@ fn push_bucket_words(out: &mut Vec<u8>, buckets: &[BucketText]) -> Result<(), Al
 fn push_group(out: &mut Vec<u8>, group: &GroupText) -> Result<(), AllocError>
     ensures { OnOk result (out.new.items ≡ out.old.items ++ group_line (view_group group.now)) }
 {
-    out.extend_from_slice(b"group_id=")?;
-    push_decimal(out, u128::from(group.head.id))?;
+    push_named(out, b"group_id=", u128::from(group.head.id))?;
     out.extend_from_slice(b",type=")?;
     push_kind(out, group.head.kind)?;
     push_bucket_words(out, &group.buckets)?;

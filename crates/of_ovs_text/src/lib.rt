@@ -6,5 +6,6 @@ mod fields;
 mod flows;
 mod groups;
 mod lines;
+mod parts;
 
 pub use lines::ovs_text;

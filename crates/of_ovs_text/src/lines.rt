@@ -1,10 +1,11 @@
 //! All lines of a configuration.
-ghost use Rattle.std.specs.Prelude.{◌≡◌, ◌++◌, IfOk, OnOk};
+ghost use Rattle.std.specs.Prelude.{◌≡◌, ◌++◌, ◌==◌, ◌&&◌, IfOk, OnOk};
+ghost use Rattle.std.specs.Str.{bytes_eq};
 ghost use Rattle.of_ovs_text.specs.Lines.{IsOvsText, IsReadAgain, flow_lines_below, ovs_text_of};
 
 use crate::flows::push_flow_lines;
 use crate::groups::push_group_lines;
-use of_import::{ImportError, Mode, import_text};
+use of_import::{ImportError, ImportText, Mode, import_text};
 use of_text::{Config, disassemble};
 use of_wire::limits::TABLES;
 use std::alloc::{AllocError, Global};
@@ -30,6 +31,12 @@ fn text_of(alloc: Global, config: &Config) -> Result<Vec<u8>, AllocError>
     Ok(out)
 }
 
+fn is_text(read: &ImportText, flow_text: &[u8]) -> bool
+    ensures { result ≡ (bytes_eq read.now.text.items flow_text.now && (read.now.changed == 0)) }
+{
+    read.text.as_slice() == flow_text && read.changed == 0
+}
+
 // Whether `import` reads the lines as this configuration.
 fn is_read_again(alloc: Global, text: &[u8], config: &Config) -> Result<bool, AllocError>
     ensures { IfOk result (IsReadAgain text.now config.now) }
@@ -40,9 +47,11 @@ fn is_read_again(alloc: Global, text: &[u8], config: &Config) -> Result<bool, Al
     };
     let flow_text = disassemble(alloc, config)?;
     match import_text(alloc, text, mode) {
-        Ok(read) => Ok(read.text == flow_text && read.changed == 0),
+        Ok(read) => Ok(is_text(&read, &flow_text)),
         Err(ImportError::NoMemory) => Err(AllocError),
-        Err(_) => Ok(false),
+        Err(ImportError::Faults(_, _) | ImportError::Refused { .. } | ImportError::TooMany(_)) => {
+            Ok(false)
+        }
     }
 }
 

@@ -29,7 +29,7 @@ shadow_lines origins tables table places = flat_map (shadow_line origins tables 
 
 -- nothing shadows an entry that wins only with ports that no switch has
 unfoldable pub unreceived_words : List ℕ
-unreceived_words = codes " never wins at a port that a switch has" ++ 10 ∷ []
+unreceived_words = codes " never wins at a port that a switch has\n"
 
 unfoldable pub never_words : List (List EntryOrigin) → List (List Flow) → ℕ → ℕ → Verdict → List ℕ
 never_words origins tables table place (Never by tie) = entry origins tables table place ++ tie_words tie ++ shadow_lines origins tables table by.items

@@ -31,9 +31,7 @@ pub fn push_reason(out: &mut Vec<u8>, tie: bool) -> Result<(), AllocError>
 pub fn push_unreceived(out: &mut Vec<u8>) -> Result<(), AllocError>
     ensures { OnOk result (out.new.items ≡ out.old.items ++ unreceived_words) }
 {
-    out.extend_from_slice(b" never wins at a port that a switch has")?;
-    out.push(b'\n')?;
-    Ok(())
+    out.extend_from_slice(b" never wins at a port that a switch has\n")
 }
 
 #[tactic(auto, unfolding(crate::specs::Report::shadow_line))]

@@ -1,0 +1,3 @@
+mod InstructionLemmas
+mod MatchLemmas
+mod WordLemmas
