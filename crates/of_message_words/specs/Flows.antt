@@ -38,8 +38,8 @@ abbrev pub flow_command : List ℕ → FlowModCommand × List ℕ
 flow_command text = behind_command Add text (flow_command_named (leading_word text))
 
 -- a DELETE has no actions
-abbrev pub flow_line : FlowModCommand → List ℕ → List ℕ
-flow_line command words = if is_delete command then words ++ codes ",actions=drop" else words
+abbrev pub flow_mod_line : FlowModCommand → List ℕ → List ℕ
+flow_mod_line command words = if is_delete command then words ++ codes ",actions=drop" else words
 
 abbrev pub has_table_word : List ℕ → Bool
 has_table_word words = list_any (λ word. bytes_eq (word_name word) (codes "table")) (words_from 0 words)
@@ -74,7 +74,7 @@ flow_content_said xid command words (contents.Refused faults) = Err (Faults faul
 flow_content_said xid command words other = Err Missing
 
 abbrev pub commanded_flow : ℕ → FlowModCommand × List ℕ → BytesOrReason
-commanded_flow xid c = flow_content_said xid c.0 c.1 (content_of_line (flow_line c.0 c.1))
+commanded_flow xid c = flow_content_said xid c.0 c.1 (content_of_line (flow_mod_line c.0 c.1))
 
 -- [COMMAND] WORDS
 unfoldable pub flow_words_said : ℕ → List ℕ → BytesOrReason
