@@ -1,26 +1,22 @@
 -- A flow that is not refused without its instructions has a match.
-use Rattle.std.proofs.Common.{◌≡◌, ℕ, ◌<◌, ◌≤◌, eqb, Bool, true, false, cond, List, [], ◌∷◌, ◌++◌, Option, Some, None, refl, sym, ◌∙◌, ap, subst, arith}
+use Rattle.std.proofs.Common.{◌≡◌, ℕ, ◌<◌, ◌≤◌, eqb, Bool, true, List, [], ◌∷◌, ◌++◌, None, refl, sym, ◌∙◌, ap, subst, arith}
 use Rattle.std.specs.Prelude.{map, not, nat_lt, bit_and, slice_index_or, IsSome}
-use Rattle.std.specs.Option.{option_map_or}
 use Rattle.std.specs.List.{AllByRecursion, flat_map}
 use Rattle.std.proofs.lemmas.Bool.{ltb-false}
 use Rattle.std.proofs.lemmas.Bool.Decides.{nat_tests}
 use Rattle.of_wire.specs.declared.code.Code.{Code}
-use Rattle.of_wire.specs.Refusals.{first_of, refusal}
-use Rattle.of_wire.proofs.FirstLemmas.{none_applies}
+use Rattle.of_wire.specs.Refusals.{refusal}
 use Rattle.of_oxm.specs.NormalForm.{IsMatch}
 use Rattle.of_lines.specs.declared.row.Row.TheVariants as rows
 use Rattle.of_text.specs.Rows.{Fits}
 use Rattle.of_text.specs.Order.{flow_standing, start_place}
-use Rattle.of_text.specs.Groups.{TextGroup}
-use Rattle.of_text.specs.Flows.{Flow, instruction_rows, text_rows}
+use Rattle.of_text.specs.Flows.{Flow, instruction_rows}
 use Rattle.of_text.specs.Refusals.{flow_refusals, instructions_refusals, match_refusals, table_refusals}
-use Rattle.of_text.specs.First.{refusals_behind, refused_from, first_refusal, flows_for}
+use Rattle.of_text.specs.First.{flows_for}
 use Rattle.of_text.specs.Kept.{IsEntry}
-use Rattle.of_text.specs.Texts.{AreRows}
 use Rattle.of_text.specs.Configs.{Configuration, IsConfig, tables_of_flows}
 use Rattle.of_text.proofs.TextLemmas.{all_front, all_both, flow_both, some_front}
-use Rattle.of_text.proofs.ConfigLemmas.{IsWhole, Parts, rows_from, both_stand}
+use Rattle.of_text.proofs.ConfigLemmas.{IsWhole, rows_from, both_stand}
 use Rattle.of_text.proofs.EntryLemmas.{none_both, none_next, config_entries}
 use Rattle.of_text.proofs.FillLemmas.{table_at}
 use Rattle.of_import.specs.Sound.{IsSoundFlow}

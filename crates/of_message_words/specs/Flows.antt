@@ -1,11 +1,10 @@
 -- FLOW_MOD IN WORDS (OpenFlow 1.3.5, 7.3.4.1): what `ovs-ofctl` reads as a flow, behind a command.
-use Rattle.std.specs.Prelude.{ℕ, ◌==◌, ◌&&◌, not, Bool, List, [], ◌∷◌, ◌++◌, codes, Option, Some, None, Ok, Err, false, true, if◌then◌else◌}
+use Rattle.std.specs.Prelude.{ℕ, ◌&&◌, not, Bool, List, [], ◌++◌, codes, Option, Some, None, Ok, Err, false, true, if◌then◌else◌}
 use Rattle.std.specs.List.{list_any}
 use Rattle.std.specs.Str.{bytes_eq}
 use Rattle.of_wire.specs.declared.code.Code.{Code}
 use Rattle.of_wire.specs.declared.limits.TheConstants.{OFPTT_ALL}
 use Rattle.of_wire.specs.Refusals.{first_of}
-use Rattle.of_actions.specs.declared.instruction.Instruction.{Instruction}
 use Rattle.of_actions.specs.InstructionLists.{are_kept}
 use Rattle.of_text.specs.Flows.{Flow}
 use Rattle.of_text.specs.First.{refusals_behind}
@@ -16,7 +15,6 @@ use Rattle.of_messages.specs.Messages.{is_delete}
 use Rattle.of_messages.specs.Written.{flow_mod_bytes}
 use Rattle.of_build.specs.Listing.{add_of}
 use Rattle.of_ovs_words.specs.Words.{word_name, words_from}
-use Rattle.of_import.specs.declared.mode.Mode.{Mode}
 use Rattle.of_import.specs.LineContents as contents
 use Rattle.of_import.specs.LineContents.{LineContent, parsed_line}
 use Rattle.of_message_words.specs.Cutting.{behind_command, leading_word}
@@ -40,8 +38,8 @@ abbrev pub flow_command : List ℕ → FlowModCommand × List ℕ
 flow_command text = behind_command Add text (flow_command_named (leading_word text))
 
 -- a DELETE has no actions
-abbrev pub flow_line : FlowModCommand → List ℕ → List ℕ
-flow_line command words = if is_delete command then words ++ codes ",actions=drop" else words
+abbrev pub flow_mod_line : FlowModCommand → List ℕ → List ℕ
+flow_mod_line command words = if is_delete command then words ++ codes ",actions=drop" else words
 
 abbrev pub has_table_word : List ℕ → Bool
 has_table_word words = list_any (λ word. bytes_eq (word_name word) (codes "table")) (words_from 0 words)
@@ -76,7 +74,7 @@ flow_content_said xid command words (contents.Refused faults) = Err (Faults faul
 flow_content_said xid command words other = Err Missing
 
 abbrev pub commanded_flow : ℕ → FlowModCommand × List ℕ → BytesOrReason
-commanded_flow xid c = flow_content_said xid c.0 c.1 (content_of_line (flow_line c.0 c.1))
+commanded_flow xid c = flow_content_said xid c.0 c.1 (content_of_line (flow_mod_line c.0 c.1))
 
 -- [COMMAND] WORDS
 unfoldable pub flow_words_said : ℕ → List ℕ → BytesOrReason

@@ -1,5 +1,5 @@
 -- GROUP_MOD IN WORDS (OpenFlow 1.3.5, 7.3.4.2): what `ovs-ofctl` reads as a group, behind a command.
-use Rattle.std.specs.Prelude.{ℕ, ◌^◌, ◌==◌, List, [], ◌∷◌, ◌++◌, codes, Option, Some, None, Ok, Err, if◌then◌else◌}
+use Rattle.std.specs.Prelude.{ℕ, ◌^◌, List, [], ◌∷◌, ◌++◌, codes, Option, Some, None, Ok, Err, if◌then◌else◌}
 use Rattle.std.specs.Option.{option_map}
 use Rattle.std.specs.Str.{bytes_eq}
 use Rattle.of_wire.specs.declared.code.Code.{Code}

@@ -1,5 +1,5 @@
 -- PACKET_OUT IN WORDS (OpenFlow 1.3.5, 7.3.7): the words of a flow whose match is the ingress port, and whose actions are those of the message, and the frame.
-use Rattle.std.specs.Prelude.{ℕ, ◌^◌, ◌==◌, nat_lt, true, List, [], ◌∷◌, ◌++◌, codes, length, Option, Some, None, Result, Ok, Err, if◌then◌else◌}
+use Rattle.std.specs.Prelude.{ℕ, ◌^◌, nat_lt, true, List, [], ◌∷◌, ◌++◌, codes, length, Option, Some, None, Result, Ok, Err, if◌then◌else◌}
 use Rattle.std.specs.Str.{bytes_eq}
 use Rattle.hex.specs.Hex.{decode_of}
 use Rattle.of_wire.specs.declared.limits.TheConstants.{OFP_NO_BUFFER}

@@ -1,5 +1,5 @@
 -- MESSAGES WITHOUT LISTS: those without content, ROLE_REQUEST and SET_CONFIG.
-use Rattle.std.specs.Prelude.{ℕ, ◌^◌, ◌==◌, ◌&&◌, List, [], ◌∷◌, codes, length, Option, Some, None, Result, Ok, Err, if◌then◌else◌}
+use Rattle.std.specs.Prelude.{ℕ, ◌^◌, ◌==◌, List, [], ◌∷◌, codes, length, Option, Some, None, Ok, Err, if◌then◌else◌}
 use Rattle.std.specs.Str.{bytes_eq}
 use Rattle.of_formats.specs.declared.messages.TheConstants.{BARRIER_REQUEST, ECHO_REQUEST, FEATURES_REQUEST, GET_CONFIG_REQUEST, HELLO, ROLE_REQUEST, SET_CONFIG}
 use Rattle.of_formats.specs.Structs.{written}

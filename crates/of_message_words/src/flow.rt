@@ -6,7 +6,7 @@ ghost use Rattle.of_actions.specs.declared.instruction.Instruction.TheVariants.{
 ghost use Rattle.of_text.specs.Views.{view, view_instruction};
 ghost use Rattle.of_import.specs.LineContentViews.{view_line_content};
 ghost use Rattle.of_import.specs.Sound.{IsSoundContent, IsSoundFlow};
-ghost use Rattle.of_message_words.specs.Flows.{flow_command, flow_command_named, flow_content_said, flow_line, commanded_flow_mod, flow_mod_said, flow_words_said, has_table_word, lone_refusal, table_said, without_instructions};
+ghost use Rattle.of_message_words.specs.Flows.{flow_command, flow_command_named, flow_content_said, flow_mod_line, commanded_flow_mod, flow_mod_said, flow_words_said, has_table_word, lone_refusal, table_said, without_instructions};
 ghost use Rattle.of_message_words.specs.Reasons.{FailsBy, SaysOrFails, error_of_refusal};
 
 use crate::cutting::cut_first;
@@ -59,7 +59,7 @@ fn command_of(text: &[u8]) -> (FlowModCommand, &[u8])
 
 // The line of a flow; that of a DELETE has no actions.
 fn line_of(alloc: Global, command: FlowModCommand, words: &[u8]) -> Result<Vec<u8>, AllocError>
-    ensures { IfOk result (λ line. line.items ≡ flow_line command words.now) }
+    ensures { IfOk result (λ line. line.items ≡ flow_mod_line command words.now) }
 {
     let mut line = words.to_vec(alloc)?;
     if command.is_delete() {

@@ -59,7 +59,10 @@ fn words_of(alloc: Global, text: &[u8]) -> Result<PacketWords, AllocError>
         let (word, after) = cut_word(rest);
         rest = after;
         if !word.is_empty() {
-            add_word(alloc, &mut words, word)?;
+            match add_word(alloc, &mut words, word) {
+                Ok(()) => {}
+                Err(error) => return Err(error),
+            }
         }
     }
     Ok(words)

@@ -53,6 +53,7 @@ tag_words n (Some mask) = vid_words n (Some mask)
 -- a keyword with which the value is that of the field
 abbrev pub keyword_of : Field → List ℕ
 keyword_of VlanVid = codes "vlan_vid"
+keyword_of VlanPcp = codes "vlan_pcp"
 keyword_of IpDscp = codes "ip_dscp"
 keyword_of other = text_for other
 

@@ -130,6 +130,7 @@ pub fn keyword_for(field: Field) -> &'static [u8]
 {
     match field {
         Field::VlanVid => b"vlan_vid",
+        Field::VlanPcp => b"vlan_pcp",
         Field::IpDscp => b"ip_dscp",
         _ => text_for(field),
     }

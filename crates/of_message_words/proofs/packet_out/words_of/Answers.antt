@@ -5,10 +5,10 @@ use Rattle.of_message_words.specs.PacketOuts.{with_packet_word}
 use Rattle.of_message_words.specs.PacketViews.{view_packet_words}
 use Rattle.of_message_words.proofs.packet_out.words_of.Goals as goal
 
-pub loop-rest-preserved-in-Continue-1 : goal.loop-rest-preserved-in-Continue-1
-loop-rest-preserved-in-Continue-1 c = c.loop-rest.invariant ∙ words_more with_packet_word (view_packet_words c.loop-rest.words) (view_packet_words c.add_word.new.words) c.loop-rest.rest.now
+pub loop-rest-preserved-in-Ok : goal.loop-rest-preserved-in-Ok
+loop-rest-preserved-in-Ok c = c.loop-rest.invariant ∙ words_more with_packet_word (view_packet_words c.loop-rest.words) (view_packet_words c.add_word.new.words) c.loop-rest.rest.now
     c.cut_word.result.0.now c.cut_word.result.1.now (some_bytes c.loop-rest.rest.now c.is_empty.result c.is_empty.ensures c.loop-rest-test.true)
-    c.cut_word.ensures.first c.cut_word.ensures.rest (sym c.is_empty-in-loop-rest.ensures ∙ c.if-not-is_empty.true) c.in_ok-add_word.ensures
+    c.cut_word.ensures.first c.cut_word.ensures.rest (sym c.is_empty-in-loop-rest.ensures ∙ c.if-not-is_empty.true) c.in-Ok.ensures
 
 pub loop-rest-preserved : goal.loop-rest-preserved
 loop-rest-preserved c = c.loop-rest.invariant ∙ words_passed with_packet_word (view_packet_words c.loop-rest.words) c.loop-rest.rest.now
