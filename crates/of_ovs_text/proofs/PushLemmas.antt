@@ -1,7 +1,12 @@
 -- Words behind words.
-use Rattle.std.proofs.Common.{◌≡◌, ℕ, List, ◌++◌, Result, Ok, Err, ap, ◌∙◌, append_assoc}
+use Rattle.std.proofs.Common.{◌≡◌, ℕ, ◌<◌, List, [], ◌++◌, length, Result, Ok, Err, sym, ap, ◌∙◌, append_assoc}
+use Rattle.std.proofs.lemmas.List.{append-nil}
 use Rattle.std.specs.Prelude.{OnOk, if◌then◌else◌}
 use Rattle.std.specs.Result.{is_ok}
+use Rattle.std.specs.List.{flat_map}
+use Rattle.of_text.specs.Lines.{before, lines_of}
+use Rattle.of_text.specs.Lines.{behind as behind_end}
+use Rattle.of_text.proofs.TextLemmas.{first_line}
 
 -- one part more behind the words so far
 pub behind : (out words part mid new : List ℕ) → mid ≡ out ++ words → new ≡ mid ++ part → new ≡ out ++ (words ++ part)
@@ -15,3 +20,15 @@ ends (Err e) out words part mid new m n = tt
 pub last_part : {E : Type 0} (r : Result Unit E) (mid part new : List ℕ) → new ≡ (if is_ok r then mid ++ part else mid) → OnOk r (new ≡ mid ++ part)
 last_part (Ok x) mid part new n = n
 last_part (Err e) mid part new n = tt
+
+-- ---- the lines of a text, one after the other
+
+pub one_line : (f : List ℕ → List ℕ) (out new rest line after all : List ℕ) → 0 < length rest → line ≡ before 10 rest → after ≡ behind_end 10 rest → new ≡ out ++ f line → out ++ flat_map f (lines_of rest) ≡ all → new ++ flat_map f (lines_of after) ≡ all
+one_line f out new rest line after all h l a n so_far =
+    rw (n, l, a)
+    (append_assoc out (f (before 10 rest)) (flat_map f (lines_of (behind_end 10 rest)))
+    ∙ (ap (λ (xs : List ℕ). out ++ xs) (sym (ap (flat_map f) (first_line rest h))) ∙ so_far))
+
+pub no_line : (f : List ℕ → List ℕ) (out rest all : List ℕ) → rest ≡ [] → out ++ flat_map f (lines_of rest) ≡ all → out ≡ all
+unfolding lines_of
+no_line f out rest all none so_far = sym (append-nil out) ∙ (rw none at so_far)

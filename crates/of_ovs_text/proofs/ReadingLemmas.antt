@@ -16,6 +16,7 @@ use Rattle.of_import.specs.Kept.{Kept, flows_in, groups_in}
 use Rattle.of_import.specs.KeptViews.{view_refusal}
 use Rattle.of_import.specs.ParsedLines.{FlowAt}
 use Rattle.of_import.specs.ParsedLinesViews.{view_faults}
+use Rattle.of_ovs_text.specs.Lengths.{with_used_lengths}
 use Rattle.of_ovs_text.specs.Lines.{IsReadAgain, whole_file}
 
 text_of_config : (gs : List (ℕ × TextGroup)) (fs : List FlowAt) (c : Configuration) → IsConfigOf gs fs c → config_text c ≡ groups_and_flows_text (groups_in gs) (all_flows (tables_of_flows (flows_in fs)))
@@ -59,10 +60,10 @@ not_both : (a b : Bool) → false ≡ (a && b) → a ≡ true → b ≡ true →
 not_both a b e x y = let h : false ≡ true = e ∙ rw (x, y) refl in cc
 
 -- the test of the text says whether the lines are read again
-pub answered : (text : List ℕ) (c : Configuration) (found wanted : List ℕ) (faults : List LineFaults) (refused : List LineRefusal) (changed : ℕ) (b : Bool) → IsImportText (lines_of text) whole_file found faults refused changed → wanted ≡ config_text c → b ≡ (bytes_eq found wanted && (changed == 0)) → IsReadAgain text c b
+pub answered : (text : List ℕ) (c : Configuration) (found wanted : List ℕ) (faults : List LineFaults) (refused : List LineRefusal) (changed : ℕ) (b : Bool) → IsImportText (lines_of text) whole_file found faults refused changed → wanted ≡ with_used_lengths (config_text c) → b ≡ (bytes_eq found wanted && (changed == 0)) → IsReadAgain text c b
 answered text c found wanted faults refused changed true i w t =
     let h : (bytes_eq found wanted ≡ true) × ((changed == 0) ≡ true) = both (bytes_eq found wanted) (changed == 0) t in
-    read_again (lines_of text) found (config_text c) faults refused changed i ((bytes_eq-Decides found wanted).0 h.0 ∙ w) ((Decides-eqb changed 0).0 h.1)
+    read_again (lines_of text) found (with_used_lengths (config_text c)) faults refused changed i ((bytes_eq-Decides found wanted).0 h.0 ∙ w) ((Decides-eqb changed 0).0 h.1)
 answered text c found wanted faults refused changed false i w t = λ j.
-    let h : (found ≡ config_text c) × (changed ≡ 0) = other_text (lines_of text) found (config_text c) faults refused changed i j in
+    let h : (found ≡ with_used_lengths (config_text c)) × (changed ≡ 0) = other_text (lines_of text) found (with_used_lengths (config_text c)) faults refused changed i j in
     not_both (bytes_eq found wanted) (changed == 0) t ((bytes_eq-Decides found wanted).1 (h.0 ∙ sym w)) ((Decides-eqb changed 0).1 h.1)

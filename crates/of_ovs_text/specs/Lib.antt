@@ -3,4 +3,5 @@ pub mod Fields
 pub mod Actions
 pub mod Flows
 pub mod Groups
+pub mod Lengths
 pub mod Lines

@@ -8,6 +8,7 @@ use Rattle.of_import.specs.declared.mode.Mode.{Mode}
 use Rattle.of_import.specs.Imports.{IsImportText}
 use Rattle.of_ovs_text.specs.Flows.{flow_line}
 use Rattle.of_ovs_text.specs.Groups.{group_line}
+use Rattle.of_ovs_text.specs.Lengths.{with_used_lengths}
 
 -- the flows of the first k tables
 unfoldable pub flow_lines_below : ℕ → Configuration → List ℕ
@@ -22,9 +23,10 @@ ovs_text_of c = flat_map group_line c.groups ++ flow_lines_below 16 c
 abbrev pub whole_file : Mode
 whole_file = record { skip = false; renumber = false }
 
--- IMPORT READS THE LINES AS THIS CONFIGURATION: it gives the flow text of the configuration, refuses no line, and leaves no action out
+-- IMPORT READS THE LINES AS THIS CONFIGURATION: it gives the flow text of the configuration, in which OUTPUT has a max_len only for CONTROLLER,
+-- refuses no line, and leaves no action out
 abbrev pub ImportReads : List ℕ → Configuration → Type 0
-ImportReads text c = IsImportText (lines_of text) whole_file (config_text c) [] [] 0
+ImportReads text c = IsImportText (lines_of text) whole_file (with_used_lengths (config_text c)) [] [] 0
 
 abbrev pub IsReadAgain : List ℕ → Configuration → Bool → Type 0
 IsReadAgain text c true = ImportReads text c

@@ -5,6 +5,7 @@ mod actions;
 mod fields;
 mod flows;
 mod groups;
+mod lengths;
 mod lines;
 mod parts;
 
