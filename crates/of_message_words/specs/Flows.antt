@@ -18,7 +18,7 @@ use Rattle.of_ovs_words.specs.Words.{word_name, words_from}
 use Rattle.of_import.specs.LineContents as contents
 use Rattle.of_import.specs.LineContents.{LineContent, parsed_line}
 use Rattle.of_message_words.specs.Cutting.{behind_command, leading_word}
-use Rattle.of_message_words.specs.Reasons.{BytesOrReason, Faults, Refused, Missing, reason_of_refusal}
+use Rattle.of_message_words.specs.Reasons.{BytesOrReason, Faults, Refused, reason_of_refusal, reason_of_word}
 
 -- what a line says, none of whose words may be left out
 abbrev pub content_of_line : List ℕ → LineContent
@@ -71,7 +71,7 @@ flow_mod_said xid command table f = flow_mod_unless (lone_refusal (without_instr
 abbrev pub flow_content_said : ℕ → FlowModCommand → List ℕ → LineContent → BytesOrReason
 flow_content_said xid command words (contents.Flow f marks) = flow_mod_said xid command (table_said command words f) f
 flow_content_said xid command words (contents.Refused faults) = Err (Faults faults)
-flow_content_said xid command words other = Err Missing
+flow_content_said xid command words other = Err (reason_of_word words)
 
 abbrev pub commanded_flow : ℕ → FlowModCommand × List ℕ → BytesOrReason
 commanded_flow xid c = flow_content_said xid c.0 c.1 (content_of_line (flow_mod_line c.0 c.1))

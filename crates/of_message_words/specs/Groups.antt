@@ -21,7 +21,7 @@ use Rattle.of_message_words.specs.declared.group.Command.{Command}
 use Rattle.of_message_words.specs.declared.group.Command.TheVariants.{Add, Modify, Delete}
 use Rattle.of_message_words.specs.Cutting.{behind_command, leading_word}
 use Rattle.of_message_words.specs.Flows.{content_of_line}
-use Rattle.of_message_words.specs.Reasons.{BytesOrReason, Faults, Missing, Word, reason_of_refusal}
+use Rattle.of_message_words.specs.Reasons.{BytesOrReason, Faults, reason_of_refusal, reason_of_word}
 
 -- OFPGC_*
 unfoldable pub group_command_named : List ℕ → Option Command
@@ -48,10 +48,10 @@ group_mod_said xid command g =
     if are_fit (buckets_of g) then Ok (group_mod_bytes xid command (kind_number g.head.kind) g.head.id (canonical_buckets (buckets_of g)))
     else Err (reason_of_refusal (group_refusal g))
 
-abbrev pub group_content_said : ℕ → ℕ → LineContent → BytesOrReason
-group_content_said xid command (contents.Group g) = group_mod_said xid command g
-group_content_said xid command (contents.Refused faults) = Err (Faults faults)
-group_content_said xid command other = Err Missing
+abbrev pub group_content_said : ℕ → ℕ → List ℕ → LineContent → BytesOrReason
+group_content_said xid command words (contents.Group g) = group_mod_said xid command g
+group_content_said xid command words (contents.Refused faults) = Err (Faults faults)
+group_content_said xid command words other = Err (reason_of_word words)
 
 -- the number of a group: group_id=N, or all
 unfoldable pub group_number_in : List ℕ → Option ℕ
@@ -63,11 +63,11 @@ group_number_in word =
 -- its type is not read (6.5)
 abbrev pub delete_said : ℕ → Option ℕ → List ℕ → BytesOrReason
 delete_said xid (Some id) word = Ok (group_mod_bytes xid 2 0 id [])
-delete_said xid None word = Err (Word word)
+delete_said xid None word = Err (reason_of_word word)
 
 abbrev pub commanded_group : ℕ → Command → List ℕ → BytesOrReason
-commanded_group xid Add words = group_content_said xid 0 (content_of_line words)
-commanded_group xid Modify words = group_content_said xid 1 (content_of_line words)
+commanded_group xid Add words = group_content_said xid 0 words (content_of_line words)
+commanded_group xid Modify words = group_content_said xid 1 words (content_of_line words)
 commanded_group xid Delete words = delete_said xid (group_number_in words) words
 
 -- [COMMAND] WORDS

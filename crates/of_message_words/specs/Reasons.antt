@@ -1,5 +1,5 @@
 -- WHY WORDS SAY NO MESSAGE, and what a reader of words returned.
-use Rattle.std.specs.Prelude.{◌≡◌, ℕ, List, Option, Some, None, map, Result, Ok, Err}
+use Rattle.std.specs.Prelude.{◌≡◌, ℕ, ◌==◌, List, length, Option, Some, None, map, Result, Ok, Err, if◌then◌else◌}
 use Rattle.of_wire.specs.declared.code.Code.{Code}
 use Rattle.of_import.specs.PartialFlows.{Refusal}
 use Rattle.of_import.specs.PartialFlowViews.{view_word_fault}
@@ -30,6 +30,10 @@ HasReason is_reason errors.Missing = is_reason Missing
 abbrev pub SaysOrFails : {V : Type 0} → Result V NoMessage → Result V Reason → Type 0
 SaysOrFails (Ok value) said = said ≡ Ok value
 SaysOrFails (Err e) said = HasReason (λ reason. said ≡ Err reason) e
+
+-- a word that is refused; if it is empty, a word is missing
+abbrev pub reason_of_word : List ℕ → Reason
+reason_of_word word = if length word == 0 then Missing else Word word
 
 -- the refusal of a switch, if there is one
 abbrev pub reason_of_refusal : Option Code → Reason

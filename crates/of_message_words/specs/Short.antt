@@ -8,7 +8,7 @@ use Rattle.of_messages.specs.Written.{message}
 use Rattle.of_ovs_words.specs.Numbers.{number_in}
 use Rattle.of_ovs_words.specs.Words.{word_name, word_value}
 use Rattle.of_message_words.specs.Cutting.{after_leading, leading_word}
-use Rattle.of_message_words.specs.Reasons.{BytesOrReason, Word}
+use Rattle.of_message_words.specs.Reasons.{BytesOrReason, reason_of_word}
 
 -- the type of the messages of a kind that have no content (OpenFlow 1.3.5, 7.5.1, 7.5.2, 7.3.1, 7.3.2 and 7.3.8)
 unfoldable pub bare_type : List ℕ → Option ℕ
@@ -21,7 +21,7 @@ bare_type kind =
     else None
 
 unfoldable pub bare_words_said : ℕ → ℕ → List ℕ → BytesOrReason
-bare_words_said xid type rest = if length rest == 0 then Ok (message type xid []) else Err (Word rest)
+bare_words_said xid type rest = if length rest == 0 then Ok (message type xid []) else Err (reason_of_word rest)
 
 -- OFPCR_ROLE_* (7.3.9)
 unfoldable pub role_named : List ℕ → Option ℕ
@@ -38,8 +38,8 @@ generation_in word = if length word == 0 then Some 0 else number_in (2 ^ 64) wor
 
 abbrev pub role_request : ℕ → Option ℕ → Option ℕ → List ℕ → BytesOrReason
 role_request xid (Some role) (Some generation) rest = Ok (message ROLE_REQUEST xid (written tables.role (role ∷ generation ∷ [])))
-role_request xid (Some role) None rest = Err (Word (after_leading rest))
-role_request xid None generation rest = Err (Word (leading_word rest))
+role_request xid (Some role) None rest = Err (reason_of_word (after_leading rest))
+role_request xid None generation rest = Err (reason_of_word (leading_word rest))
 
 -- ROLE [GENERATION_ID]
 unfoldable pub role_words_said : ℕ → List ℕ → BytesOrReason
@@ -47,7 +47,7 @@ role_words_said xid rest = role_request xid (role_named (leading_word rest)) (ge
 
 abbrev pub set_config : ℕ → Option ℕ → List ℕ → BytesOrReason
 set_config xid (Some miss_send_len) word = Ok (message SET_CONFIG xid (written tables.switch_config (0 ∷ miss_send_len ∷ [])))
-set_config xid None word = Err (Word word)
+set_config xid None word = Err (reason_of_word word)
 
 -- miss_send_len=N, without flags (7.3.2)
 unfoldable pub config_words_said : ℕ → List ℕ → BytesOrReason

@@ -2,14 +2,13 @@
 ghost use Rattle.std.specs.Prelude.{◌≡◌, [], true, false, None, IfOk, IfErr, IfSome, IfNone, OnOk, map};
 ghost use Rattle.of_actions.specs.InstructionLists.{are_kept, is_served_body};
 ghost use Rattle.of_actions.specs.Supported.{are_supported};
-ghost use Rattle.of_actions.specs.declared.instruction.Instruction.TheVariants.{Apply, Write};
 ghost use Rattle.of_text.specs.Views.{view, view_instruction};
 ghost use Rattle.of_import.specs.LineContentViews.{view_line_content};
 ghost use Rattle.of_import.specs.Sound.{IsSoundContent, IsSoundFlow};
 ghost use Rattle.of_message_words.specs.Flows.{flow_command, flow_command_named, flow_content_said, flow_mod_line, commanded_flow_mod, flow_mod_said, flow_words_said, has_table_word, lone_refusal, table_said, without_instructions};
 ghost use Rattle.of_message_words.specs.Reasons.{FailsBy, SaysOrFails, error_of_refusal};
 
-use crate::cutting::cut_first;
+use crate::cutting::{cut_first, refuse_word};
 use crate::no_message::NoMessage;
 use of_actions::{Action, ActionList, Instruction, InstructionList};
 use of_import::{LineContent, Mode, read_line};
@@ -98,35 +97,21 @@ fn list_of(actions: &Vec<Action>) -> Result<Option<ActionList>, AllocError>
     Ok(ActionList::new(copy_of(actions)?))
 }
 
-fn apply_of(actions: &Vec<Action>) -> Result<Option<Instruction>, AllocError>
-    ensures some { IfOk result (λ i. IfSome i (λ x. x ≡ Apply actions.now.items)) }
-    ensures none { IfOk result (λ i. IfNone i (are_supported false actions.now.items ≡ false)) }
-{
-    match list_of(actions)? {
-        Some(list) => Ok(Some(Instruction::Apply(list))),
-        None => Ok(None),
-    }
-}
-
-fn write_of(actions: &Vec<Action>) -> Result<Option<Instruction>, AllocError>
-    ensures some { IfOk result (λ i. IfSome i (λ x. x ≡ Write actions.now.items)) }
-    ensures none { IfOk result (λ i. IfNone i (are_supported false actions.now.items ≡ false)) }
-{
-    match list_of(actions)? {
-        Some(list) => Ok(Some(Instruction::Write(list))),
-        None => Ok(None),
-    }
-}
-
 // The instruction, if its actions are supported.
 fn instruction_of(text: &InstructionText) -> Result<Option<Instruction>, AllocError>
     ensures some { IfOk result (λ i. IfSome i (λ x. x ≡ view_instruction text.now)) }
     ensures none { IfOk result (λ i. IfNone i (is_served_body (view_instruction text.now) ≡ false)) }
 {
     match text {
-        InstructionText::Apply(actions) => apply_of(actions),
+        InstructionText::Apply(actions) => match list_of(actions)? {
+            Some(list) => Ok(Some(Instruction::Apply(list))),
+            None => Ok(None),
+        },
         InstructionText::Clear => Ok(Some(Instruction::Clear)),
-        InstructionText::Write(actions) => write_of(actions),
+        InstructionText::Write(actions) => match list_of(actions)? {
+            Some(list) => Ok(Some(Instruction::Write(list))),
+            None => Ok(None),
+        },
         InstructionText::Metadata { value, mask } => Ok(Some(Instruction::Metadata {
             value: *value,
             mask: *mask,
@@ -267,7 +252,7 @@ fn flow_content(
             &flow,
         ),
         LineContent::Refused(faults) => Err(NoMessage::Faults(faults)),
-        LineContent::Nothing | LineContent::Group(_) => Err(NoMessage::Missing),
+        LineContent::Nothing | LineContent::Group(_) => refuse_word(alloc, words),
     }
 }
 

@@ -12,7 +12,7 @@ ghost use Rattle.of_message_words.specs.Flows.{content_of_line};
 ghost use Rattle.of_message_words.specs.Groups.{delete_said, group_command, group_command_named, group_content_said, group_number_in, group_mod_bytes, group_mod_said, group_refusal, group_words_said};
 ghost use Rattle.of_message_words.specs.Reasons.{SaysOrFails, error_of_refusal};
 
-use crate::cutting::cut_first;
+use crate::cutting::{cut_first, refuse_word};
 use crate::flow::{MODE, instructions_of};
 use crate::no_message::NoMessage;
 use crate::writing::message_of;
@@ -146,23 +146,24 @@ fn group_content(
     alloc: Global,
     xid: u32,
     command: u8,
+    words: &[u8],
     content: LineContent,
 ) -> Result<Bytes, NoMessage>
     requires { IsSoundContent content }
-    ensures { SaysOrFails result (group_content_said xid command (view_line_content content)) }
+    ensures { SaysOrFails result (group_content_said xid command words.now (view_line_content content)) }
 {
     match content {
         LineContent::Group(group) => with_buckets(alloc, xid, command, group),
         LineContent::Refused(faults) => Err(NoMessage::Faults(faults)),
-        LineContent::Nothing | LineContent::Flow(..) => Err(NoMessage::Missing),
+        LineContent::Nothing | LineContent::Flow(..) => refuse_word(alloc, words),
     }
 }
 
-fn change_message(alloc: Global, xid: u32, command: u8, line: &[u8]) -> Result<Bytes, NoMessage>
-    ensures { SaysOrFails result (group_content_said xid command (content_of_line line.now)) }
+fn change_message(alloc: Global, xid: u32, command: u8, words: &[u8]) -> Result<Bytes, NoMessage>
+    ensures { SaysOrFails result (group_content_said xid command words.now (content_of_line words.now)) }
 {
-    let content = read_line(alloc, MODE, &[], line)?;
-    group_content(alloc, xid, command, content)
+    let content = read_line(alloc, MODE, &[], words)?;
+    group_content(alloc, xid, command, words, content)
 }
 
 // The number of a group in words: `group_id=N`, or `all`.
@@ -188,7 +189,7 @@ fn delete_message(alloc: Global, xid: u32, word: &[u8]) -> Result<Bytes, NoMessa
 {
     match group_in(word) {
         Some(id) => Ok(group_mod(alloc, xid, 2, 0, id, &[])?),
-        None => Err(NoMessage::Word(word.to_vec(alloc)?)),
+        None => refuse_word(alloc, word),
     }
 }
 

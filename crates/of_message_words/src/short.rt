@@ -6,7 +6,7 @@ ghost use Rattle.of_messages.specs.Written.{message};
 ghost use Rattle.of_message_words.specs.Short.{bare_type, role_named, role_words_said, generation_in, bare_words_said, config_words_said};
 ghost use Rattle.of_message_words.specs.Reasons.{SaysOrFails};
 
-use crate::cutting::cut_first;
+use crate::cutting::{cut_first, refuse_word};
 use crate::no_message::NoMessage;
 use crate::writing::message_of;
 use of_formats::messages::{
@@ -44,7 +44,7 @@ pub fn bare_message(alloc: Global, xid: u32, kind: u8, rest: &[u8]) -> Result<By
     ensures { SaysOrFails result (bare_words_said xid kind rest.now) }
 {
     if !rest.is_empty() {
-        return Err(NoMessage::Word(rest.to_vec(alloc)?));
+        return refuse_word(alloc, rest);
     }
     Ok(message_of(alloc, kind, xid, &[])?)
 }
@@ -98,10 +98,10 @@ pub fn role_message(alloc: Global, xid: u32, rest: &[u8]) -> Result<Bytes, NoMes
 {
     let (word, generation) = cut_first(rest);
     let Some(role) = role_number(word) else {
-        return Err(NoMessage::Word(word.to_vec(alloc)?));
+        return refuse_word(alloc, word);
     };
     let Some(generation_id) = generation_of(generation) else {
-        return Err(NoMessage::Word(generation.to_vec(alloc)?));
+        return refuse_word(alloc, generation);
     };
     Ok(role_request(alloc, xid, role, generation_id)?)
 }
@@ -125,5 +125,5 @@ pub fn config_message(alloc: Global, xid: u32, word: &[u8]) -> Result<Bytes, NoM
     {
         return Ok(set_config(alloc, xid, length as u16)?);
     }
-    Err(NoMessage::Word(word.to_vec(alloc)?))
+    refuse_word(alloc, word)
 }
