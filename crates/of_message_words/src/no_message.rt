@@ -4,7 +4,7 @@ ghost use Rattle.of_message_words.specs.declared.no_message.NoMessage.TheVariant
 
 use of_import::WordFault;
 use of_wire::Code;
-use std::alloc::{AllocError, Global};
+use std::alloc::AllocError;
 use thiserror::Error;
 
 /// Why words say no message.

@@ -1,11 +1,9 @@
 //! PACKET_OUT in words.
-ghost use Rattle.std.specs.Prelude.{◌≡◌, ◌≤◌, length, IfOk, IfErr, OnOk, Ok, Err, map};
+ghost use Rattle.std.specs.Prelude.{◌≡◌, ◌≤◌, length, IfOk, OnOk, map};
 ghost use Rattle.std.specs.Option.{option_map};
 ghost use Rattle.hex.specs.Hex.{decode_of};
 ghost use Rattle.of_text.specs.Views.{view, view_instruction};
 ghost use Rattle.of_import.specs.LineContentViews.{view_line_content};
-ghost use Rattle.of_import.specs.Sound.{IsSoundContent, IsSoundFlow};
-ghost use Rattle.of_message_words.specs.Flows.{content_of_line};
 ghost use Rattle.of_message_words.specs.PacketOuts.{actions_by, applied_actions, ingress_by, lone_ingress, packet_by, packet_content_said, packet_of_flow, packet_out_bytes, packet_words_said, packet_out_words, with_packet_word};
 ghost use Rattle.of_message_words.specs.PacketViews.{view_packet_words};
 ghost use Rattle.of_message_words.specs.Reasons.{SaysOrFails};
