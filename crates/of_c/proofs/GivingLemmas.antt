@@ -1,5 +1,5 @@
 -- What a call gives, from what its parts say.
-use Rattle.std.proofs.Common.{◌≡◌, ◌∙◌, ℕ, List, [], Some, None, Result, Bool, length, map, ap, sym, refl, subst, inl}
+use Rattle.std.proofs.Common.{◌≡◌, false, ◌∙◌, ℕ, List, [], Some, None, Result, Bool, length, map, ap, sym, refl, subst, inl}
 use Rattle.std.specs.Global.{Vec}
 use Rattle.std.specs.List.{AllByRecursion}
 use Rattle.of_values.specs.declared.origins.Origin.{Origin}
