@@ -200,15 +200,20 @@ def test_what_makes_no_row_is_a_value_error(switch, call):
     assert switch.connect() != []
 
 
-@pytest.mark.parametrize("value", ["0400", 8, None, [4, 0]])
+@pytest.mark.parametrize("value", [8, None, [4, 0]])
 def test_what_has_no_bytes_is_a_type_error(switch, value):
     with pytest.raises(TypeError):
         switch.feed(value)
-    if not isinstance(value, str):
-        with pytest.raises(TypeError):
-            switch.frame(1, value)
+    with pytest.raises(TypeError):
+        switch.frame(1, value)
     with pytest.raises(TypeError):
         switch.frame("1", FRAME)
+    assert switch.log == ""
+
+
+def test_digits_are_no_words_of_a_message(switch):
+    with pytest.raises(ValueError, match="bad message: 0400"):
+        switch.feed("0400")
     assert switch.log == ""
 
 
