@@ -1,6 +1,7 @@
 //! Standard output: in color where it is a terminal, and quiet when its reader has gone.
 ghost use Rattle.std.specs.Io.{WritesAtMost};
 
+use crate::progress::Progress;
 use of_colors::paint;
 use of_command_line::{CheckOutput, Colors, CommandLine, Request};
 use of_hints::{OutputReader, Stream};
@@ -11,6 +12,8 @@ use std::io::{self, IsTerminal, Write};
 #[derive(Drop)]
 pub struct Screen<'r> {
     pub rt: &'r HostRuntime,
+    /// What the run does, until it prints.
+    pub progress: Progress<'r>,
     is_colored: bool,
     reader: OutputReader,
 }
@@ -40,6 +43,7 @@ impl<'r> Screen<'r> {
     pub fn plain(rt: &'r HostRuntime) -> Self {
         Screen {
             rt,
+            progress: Progress::new(rt),
             is_colored: false,
             reader: OutputReader::new(),
         }
@@ -54,6 +58,7 @@ impl<'r> Screen<'r> {
         };
         Screen {
             rt,
+            progress: Progress::new(rt),
             is_colored: is_wanted && is_in_words(&line.request),
             reader: OutputReader::new(),
         }
@@ -97,6 +102,7 @@ pub struct Report<'s, 'r> {
 
 impl Write for Report<'_, '_> {
     fn write(&mut self, buf: &[u8]) -> io::Result<usize> {
+        self.screen.progress.end();
         let reader = &self.screen.reader;
         if reader.has_gone() {
             return Ok(buf.len());
