@@ -6,7 +6,7 @@ ghost use Rattle.of_live.specs.Ends.{Lives};
 use crate::state::Live;
 use crate::work::Work;
 use of_classifier::Lookup;
-use of_network::Network;
+use crate::Network;
 use of_replay::{Ended, Halt, READ_SIZE, ended_by, zeros};
 use std::alloc::Global;
 

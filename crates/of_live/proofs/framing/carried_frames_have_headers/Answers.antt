@@ -1,5 +1,5 @@
-use Rattle.of_network.proofs.HeaderLemmas.{begins, read}
-use Rattle.of_network.proofs.laws.carried_frames_have_headers.Goals as goal
+use Rattle.of_live.proofs.HeaderLemmas.{begins, read}
+use Rattle.of_live.proofs.framing.carried_frames_have_headers.Goals as goal
 
 pub returns-clause-begins : goal.returns-clause-begins
 returns-clause-begins c = begins

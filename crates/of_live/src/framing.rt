@@ -1,6 +1,6 @@
 //! Laws of the header.
 ghost use Rattle.std.specs.Prelude.{◌≡◌, ◌<◌, ◌^◌, ◌++◌, ℕ, List, Some};
-ghost use Rattle.of_network.specs.Header.{BeginsWithHeader, Encapsulated, carried, sent_header};
+ghost use Rattle.of_live.specs.Header.{BeginsWithHeader, Encapsulated, carried, sent_header};
 
 /// A header as it is written, before any frame, is read as its network and that frame.
 pub fn written_headers_are_read()

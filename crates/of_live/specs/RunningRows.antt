@@ -2,8 +2,8 @@
 use Rattle.std.specs.Prelude.{Option, Some, None}
 use Rattle.of_switch.specs.declared.event.Event.{Event}
 use Rattle.of_switch.specs.declared.event.Event.TheVariants.{Frame, Ports}
-use Rattle.of_network.specs.declared.running_rows.RunningRow.{RunningRow}
-use Rattle.of_network.specs.declared.running_rows.RunningRow.TheVariants.{Happens, Skipped, Bad}
+use Rattle.of_live.specs.declared.running_rows.RunningRow.{RunningRow}
+use Rattle.of_live.specs.declared.running_rows.RunningRow.TheVariants.{Happens, Skipped, Bad}
 
 -- what a line is, of which an event file would have this row: an empty line or a comment, an event, or a bad row
 abbrev pub running_row : Option (Option Event) → RunningRow

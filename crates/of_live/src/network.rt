@@ -1,7 +1,7 @@
 //! The network of a switch: a clock, datagrams, one connection with a controller, and a log.
 ghost use Rattle.std.specs.Prelude.{◌≡◌, ◌<◌, ◌≤◌, ◌++◌, ◌∷◌, ℕ, Bool, List, [], Option, length};
-ghost use Rattle.of_network.specs.Acts.{Act, Records, Told, Drops, Logs, Sends, Writes, Closes};
-ghost use Rattle.of_network.specs.Inputs.{IsInput, came_of, is_fault as is_fault_by, is_opened as is_opened_by, is_ready as is_ready_by};
+ghost use Rattle.of_live.specs.Acts.{Act, Records, Told, Drops, Logs, Sends, Writes, Closes};
+ghost use Rattle.of_live.specs.Inputs.{IsInput, came_of, is_fault as is_fault_by, is_opened as is_opened_by, is_ready as is_ready_by};
 
 use of_switch::Event;
 

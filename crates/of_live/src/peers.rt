@@ -2,7 +2,7 @@
 ghost use Rattle.std.specs.Prelude.{◌≡◌, ◌==◌, map, OnOk, OnErr};
 ghost use Rattle.std.specs.List.{list_any};
 ghost use Rattle.std.specs.Option.{option_copied, option_map};
-ghost use Rattle.of_network.specs.Peers.{heard_from, may_be_from as may, peer_moved as moved_to, peer_of as found};
+ghost use Rattle.of_live.specs.Peers.{heard_from, may_be_from as may, peer_moved as moved_to, peer_of as found};
 
 use crate::network::Endpoint;
 use std::alloc::AllocError;

@@ -1,7 +1,7 @@
 //! Event rows that are written while the switch runs.
 ghost use Rattle.std.specs.Prelude.{◌≡◌, Some, IfOk};
 ghost use Rattle.of_replay.specs.Rows.{row_of_line, with_bytes};
-ghost use Rattle.of_network.specs.RunningRows.{running_row};
+ghost use Rattle.of_live.specs.RunningRows.{running_row};
 
 use of_replay::{Row, read_row};
 use of_switch::Event;

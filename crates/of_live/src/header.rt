@@ -1,7 +1,7 @@
 //! The header of VXLAN.
 ghost use Rattle.std.specs.Prelude.{◌≡◌, ◌<◌, ◌^◌};
 ghost use Rattle.std.specs.Option.{option_map};
-ghost use Rattle.of_network.specs.Header.{carried, sent_header};
+ghost use Rattle.of_live.specs.Header.{carried, sent_header};
 
 use byteorder::{BigEndian, ByteOrder};
 

@@ -3,7 +3,7 @@ use Rattle.std.proofs.Common.{arith, refl, ◌≡◌, ◌<◌, ℕ, List, [], �
 use Rattle.std.specs.Prelude.{◌==◌, ◌||◌, if◌then◌else◌}
 use Rattle.std.proofs.lemmas.Grind.{common_steps}
 use Rattle.byteorder.specs.Endian.{big_number}
-use Rattle.of_network.specs.Header.{BeginsWithHeader, Encapsulated, carried, has_vni, vxlan_header}
+use Rattle.of_live.specs.Header.{BeginsWithHeader, Encapsulated, carried, has_vni, vxlan_header}
 
 kept : {A : Type 0} (test : Bool) (x y : A) → (if test then None else Some x) ≡ Some y → (test ≡ false) × (x ≡ y)
 kept true x y e = grind (arith)
