@@ -7,9 +7,9 @@ use Rattle.of_layers.specs.Fields.{all_fields}
 use Rattle.of_layers.specs.Reading.{layers_of}
 use Rattle.of_headers.specs.FieldMap.{field_map}
 use Rattle.of_rewrite.specs.TimeToLive.{ttl_of}
-use Rattle.of_changes.specs.declared.altered.Change.{Change}
-use Rattle.of_changes.specs.declared.altered.Property.{Property}
-use Rattle.of_changes.specs.declared.altered.Property.TheVariants.{InField, TimeToLive}
+use Rattle.of_json.specs.declared.altered.Change.{Change}
+use Rattle.of_json.specs.declared.altered.Property.{Property}
+use Rattle.of_json.specs.declared.altered.Property.TheVariants.{InField, TimeToLive}
 
 -- a value, where a frame may have none
 abbrev pub is_other : Option ℕ → Option ℕ → Bool

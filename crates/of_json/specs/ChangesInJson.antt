@@ -3,10 +3,10 @@ use Rattle.std.specs.Prelude.{ℕ, List, ◌∷◌, ◌++◌, [], codes, Option,
 use Rattle.of_machine.specs.declared.data.Item.{Item}
 use Rattle.of_json.specs.Parts.{key, listed, quoted}
 use Rattle.of_json.specs.Strings.{array_member}
-use Rattle.of_changes.specs.declared.altered.Change.{Change}
-use Rattle.of_changes.specs.declared.altered.Property.{Property}
-use Rattle.of_changes.specs.Changes.{changes}
-use Rattle.of_changes.specs.ChangesInWords.{item_frame, property_name, property_value}
+use Rattle.of_json.specs.declared.altered.Change.{Change}
+use Rattle.of_json.specs.declared.altered.Property.{Property}
+use Rattle.of_json.specs.Changes.{changes}
+use Rattle.of_json.specs.ChangesInWords.{item_frame, property_name, property_value}
 
 -- null if the frame does not have it
 abbrev pub value_in_json : Property → Option ℕ → List ℕ

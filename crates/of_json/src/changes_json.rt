@@ -1,9 +1,9 @@
 //! What changed in what leaves a switch, as JSON.
 ghost use Rattle.std.specs.Prelude.{◌≡◌, ◌++◌, OnOk};
-ghost use Rattle.of_changes.specs.ChangesInJson.{changes_array, changes_member, value_change_object, value_in_json, value_member};
+ghost use Rattle.of_json.specs.ChangesInJson.{changes_array, changes_member, value_change_object, value_in_json, value_member};
 
 use crate::altered::{Change, Property, changes};
-use crate::words::{item_frame, name_of, push_property};
+use crate::changes_words::{item_frame, name_of, push_property};
 use of_json::{push_array_member, push_key, push_listed, push_quoted};
 use of_machine::Item;
 use std::alloc::{AllocError, Global};

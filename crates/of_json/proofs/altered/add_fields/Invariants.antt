@@ -1,9 +1,9 @@
 use Rattle.std.proofs.Common.{◌≡◌, ◌++◌, drop}
 use Rattle.std.specs.List.{flat_map}
 use Rattle.of_headers.specs.FieldMap.{value}
-use Rattle.of_changes.specs.Changes.{value_change}
-use Rattle.of_changes.specs.declared.altered.Property.TheVariants.{InField}
-use Rattle.of_changes.proofs.altered.add_fields.Given as goal
+use Rattle.of_json.specs.Changes.{value_change}
+use Rattle.of_json.specs.declared.altered.Property.TheVariants.{InField}
+use Rattle.of_json.proofs.altered.add_fields.Given as goal
 
 abbrev pub invariant-loop-field : goal.invariant-loop-field
 invariant-loop-field l =

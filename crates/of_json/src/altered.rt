@@ -4,8 +4,8 @@ ghost use Rattle.std.specs.List.{flat_map};
 ghost use Rattle.of_layers.specs.Reading.{layers_of};
 ghost use Rattle.of_headers.specs.FieldMap.{field_map, value};
 ghost use Rattle.of_rewrite.specs.TimeToLive.{ttl_of};
-ghost use Rattle.of_changes.specs.Changes.{value_change, changes as changes_from, changes_between, is_other as is_other_value, is_readable as has_headers};
-ghost use Rattle.of_changes.specs.declared.altered.Property.TheVariants.{InField};
+ghost use Rattle.of_json.specs.Changes.{value_change, changes as changes_from, changes_between, is_other as is_other_value, is_readable as has_headers};
+ghost use Rattle.of_json.specs.declared.altered.Property.TheVariants.{InField};
 
 use of_headers::{Field, FieldKey};
 use of_rewrite::Frame;

@@ -7,10 +7,10 @@ use Rattle.of_machine.specs.declared.data.Item.{Item}
 use Rattle.of_machine.specs.declared.data.Item.TheVariants.{PacketIn, Sent}
 use Rattle.of_json.specs.LeavingWords.{side_words}
 use Rattle.of_json.specs.Parts.{listed}
-use Rattle.of_changes.specs.declared.altered.Change.{Change}
-use Rattle.of_changes.specs.declared.altered.Property.{Property}
-use Rattle.of_changes.specs.declared.altered.Property.TheVariants.{InField, TimeToLive}
-use Rattle.of_changes.specs.Changes.{changes}
+use Rattle.of_json.specs.declared.altered.Change.{Change}
+use Rattle.of_json.specs.declared.altered.Property.{Property}
+use Rattle.of_json.specs.declared.altered.Property.TheVariants.{InField, TimeToLive}
+use Rattle.of_json.specs.Changes.{changes}
 
 -- ---- one change: ` ipv4_dst 10.0.0.1 -> 10.0.0.2`
 
