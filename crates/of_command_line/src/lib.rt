@@ -11,9 +11,11 @@ mod history;
 mod inputs;
 mod numbers;
 mod ovs_reading;
+mod painting;
 mod paths;
 mod port_list;
 mod received;
+mod rules;
 mod saying;
 mod serving;
 mod switch_file;
@@ -49,6 +51,7 @@ use std::net::{IpAddr, Net, SocketAddr, ToSocketAddrs};
 use std::str::FromStr;
 pub use switch_file::{FileKind, SwitchFile};
 use switch_file::{assembly_of, disassembly_of, switch_file_of};
+pub use painting::{Color, Part, paint};
 
 /// `trace --flows` and `live --ports` have ports 1 to this one at most.
 const LAST_PORT: u32 = 64;

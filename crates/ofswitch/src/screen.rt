@@ -2,8 +2,7 @@
 ghost use Rattle.std.specs.Io.{WritesAtMost};
 
 use crate::progress::Progress;
-use of_colors::paint;
-use of_command_line::{CheckOutput, Colors, CommandLine, Request};
+use of_command_line::{CheckOutput, Colors, CommandLine, Request, paint};
 use of_hints::{OutputReader, Stream};
 use of_replay::Ended;
 use std::io::{self, IsTerminal, Write};

@@ -1,9 +1,9 @@
 -- TEXTS WITH COLORS: the bytes of a text in their order, and around some parts of it sequences of SGR (ECMA-48, 8.3.117).
 use Rattle.std.specs.Prelude.{◌≡◌, ℕ, List, ◌∷◌, ◌++◌, codes, Option, Some, None}
 use Rattle.std.specs.List.{flat_map}
-use Rattle.of_colors.specs.declared.painting.Color.{Color}
-use Rattle.of_colors.specs.declared.painting.Color.TheVariants.{Red, Green, Yellow, Cyan}
-use Rattle.of_colors.specs.declared.painting.Part.{Part}
+use Rattle.of_command_line.specs.declared.painting.Color.{Color}
+use Rattle.of_command_line.specs.declared.painting.Color.TheVariants.{Red, Green, Yellow, Cyan}
+use Rattle.of_command_line.specs.declared.painting.Part.{Part}
 
 -- ESC [ 31 m and so on: the color of what follows
 abbrev pub color_on : Color → List ℕ

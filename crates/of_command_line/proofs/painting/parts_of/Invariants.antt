@@ -1,7 +1,7 @@
 use Rattle.std.proofs.Common.{◌≡◌, ◌++◌, length}
 use Rattle.std.specs.List.{flat_map}
-use Rattle.of_colors.specs.Painted.{without_color}
-use Rattle.of_colors.proofs.painting.parts_of.Given as goal
+use Rattle.of_command_line.specs.Painted.{without_color}
+use Rattle.of_command_line.proofs.painting.parts_of.Given as goal
 
 abbrev pub decreases-loop-rest : goal.decreases-loop-rest
 decreases-loop-rest l = length l.rest

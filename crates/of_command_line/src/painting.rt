@@ -1,7 +1,7 @@
 //! Texts with colors.
 ghost use Rattle.std.specs.Prelude.{◌≡◌, ◌<◌, ◌≤◌, ◌++◌, length, IfOk, OnOk};
 ghost use Rattle.std.specs.List.{flat_map};
-ghost use Rattle.of_colors.specs.Painted.{IsPainted, color_on, without_color, with_color};
+ghost use Rattle.of_command_line.specs.Painted.{IsPainted, color_on, without_color, with_color};
 
 use crate::rules::{length_of, rule_for};
 use std::alloc::{AllocError, Global};
