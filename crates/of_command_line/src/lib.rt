@@ -41,6 +41,7 @@ use of_frame_words::Refusal;
 use of_wire::limits::TABLES;
 pub use ovs_reading::OvsReading;
 use ovs_reading::ovs_reading_of;
+pub use painting::{Color, Part, paint};
 pub use paths::{Leading, PathsAsked};
 use paths::{paths_of, steps_of};
 use port_list::port_list_of;
@@ -51,7 +52,6 @@ use std::net::{IpAddr, Net, SocketAddr, ToSocketAddrs};
 use std::str::FromStr;
 pub use switch_file::{FileKind, SwitchFile};
 use switch_file::{assembly_of, disassembly_of, switch_file_of};
-pub use painting::{Color, Part, paint};
 
 /// `trace --flows` and `live --ports` have ports 1 to this one at most.
 const LAST_PORT: u32 = 64;

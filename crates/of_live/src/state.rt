@@ -15,11 +15,11 @@ ghost use Rattle.of_live.specs.Turns.{closes as closing_acts, dropped_in, droppe
 ghost use Rattle.of_live.specs.Working.{Does, Goes, HandlesMessages, Hears, Passes, Settles, asks_by, is_closing, offered_acts, offered_to, offers, logged_text};
 
 use crate::work::{Work, happen, happen_due, happen_frame};
-use of_classifier::Lookup;
 use crate::{
     Dropped, Endpoint, Input, Network, Peer, Wanted, Written, learn, may_send, peer_of,
     read_datagram,
 };
+use of_classifier::Lookup;
 use of_replay::Halt;
 use of_serve::Rows;
 use of_session::{Beginning, Stream};

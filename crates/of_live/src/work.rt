@@ -9,8 +9,8 @@ ghost use Rattle.of_live.specs.Acts.{Records};
 ghost use Rattle.of_live.specs.Turns.{sent_in, sent_to};
 ghost use Rattle.of_live.specs.Working.{Does, logged, logged_text};
 
-use of_classifier::Lookup;
 use crate::{Dropped, Network, Peer, peer_of, push_frame_row, push_row, write_header};
+use of_classifier::Lookup;
 use of_serve::{Rows, waits};
 use of_session::Stream;
 use of_switch::{Effect, Effects, Event, Report, Switch, SwitchError};
