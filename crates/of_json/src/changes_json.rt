@@ -4,7 +4,7 @@ ghost use Rattle.of_json.specs.ChangesInJson.{changes_array, changes_member, val
 
 use crate::altered::{Change, Property, changes};
 use crate::changes_words::{item_frame, name_of, push_property};
-use of_json::{push_array_member, push_key, push_listed, push_quoted};
+use crate::{push_array_member, push_key, push_listed, push_quoted};
 use of_machine::Item;
 use std::alloc::{AllocError, Global};
 

@@ -5,7 +5,7 @@ ghost use Rattle.of_json.specs.Changes.{changes as changes_from};
 ghost use Rattle.of_json.specs.ChangesInWords.{value_change_words, changed_line, changed_side_words, changed_sides, changed_values_words, count_next, first_line, item_frame as frame_in, is_said_before, item_words, next_words, property_name, property_value, sends_frame, value_there};
 
 use crate::altered::{Change, Property, changes};
-use of_json::{push_listed, push_side};
+use crate::{push_listed, push_side};
 use of_machine::Item;
 use of_text::is;
 use of_values::{push_decimal, push_value_words};
