@@ -19,7 +19,7 @@ use Rattle.of_text.proofs.TextLemmas.{all_front, all_both, flow_both, some_front
 use Rattle.of_text.proofs.ConfigLemmas.{IsWhole, rows_from, both_stand}
 use Rattle.of_text.proofs.EntryLemmas.{none_both, none_next, config_entries}
 use Rattle.of_text.proofs.FillLemmas.{table_at}
-use Rattle.of_import.specs.Sound.{IsSoundFlow}
+use Rattle.of_ovs_lines.specs.Sound.{IsSoundFlow}
 use Rattle.of_ovs_text.specs.MessageFlows.{lone_refusal, without_instructions}
 
 -- in order without its instructions

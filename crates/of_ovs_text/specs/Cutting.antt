@@ -1,7 +1,7 @@
 -- WORDS, ONE AFTER THE OTHER.
 use Rattle.std.specs.Prelude.{ℕ, List, Option, Some, None}
 use Rattle.of_ovs_words.specs.Words.{after_word, word_in}
-use Rattle.of_import.specs.LineContents.{trimmed}
+use Rattle.of_ovs_lines.specs.LineContents.{trimmed}
 
 abbrev pub leading_word : List ℕ → List ℕ
 leading_word text = word_in 0 (trimmed text)

@@ -15,8 +15,8 @@ use Rattle.of_messages.specs.Messages.{is_delete}
 use Rattle.of_messages.specs.Written.{flow_mod_bytes}
 use Rattle.of_build.specs.Listing.{add_of}
 use Rattle.of_ovs_words.specs.Words.{word_name, words_from}
-use Rattle.of_import.specs.LineContents as contents
-use Rattle.of_import.specs.LineContents.{LineContent, parsed_line}
+use Rattle.of_ovs_lines.specs.LineContents as contents
+use Rattle.of_ovs_lines.specs.LineContents.{LineContent, parsed_line}
 use Rattle.of_ovs_text.specs.Cutting.{behind_command, leading_word}
 use Rattle.of_ovs_text.specs.Reasons.{BytesOrReason, Faults, Refused, reason_of_refusal, reason_of_word}
 

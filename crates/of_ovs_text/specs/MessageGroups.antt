@@ -15,8 +15,8 @@ use Rattle.of_messages.specs.CanonicalGroups.{canonical_buckets}
 use Rattle.of_messages.specs.Written.{message}
 use Rattle.of_ovs_words.specs.Numbers.{number_in}
 use Rattle.of_ovs_words.specs.Words.{word_name, word_value}
-use Rattle.of_import.specs.LineContents as contents
-use Rattle.of_import.specs.LineContents.{LineContent}
+use Rattle.of_ovs_lines.specs.LineContents as contents
+use Rattle.of_ovs_lines.specs.LineContents.{LineContent}
 use Rattle.of_ovs_text.specs.declared.group.Command.{Command}
 use Rattle.of_ovs_text.specs.declared.group.Command.TheVariants.{Add, Modify, Delete}
 use Rattle.of_ovs_text.specs.Cutting.{behind_command, leading_word}

@@ -17,8 +17,8 @@ use Rattle.of_actions.specs.Supported.{are_supported}
 use Rattle.of_text.specs.Flows.{Flow}
 use Rattle.of_messages.specs.Written.{message}
 use Rattle.of_ovs_words.specs.Words.{word_name, word_value, words_from}
-use Rattle.of_import.specs.LineContents as contents
-use Rattle.of_import.specs.LineContents.{LineContent, with_words}
+use Rattle.of_ovs_lines.specs.LineContents as contents
+use Rattle.of_ovs_lines.specs.LineContents.{LineContent, with_words}
 use Rattle.of_ovs_text.specs.MessageFlows.{content_of_line, lone_refusal}
 use Rattle.of_ovs_text.specs.Reasons.{BytesOrReason, Faults, Missing, Word, reason_of_refusal}
 

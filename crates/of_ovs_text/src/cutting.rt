@@ -4,7 +4,7 @@ ghost use Rattle.of_ovs_text.specs.Cutting.{after_leading, leading_word};
 ghost use Rattle.of_ovs_text.specs.Reasons.{SaysOrFails, reason_of_word};
 
 use crate::no_message::NoMessage;
-use of_import::trimmed;
+use of_ovs_lines::trimmed;
 use of_ovs_words::cut_word;
 use of_wire::Bytes;
 use std::alloc::Global;

@@ -3,16 +3,16 @@ ghost use Rattle.std.specs.Prelude.{◌≡◌, [], true, false, None, IfOk, IfEr
 ghost use Rattle.of_actions.specs.InstructionLists.{are_kept, is_served_body};
 ghost use Rattle.of_actions.specs.Supported.{are_supported};
 ghost use Rattle.of_text.specs.Views.{view, view_instruction};
-ghost use Rattle.of_import.specs.LineContentViews.{view_line_content};
-ghost use Rattle.of_import.specs.Sound.{IsSoundContent, IsSoundFlow};
+ghost use Rattle.of_ovs_lines.specs.LineContentViews.{view_line_content};
+ghost use Rattle.of_ovs_lines.specs.Sound.{IsSoundContent, IsSoundFlow};
 ghost use Rattle.of_ovs_text.specs.MessageFlows.{flow_command, flow_command_named, flow_content_said, flow_mod_line, commanded_flow_mod, flow_mod_said, flow_words_said, has_table_word, lone_refusal, table_said, without_instructions};
 ghost use Rattle.of_ovs_text.specs.Reasons.{FailsBy, SaysOrFails, error_of_refusal};
 
 use crate::cutting::{cut_first, refuse_word};
 use crate::no_message::NoMessage;
 use of_actions::{Action, ActionList, Instruction, InstructionList};
-use of_import::{LineContent, Mode, read_line};
 use of_messages::{FlowMod, FlowModCommand, write_flow_mod};
+use of_ovs_lines::{LineContent, Mode, read_line};
 use of_ovs_words::{cut_word, name_of};
 use of_oxm::Match;
 use of_text::{FlowHead, FlowText, InstructionText, is, refusal_beside};

@@ -2,7 +2,7 @@
 ghost use Rattle.std.specs.Prelude.{◌≡◌};
 ghost use Rattle.of_ovs_text.specs.declared.no_message.NoMessage.TheVariants.{NoMemory};
 
-use of_import::WordFault;
+use of_ovs_lines::WordFault;
 use of_wire::Code;
 use std::alloc::AllocError;
 use thiserror::Error;

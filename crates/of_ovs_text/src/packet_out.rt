@@ -3,7 +3,7 @@ ghost use Rattle.std.specs.Prelude.{◌≡◌, ◌≤◌, length, IfOk, OnOk, ma
 ghost use Rattle.std.specs.Option.{option_map};
 ghost use Rattle.hex.specs.Hex.{decode_of};
 ghost use Rattle.of_text.specs.Views.{view, view_instruction};
-ghost use Rattle.of_import.specs.LineContentViews.{view_line_content};
+ghost use Rattle.of_ovs_lines.specs.LineContentViews.{view_line_content};
 ghost use Rattle.of_ovs_text.specs.PacketOuts.{actions_by, applied_actions, ingress_by, lone_ingress, packet_by, packet_content_said, packet_of_flow, packet_out_bytes, packet_words_said, packet_out_words, with_packet_word};
 ghost use Rattle.of_ovs_text.specs.PacketViews.{view_packet_words};
 ghost use Rattle.of_ovs_text.specs.Reasons.{SaysOrFails};
@@ -14,8 +14,8 @@ use crate::writing::message_of;
 use hex::FromHexError;
 use of_actions::{Action, ActionList, write_actions};
 use of_formats::messages::PACKET_OUT;
-use of_import::{LineContent, read_line};
 use of_layers::Field;
+use of_ovs_lines::{LineContent, read_line};
 use of_ovs_words::{cut_word, name_of, value_of};
 use of_oxm::MatchField;
 use of_text::{FlowText, InstructionText, is};

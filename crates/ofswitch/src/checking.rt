@@ -8,7 +8,8 @@ use crate::requiring::{Required, decide_all, missing_on, push_required, read_req
 use crate::screen::Screen;
 use of_command_line::{Check, CheckOutput};
 use of_files::{Content, Contents, FileTables, PortList, port_list, push_named, read_table};
-use of_import::{ImportError, Mode};
+use of_import::ImportError;
+use of_ovs_lines::Mode;
 use of_replay::streams::WriterSink;
 use of_replay::{Ended, switch_of_config, write_all};
 use of_report::{Form, write_flow_report, write_report};

@@ -2,8 +2,9 @@
 
 use crate::screen::Screen;
 use of_hints::{Marked, Place, import_hint, line_in, say_refusal};
-use of_import::{ImportError, ImportText, LineFaults, LineRefusal, Mode, import_text, name_of};
+use of_import::{ImportError, ImportText, LineFaults, LineRefusal, import_text, name_of};
 use of_import_report::{fault_lines, import_as_json, left_out};
+use of_ovs_lines::Mode;
 use of_replay::streams::WriterSink;
 use of_replay::{Ended, write_all};
 use of_text::TextFault;
