@@ -19,7 +19,7 @@ use crate::packets::{Packets, enter, put_back};
 use crate::printing::push_step;
 use crate::reasons::push_reasons;
 use crate::sight::Sight;
-use crate::unsent::{Unsent, push_unsent, unsent};
+use crate::unsent::{Unsent, push_unsent, why_unsent};
 use crate::words::{push_heading, push_leaving, push_step_words};
 use of_actions::Action;
 use of_classifier::Lookup;
@@ -193,7 +193,7 @@ fn push_sending_notes<L: Lookup>(
 ) -> Result<(), AllocError>
     ensures { OnOk result (out.new.items ≡ out.old.items ++ sending_notes style switch.now.core.forwarding sight.now action) }
 {
-    push_unsent_note(out, style, unsent(switch, sight.ingress, action))?;
+    push_unsent_note(out, style, why_unsent(switch, sight.ingress, action))?;
     let Action::Group(group) = action else {
         return Ok(());
     };

@@ -72,7 +72,7 @@ fn group_unsent<L: Lookup>(switch: &Switch<L>, group: u32) -> Option<Unsent>
 }
 
 /// Why an action sends nothing of a frame that came in by a port, if it is an output or a group and sends nothing.
-pub fn unsent<L: Lookup>(switch: &Switch<L>, ingress: u32, action: Action) -> Option<Unsent>
+pub fn why_unsent<L: Lookup>(switch: &Switch<L>, ingress: u32, action: Action) -> Option<Unsent>
     ensures { result ≡ unsent_action switch.now.core.forwarding ingress action }
 {
     match action {

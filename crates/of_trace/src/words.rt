@@ -10,7 +10,7 @@ ghost use Rattle.of_trace.specs.Words.{action_line, arp_words, effect_words, eth
 
 use crate::packets::arrived;
 use crate::sight::Sight;
-use crate::unsent::{push_behind, unsent};
+use crate::unsent::{push_behind, why_unsent};
 use of_actions::Action;
 use of_build::push_hex;
 use of_classifier::Lookup;
@@ -363,7 +363,7 @@ pub fn push_step_words<L: Lookup>(
 {
     push_words_line(out, switch, step)?;
     match step {
-        Step::Act(action) => push_behind(out, unsent(switch, port, action)),
+        Step::Act(action) => push_behind(out, why_unsent(switch, port, action)),
         _ => Ok(()),
     }
 }
