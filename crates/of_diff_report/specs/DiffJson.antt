@@ -12,7 +12,7 @@ use Rattle.of_diff.specs.declared.difference.Differences.{Differences}
 use Rattle.of_diff.specs.declared.difference.Why.{Why}
 use Rattle.of_diff.specs.declared.difference.Why.TheVariants.{OtherActions, Search, Steps, UnknownTag}
 use Rattle.of_json.specs.LeavingJson.{items_member}
-use Rattle.of_changes.specs.ChangesInJson.{changes_member}
+use Rattle.of_json.specs.ChangesInJson.{changes_member}
 use Rattle.of_diff_report.specs.declared.hits.FileFlows.{FileFlows}
 use Rattle.of_diff_report.specs.declared.hits.SideHits.{SideHits}
 use Rattle.of_diff_report.specs.declared.json.TheConstants as line

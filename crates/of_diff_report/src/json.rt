@@ -1,6 +1,6 @@
 //! What is found about two switches, as JSON.
 ghost use Rattle.std.specs.Prelude.{◌≡◌, ◌++◌, codes, IfOk, OnOk};
-ghost use Rattle.of_changes.specs.ChangesInJson.{changes_member};
+ghost use Rattle.of_json.specs.ChangesInJson.{changes_member};
 ghost use Rattle.of_diff_report.specs.DiffJson.{also_member, also_object, begin_at, both_hits_members, diff_head, diff_json, difference_members, difference_object, differences_member, limits_member, other_ports_json, region_members, region_string, regions_member, same_in_json, side_hits_members, undecided_member, undecided_string, why_name};
 
 use crate::hits::{DiffSide, FileFlows, SideHits, push_changed_member, push_hits_member};
@@ -9,12 +9,12 @@ use crate::reserved::{Limits, Reserved};
 use crate::telling::{Told, ToldUndecided};
 use crate::words::is_same_with;
 use of_alike::Where;
-use of_changes::push_changes_member;
 use of_classifier::Lookup;
 use of_diff::{Difference, Differences, Why};
 use of_json::{
-    push_array_member, push_bytes_member, push_document_head, push_items_member,
-    push_number_member, push_quoted, push_string, push_string_member, push_truth,
+    push_array_member, push_bytes_member, push_changes_member, push_document_head,
+    push_items_member, push_number_member, push_quoted, push_string, push_string_member,
+    push_truth,
 };
 use of_machine::Item;
 use of_values::Part::{Number, Text};

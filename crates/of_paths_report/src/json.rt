@@ -9,11 +9,10 @@ ghost use Rattle.of_paths_report.specs.PathsJson.{class_object, classes_member, 
 use crate::classes::traced;
 use crate::destination::is_shown;
 use crate::json_hits::push_hits_member;
-use of_changes::push_changes_member;
 use of_classifier::Lookup;
 use of_json::{
-    begin_array, push_array_member, push_bytes_member, push_document_head, push_items_member,
-    push_number_member, push_quoted,
+    begin_array, push_array_member, push_bytes_member, push_changes_member, push_document_head,
+    push_items_member, push_number_member, push_quoted,
 };
 use of_machine::Step;
 use of_paths::{Destination, PathClass, Paths, UndecidedFrames, WhyUndecided};

@@ -2,7 +2,7 @@
 use Rattle.std.specs.Prelude.{ℕ, List, [], ◌∷◌, ◌++◌, codes, decimal}
 use Rattle.hex.specs.Hex.{encode_lower}
 use Rattle.of_json.specs.LeavingJson.{items_member}
-use Rattle.of_changes.specs.ChangesInJson.{changes_member}
+use Rattle.of_json.specs.ChangesInJson.{changes_member}
 use Rattle.of_values.specs.Filled.{filled}
 use Rattle.of_json.specs.Parts.{listed, number_member, text_member, truth_member}
 use Rattle.of_json.specs.Strings.{array_member, string_member}

@@ -5,10 +5,9 @@ ghost use Rattle.of_require.specs.RequirementsJson.{answer_object, requirements_
 
 use crate::answers::Answer;
 use crate::deciding::{Decision, Verdict};
-use of_changes::push_changes_member;
 use of_json::{
-    push_array_member, push_bytes_member, push_items_member, push_number_member,
-    push_string_member, push_text_member, push_truth_member,
+    push_array_member, push_bytes_member, push_changes_member, push_items_member,
+    push_number_member, push_string_member, push_text_member, push_truth_member,
 };
 use of_values::Part::Number;
 use of_values::put;

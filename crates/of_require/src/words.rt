@@ -6,8 +6,7 @@ ghost use Rattle.of_require.specs.Words.{answer_words, is_told as is_told_by, re
 use crate::answers::{Answer, count};
 use crate::deciding::{Decision, Verdict};
 use crate::json::may_match;
-use of_changes::push_changed_side;
-use of_json::push_frame_lines;
+use of_json::{push_changed_side, push_frame_lines};
 use of_values::Part::{Number, Text};
 use of_values::{push_printable, put};
 use std::alloc::{AllocError, Global};
