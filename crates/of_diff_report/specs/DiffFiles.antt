@@ -19,8 +19,9 @@ use Rattle.of_diff_report.specs.declared.writing.DiffVerdict.{DiffVerdict}
 use Rattle.of_diff_report.specs.declared.writing.DiffVerdict.TheVariants.{Differs, OtherPorts, Same, Undecided}
 use Rattle.of_diff_report.specs.DiffWords.{are_same_with, diff_words, other_ports_words}
 use Rattle.of_diff_report.specs.declared.telling.Told.{Told}
+use Rattle.of_diff_report.specs.declared.telling.ToldUndecided.{ToldUndecided}
 use Rattle.of_diff_report.specs.DiffJson.{diff_json, other_ports_json}
-use Rattle.of_diff_report.specs.Telling.{AreTold}
+use Rattle.of_diff_report.specs.Telling.{AreTold, AreToldUndecided}
 
 -- none if their ports differ, else the differences, and for all other frames that they are treated alike or undecided
 abbrev pub AreAllBetween : Compared → ℕ → Forwarding → Forwarding → Option Differences → Type 0
@@ -33,18 +34,20 @@ pub record AreFoundBetween (c : Compared) (steps : ℕ) (f g : Forwarding) (foun
   pub same : AreSameSwitches f g → IsNothing found
 
 -- in words or as JSON, with the flow entries of both switches, the ports that are named and missing, and the miss_send_len if they differ
-abbrev pub diff_text : DiffForm → FileFlows → FileFlows → List ℕ → Option Limits → Forwarding → List Told → Differences → List ℕ
-diff_text Words a b missing limits f told ds = diff_words a b missing limits f told ds
-diff_text Json a b missing limits f told ds = diff_json a b missing limits told ds
+abbrev pub diff_text : DiffForm → FileFlows → FileFlows → List ℕ → Option Limits → Forwarding → List Told → List ToldUndecided → Differences → List ℕ
+diff_text Words a b missing limits f told undecided ds = diff_words a b missing limits f told undecided ds
+diff_text Json a b missing limits f told undecided ds = diff_json a b missing limits told undecided ds
 
 abbrev pub other_ports_text : DiffForm → List ℕ → List ℕ
 other_ports_text Words missing = other_ports_words missing
 other_ports_text Json missing = other_ports_json missing
 
--- that the ports differ, or the differences as they are told
+-- that the ports differ, or the differences and the undecided frames as they are told
 abbrev pub IsTextFound : DiffForm → FileFlows → FileFlows → List ℕ → Option Limits → Forwarding → Forwarding → Option Differences → List ℕ → Type 0
 IsTextFound form a b missing limits f g None text = text ≡ other_ports_text form missing
-IsTextFound form a b missing limits f g (Some ds) text = (told : List Told) × AreTold f g ds.found.items told × (text ≡ diff_text form a b missing limits f told ds)
+IsTextFound form a b missing limits f g (Some ds) text =
+    (told : List Told) × (undecided : List ToldUndecided) × AreTold f g ds.found.items told × AreToldUndecided ds.undecided.items undecided
+    × (text ≡ diff_text form a b missing limits f told undecided ds)
 
 abbrev pub verdict_on : List ℕ → Option Limits → Differences → DiffVerdict
 verdict_on missing limits ds = if are_same_with missing limits ds then Same else if length ds.found.items == 0 then Undecided else Differs

@@ -1,5 +1,5 @@
 -- THE ENTRIES THAT A FRAME HITS at one of the two switches, as `check` names entries, and which of them changed.
-use Rattle.std.specs.Prelude.{ℕ, Bool, List, ◌∷◌, [], ◌++◌, codes, if◌then◌else◌}
+use Rattle.std.specs.Prelude.{ℕ, List, ◌∷◌, [], ◌++◌, codes, if◌then◌else◌}
 use Rattle.std.specs.List.{flat_map}
 use Rattle.of_json.specs.Parts.{listed, truth}
 use Rattle.of_json.specs.Strings.{array_member}
@@ -9,12 +9,10 @@ use Rattle.of_values.specs.Origins.{view_origins}
 use Rattle.of_diff_report.specs.declared.hits.FileFlows.{FileFlows}
 use Rattle.of_diff_report.specs.declared.hits.MarkedHit.{MarkedHit}
 
-abbrev pub mark_words : Bool → List ℕ
-mark_words changed = if changed then codes ", changed" else []
-
 -- `    first: hits table 0 entry 1 (line 3, priority 20, eth_type 0x0800), changed`
 unfoldable pub hit_line : List ℕ → FileFlows → MarkedHit → List ℕ
-hit_line who flows h = who ++ codes "hits " ++ entry (view_origins flows.origins.now) flows.config.now.tables h.hit.table h.hit.number ++ mark_words h.changed ++ 10 ∷ []
+hit_line who flows h =
+    who ++ codes "hits " ++ entry (view_origins flows.origins.now) flows.config.now.tables h.hit.table h.hit.number ++ (if h.changed then codes ", changed\n" else 10 ∷ [])
 
 abbrev pub hit_lines : List ℕ → FileFlows → List MarkedHit → List ℕ
 hit_lines who flows hits = flat_map (hit_line who flows) hits

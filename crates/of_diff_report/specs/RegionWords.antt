@@ -1,35 +1,41 @@
 -- THE REGION OF A SET OF FRAMES: what all its frames have in common, in words that `paths --match` takes (ovs-fields(7)). The set may have fewer frames.
-use Rattle.std.specs.Prelude.{◌≡◌, ℕ, ◌==◌, ◌&&◌, Bool, true, not, is_some, List, [], ◌∷◌, ◌++◌, length, filter, codes, decimal, Option, Some, None, Ok, if◌then◌else◌}
+use Rattle.std.specs.Prelude.{◌≡◌, ℕ, ◌==◌, ◌&&◌, Bool, true, not, is_some, List, [], ◌∷◌, ◌++◌, length, filter, decimal, Option, Some, None, Ok, if◌then◌else◌}
 use Rattle.std.specs.Global.{Vec}
 use Rattle.std.specs.List.{list_any}
 use Rattle.of_layers.specs.declared.field.Field.TheVariants.{InPort}
 use Rattle.of_layers.specs.Fields.{number_of}
 use Rattle.of_oxm.specs.declared.match_field.MatchField.{MatchField}
 use Rattle.of_oxm.specs.Relations.{matches_map}
+use Rattle.of_values.specs.Filled.{filled}
 use Rattle.of_frame_words.specs.Conditions.{conditions_in_words}
 use Rattle.of_symbolic.specs.Parts.{received_fields}
 use Rattle.of_symbolic_run.specs.declared.frame_set.FrameSet.{FrameSet}
 use Rattle.of_symbolic_run.specs.FrameSets.{InFrames}
+use Rattle.of_diff_report.specs.declared.region.DescribedSet.{DescribedSet}
+use Rattle.of_diff_report.specs.declared.region.TheConstants as line
 
 -- the words are read as conditions that each frame of the set fulfils
 abbrev pub IsTrueOf : FrameSet → List ℕ → Type 0
 IsTrueOf s words =
     (m : List MatchField) × (conditions_in_words words ≡ Ok m) × ((frame : List ℕ) (port : ℕ) → InFrames s frame port → matches_map m (received_fields frame port) ≡ true)
 
--- words for the first of some sets, if there are such
-abbrev pub IsRegionOf : List FrameSet → Option (Vec ℕ) → Type 0
-IsRegionOf sets None = Unit {0}
-IsRegionOf [] (Some words) = ⊥
-IsRegionOf (s ∷ sets) (Some words) = IsTrueOf s words.items
+-- words for a set, and for the first of some sets, if there are such
+abbrev pub IsRegion : FrameSet → Option DescribedSet → Type 0
+IsRegion s None = Unit {0}
+IsRegion s (Some d) = (d.frames.now ≡ s) × IsTrueOf s d.words.items
 
--- ---- `region: ip,nw_dst=10.2.0.0/16 with nw_ttl 2 to 255 without 1 match`
+abbrev pub IsRegionOf : List FrameSet → Option DescribedSet → Type 0
+IsRegionOf [] region = region ≡ None
+IsRegionOf (s ∷ sets) region = IsRegion s region
+
+-- ---- `ip,nw_dst=10.2.0.0/16 with nw_ttl 2 to 255 without 1 match`
 
 abbrev pub words_said : List ℕ → List ℕ
-words_said words = if length words == 0 then codes "all frames" else words
+words_said words = if length words == 0 then line.ALL_FRAMES else words
 
 -- the range of the TTL, if the frame has one and not each TTL is in it
-unfoldable pub ttl_range_part : ℕ → ℕ → List ℕ
-ttl_range_part low high = if low == 0 && high == 255 then [] else codes " with nw_ttl " ++ decimal low ++ codes " to " ++ decimal high
+abbrev pub ttl_range_part : ℕ → ℕ → List ℕ
+ttl_range_part low high = if low == 0 && high == 255 then [] else filled line.TTL (decimal low ∷ decimal high ∷ [])
 
 -- a condition on IN_PORT under a mask, which no entry has, leaves out the numbers of ports that the switches do not have
 abbrev pub is_port_block : MatchField → Bool
@@ -42,20 +48,14 @@ is_of_entry m = list_any (λ e. not (is_port_block e)) m.items
 abbrev pub count_of_entries : List (Vec MatchField) → ℕ
 count_of_entries lacks = length (filter is_of_entry lacks)
 
-abbrev pub matches_word : ℕ → List ℕ
-matches_word n = if n == 1 then codes " match" else codes " matches"
-
 -- how many matches of entries match no frame of the set
-unfoldable pub lacks_part : ℕ → List ℕ
-lacks_part n = if n == 0 then [] else codes " without " ++ decimal n ++ matches_word n
+abbrev pub lacks_part : ℕ → List ℕ
+lacks_part n = if n == 0 then [] else filled (if n == 1 then line.LACKS_ONE else line.LACKS) (decimal n ∷ [])
 
-unfoldable pub region_head : List ℕ → List ℕ
-region_head words = codes "    region: " ++ words_said words
+unfoldable pub set_words : DescribedSet → List ℕ
+set_words d =
+    words_said d.words.items ++ ttl_range_part d.frames.now.ttl_from d.frames.now.ttl_to ++ lacks_part (count_of_entries d.frames.now.part.lacks.items)
 
-unfoldable pub set_line : List ℕ → FrameSet → List ℕ
-set_line words s = region_head words ++ ttl_range_part s.ttl_from s.ttl_to ++ lacks_part (count_of_entries s.part.lacks.items) ++ 10 ∷ []
-
-abbrev pub region_line : List FrameSet → Option (Vec ℕ) → List ℕ
-region_line sets None = []
-region_line [] (Some words) = []
-region_line (s ∷ sets) (Some words) = set_line words.items s
+abbrev pub region_line : Option DescribedSet → List ℕ
+region_line None = []
+region_line (Some d) = line.REGION ++ set_words d ++ 10 ∷ []

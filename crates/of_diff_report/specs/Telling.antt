@@ -1,12 +1,14 @@
 -- DIFFERENCES AS THEY ARE TOLD: each with the entries that its frame hits at both switches; those whose frames hit the same changed entries are told as one.
-use Rattle.std.specs.Prelude.{◌≡◌, ℕ, ◌==◌, ◌&&◌, ◌++◌, Bool, false, true, not, List, [], ◌∷◌, length, Option, Some, slice_get, slice_set}
+use Rattle.std.specs.Prelude.{◌≡◌, ℕ, ◌==◌, ◌&&◌, ◌++◌, Bool, false, true, not, List, [], ◌∷◌, length, map, Option, Some, slice_get, slice_set}
 use Rattle.std.specs.Borrow.{Bor}
-use Rattle.std.specs.List.{Contains}
+use Rattle.std.specs.List.{AllByRecursion, Contains}
 use Rattle.of_datapath.specs.Datapath.{Forwarding}
 use Rattle.of_diff.specs.declared.difference.Difference.{Difference}
+use Rattle.of_diff.specs.declared.difference.Undecided.{Undecided}
 use Rattle.of_diff_report.specs.declared.telling.Told.{Told}
+use Rattle.of_diff_report.specs.declared.telling.ToldUndecided.{ToldUndecided}
 use Rattle.of_diff_report.specs.Changed.{AreSideHits, are_same_hits}
-use Rattle.of_diff_report.specs.RegionWords.{IsRegionOf}
+use Rattle.of_diff_report.specs.RegionWords.{IsRegion, IsRegionOf}
 
 -- ---- one difference
 
@@ -47,3 +49,14 @@ PutsAllTold f g (d ∷ ds) old new = (t : Told) × (next : List Told) × IsTold 
 -- THE DIFFERENCES AS THEY ARE TOLD
 abbrev pub AreTold : Forwarding → Forwarding → List Difference → List Told → Type 0
 AreTold f g found told = PutsAllTold f g found [] told
+
+-- ---- frames that are undecided, each set with words for it
+
+abbrev pub set_of : ToldUndecided → Undecided
+set_of u = u.undecided.now
+
+abbrev pub HasRegion : ToldUndecided → Type 0
+HasRegion u = IsRegion u.undecided.now.frames u.region
+
+abbrev pub AreToldUndecided : List Undecided → List ToldUndecided → Type 0
+AreToldUndecided undecided told = (map set_of told ≡ undecided) × AllByRecursion HasRegion told

@@ -1,9 +1,8 @@
 //! The entries that a frame hits at one of two switches, and which of them changed.
 ghost use Rattle.std.specs.Prelude.{◌≡◌, ◌↔◌, ◌++◌, IfOk, OnOk, false, map};
 ghost use Rattle.std.specs.List.{All, flat_map};
-ghost use Rattle.of_datapath.specs.DryRun.{steps_in};
 ghost use Rattle.of_diff_report.specs.Changed.{AreSideHits, IsInOther, IsMarked, are_same_hits as are_same_hits_by, changed_at, hit_of, hits_in};
-ghost use Rattle.of_diff_report.specs.EntryHits.{changed_member, mark_words, hit_entries_member, hit_line, hit_lines};
+ghost use Rattle.of_diff_report.specs.EntryHits.{changed_member, hit_entries_member, hit_line, hit_lines};
 
 use of_alike::has_such_entry;
 use of_classifier::Lookup;
@@ -11,7 +10,7 @@ use of_json::{Hit, hits_among, push_array_member, push_truth};
 use of_report::{Origin, push_entry, push_entry_object};
 use of_switch::{Switch, SwitchError};
 use of_text::Config;
-use of_tracing::{Trace, trace};
+use of_tracing::trace;
 use of_wire::limits::TABLES;
 use std::alloc::{AllocError, Global};
 
@@ -44,21 +43,6 @@ pub struct SideHits {
     pub changed: Vec<Hit>,
 }
 
-fn traced<L: Lookup>(
-    alloc: Global,
-    switch: &Switch<L>,
-    port: u32,
-    frame: &[u8],
-) -> Result<Trace, AllocError>
-    ensures { IfOk result (λ trace. trace.steps.items ≡ steps_in port frame.now switch.now.core.forwarding) }
-{
-    match trace(alloc, switch, port, frame) {
-        Ok(trace) => Ok(trace),
-        Err(SwitchError::NoMemory) => Err(AllocError),
-        Err(_) => unreachable!(),
-    }
-}
-
 fn hits_of<L: Lookup>(
     alloc: Global,
     switch: &Switch<L>,
@@ -67,8 +51,11 @@ fn hits_of<L: Lookup>(
 ) -> Result<Vec<Hit>, AllocError>
     ensures { IfOk result (λ hits. hits.items ≡ hits_in port frame.now switch.now.core.forwarding) }
 {
-    let trace = traced(alloc, switch, port, frame)?;
-    hits_among(alloc, &trace.steps)
+    match trace(alloc, switch, port, frame) {
+        Ok(trace) => hits_among(alloc, &trace.steps),
+        Err(SwitchError::NoMemory) => Err(AllocError),
+        Err(_) => unreachable!(),
+    }
 }
 
 // Whether the other switch has no entry that says the same.
@@ -142,26 +129,13 @@ pub fn side_hits<L: Lookup>(
 pub fn are_same_hits(a: &[Hit], b: &[Hit]) -> bool
     ensures { result ≡ are_same_hits_by a.now b.now }
 {
-    match a {
-        [] => match b {
-            [] => true,
-            [_, ..] => false,
-        },
-        [hit, hits @ ..] => match b {
-            [] => false,
-            [other, others @ ..] => {
-                hit.table == other.table
-                    && hit.number == other.number
-                    && are_same_hits(hits, others)
-            }
-        },
+    match (a, b) {
+        ([], []) => true,
+        ([hit, hits @ ..], [other, others @ ..]) => {
+            hit.table == other.table && hit.number == other.number && are_same_hits(hits, others)
+        }
+        _ => false,
     }
-}
-
-fn words_if_changed(changed: bool) -> &'static [u8]
-    ensures { result.now ≡ mark_words changed }
-{
-    if changed { b", changed" } else { b"" }
 }
 
 #[tactic(auto, unfolding(crate::specs::EntryHits::hit_line))]
@@ -182,9 +156,12 @@ fn push_hit(
         marked.hit.table,
         marked.hit.number,
     )?;
-    out.extend_from_slice(words_if_changed(marked.changed))?;
-    out.push(b'\n')?;
-    Ok(())
+    let end: &[u8] = if marked.changed {
+        b", changed\n"
+    } else {
+        b"\n"
+    };
+    out.extend_from_slice(end)
 }
 
 /// Appends a line for each entry that a frame hits, behind the name of the switch.

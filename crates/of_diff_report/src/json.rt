@@ -1,29 +1,53 @@
 //! What is found about two switches, as JSON.
-ghost use Rattle.std.specs.Prelude.{◌≡◌, ◌++◌, codes, decimal, IfOk, OnOk};
-ghost use Rattle.of_json.specs.Strings.{array_member};
+ghost use Rattle.std.specs.Prelude.{◌≡◌, ◌++◌, codes, IfOk, OnOk};
 ghost use Rattle.of_json.specs.ChangesInJson.{changes_member};
-ghost use Rattle.of_diff_report.specs.DiffJson.{also_member, also_object, at_member, both_hits_members, diff_document, diff_head, diff_json, difference_members, difference_object, differences_listed, limits_in_json, limits_member as limits_member_of, missing_member, other_ports_json, region_members, same_in_json, set_members, side_hits_members, ttl_members, undecided_member, undecided_string, why_name};
+ghost use Rattle.of_diff_report.specs.DiffJson.{also_member, also_object, begin_at, both_hits_members, diff_head, diff_json, difference_members, difference_object, differences_member, limits_member, other_ports_json, region_members, region_string, regions_member, same_in_json, side_hits_members, undecided_member, undecided_string, why_name};
 
 use crate::hits::{DiffSide, FileFlows, SideHits, push_changed_member, push_hits_member};
-use crate::region::lacking;
+use crate::region::{DescribedSet, lacking, push_set};
 use crate::reserved::{Limits, Reserved};
-use crate::telling::Told;
+use crate::telling::{Told, ToldUndecided};
 use crate::words::is_same_with;
 use of_alike::Where;
-use of_json::{begin_array, push_array_member, push_bytes_member, push_changes_member, push_controller_place, push_document_head, push_items_member, push_key, push_listed, push_number_member, push_port_place, push_quoted, push_string_member, push_truth};
 use of_classifier::Lookup;
-use of_diff::{Difference, Differences, Undecided, Why};
-use of_symbolic_run::FrameSet;
-use of_values::push_decimal;
+use of_diff::{Difference, Differences, Why};
+use of_json::{
+    push_array_member, push_bytes_member, push_changes_member, push_document_head,
+    push_items_member, push_number_member, push_quoted, push_string, push_string_member,
+    push_truth,
+};
+use of_machine::Item;
+use of_values::Part::{Number, Text};
+use of_values::{push_decimal, put};
 use std::alloc::{AllocError, Global};
 
-#[tactic(auto, unfolding(crate::specs::DiffJson::at_member))]
-fn push_at(out: &mut Vec<u8>, at: Where) -> Result<(), AllocError>
-    ensures { OnOk result (out.new.items ≡ out.old.items ++ at_member at) }
+// ---- members: % is the place of a part
+
+pub const SAME: [u8; 25] = *br#","same":%,"ports_differ":"#;
+
+pub const NO_LIMITS: [u8; 21] = *br#","miss_send_len":null"#;
+
+pub const BOTH_LIMITS: [u8; 22] = *br#","miss_send_len":[%,%]"#;
+
+pub const NOTHING: [u8; 55] = *br#","differences":[],"undecided":[],"undecided_regions":[]"#;
+
+pub const AT_PORT: [u8; 7] = *br#"{"at":%"#;
+
+pub const AT_CONTROLLER: [u8; 18] = *br#"{"at":"controller""#;
+
+pub const ALSO_SETS: [u8; 10] = *br#","sets":%}"#;
+
+pub const OF_REGION: [u8; 57] = *br#","region_ttl_from":%,"region_ttl_to":%,"region_without":%"#;
+
+// ---- a difference
+
+// Appends the first member of an object: where something else leaves.
+fn begin_with_place(out: &mut Vec<u8>, at: Where) -> Result<(), AllocError>
+    ensures { OnOk result (out.new.items ≡ out.old.items ++ begin_at at) }
 {
     match at {
-        Where::Port(port) => push_port_place(out, b"at", port),
-        Where::Controller => push_controller_place(out, b"at"),
+        Where::Port(port) => put(out, &AT_PORT, &[Number(u128::from(port))]),
+        Where::Controller => out.extend_from_slice(&AT_CONTROLLER),
     }
 }
 
@@ -31,15 +55,15 @@ fn push_at(out: &mut Vec<u8>, at: Where) -> Result<(), AllocError>
 fn push_both_changes(
     alloc: Global,
     out: &mut Vec<u8>,
-    difference: &Difference,
+    came: &[u8],
+    first: &[Item],
+    second: &[Item],
 ) -> Result<(), AllocError>
-    ensures { OnOk result (out.new.items ≡ out.old.items ++ changes_member (codes "first_changes") difference.now.frame.items difference.now.first.items
-        ++ changes_member (codes "second_changes") difference.now.frame.items difference.now.second.items) }
+    ensures { OnOk result (out.new.items ≡ out.old.items ++ changes_member (codes "first_changes") came.now first.now
+        ++ changes_member (codes "second_changes") came.now second.now) }
 {
-    let came = &difference.frame;
-    push_changes_member(alloc, out, b"first_changes", came, &difference.first)?;
-    push_changes_member(alloc, out, b"second_changes", came, &difference.second)?;
-    Ok(())
+    push_changes_member(alloc, out, b"first_changes", came, first)?;
+    push_changes_member(alloc, out, b"second_changes", came, second)
 }
 
 #[tactic(auto, unfolding(crate::specs::DiffJson::difference_members))]
@@ -50,12 +74,13 @@ fn push_difference_members(
 ) -> Result<(), AllocError>
     ensures { OnOk result (out.new.items ≡ out.old.items ++ difference_members difference.now) }
 {
-    push_at(out, difference.at)?;
+    let (frame, first, second) = (&difference.frame, &difference.first, &difference.second);
+    begin_with_place(out, difference.at)?;
     push_number_member(out, b"in_port", u128::from(difference.in_port))?;
-    push_bytes_member(alloc, out, b"frame", &difference.frame)?;
-    push_items_member(alloc, out, b"first", &difference.first)?;
-    push_items_member(alloc, out, b"second", &difference.second)?;
-    push_both_changes(alloc, out, difference)?;
+    push_bytes_member(alloc, out, b"frame", frame)?;
+    push_items_member(alloc, out, b"first", first)?;
+    push_items_member(alloc, out, b"second", second)?;
+    push_both_changes(alloc, out, frame, first, second)?;
     push_number_member(out, b"sets", difference.sets.len() as u128)
 }
 
@@ -94,46 +119,32 @@ fn push_both_hits(
     )
 }
 
-#[tactic(auto, unfolding(crate::specs::DiffJson::ttl_members))]
-fn push_ttl_members(out: &mut Vec<u8>, frames: &FrameSet) -> Result<(), AllocError>
-    ensures { OnOk result (out.new.items ≡ out.old.items ++ ttl_members frames.now) }
-{
-    push_number_member(out, b"region_ttl_from", u128::from(frames.ttl_from))?;
-    push_number_member(out, b"region_ttl_to", u128::from(frames.ttl_to))
-}
-
-#[tactic(auto, unfolding(crate::specs::DiffJson::set_members))]
-fn push_set_members(out: &mut Vec<u8>, words: &[u8], frames: &FrameSet) -> Result<(), AllocError>
-    ensures { OnOk result (out.new.items ≡ out.old.items ++ set_members words.now frames.now) }
-{
-    push_string_member(out, b"region", words)?;
-    push_ttl_members(out, frames)?;
-    push_number_member(out, b"region_without", lacking(frames) as u128)
-}
-
-// Appends the region of the first of some sets of frames, if there are words for it.
+// Appends the region of a set of frames, if there are words for it.
+#[tactic(auto, unfolding(crate::specs::DiffJson::region_members))]
 fn push_region_members(
     out: &mut Vec<u8>,
-    sets: &[FrameSet],
-    region: &Option<Vec<u8>>,
+    region: &Option<DescribedSet<'_>>,
 ) -> Result<(), AllocError>
-    ensures { OnOk result (out.new.items ≡ out.old.items ++ region_members sets.now region.now) }
+    ensures { OnOk result (out.new.items ≡ out.old.items ++ region_members region.now) }
 {
-    match (region, sets) {
-        (Some(words), [frames, ..]) => push_set_members(out, words, frames),
-        _ => Ok(()),
-    }
+    let Some(DescribedSet { frames, words }) = region else {
+        return Ok(());
+    };
+    let (from, to) = (u128::from(frames.ttl_from), u128::from(frames.ttl_to));
+    push_string_member(out, b"region", words)?;
+    put(
+        out,
+        &OF_REGION,
+        &[Number(from), Number(to), Number(lacking(frames) as u128)],
+    )
 }
 
 #[tactic(auto, unfolding(crate::specs::DiffJson::also_object))]
 fn push_also_object(out: &mut Vec<u8>, difference: &&Difference) -> Result<(), AllocError>
     ensures { OnOk result (out.new.items ≡ out.old.items ++ also_object difference.now) }
 {
-    out.push(b'{')?;
-    push_at(out, difference.at)?;
-    push_number_member(out, b"sets", difference.sets.len() as u128)?;
-    out.push(b'}')?;
-    Ok(())
+    begin_with_place(out, difference.at)?;
+    put(out, &ALSO_SETS, &[Number(difference.sets.len() as u128)])
 }
 
 #[tactic(auto, unfolding(crate::specs::DiffJson::also_member))]
@@ -153,30 +164,30 @@ fn push_difference_object<L: Lookup>(
 ) -> Result<(), AllocError>
     ensures { OnOk result (out.new.items ≡ out.old.items ++ difference_object first.now.flows second.now.flows told.now) }
 {
-    out.push(b'{')?;
     push_difference_members(alloc, out, told.difference)?;
     push_both_hits(out, &first.flows, &second.flows, told)?;
-    push_region_members(out, &told.difference.sets, &told.region)?;
+    push_region_members(out, &told.region)?;
     push_also_member(out, &told.also)?;
     out.push(b'}')?;
     Ok(())
 }
 
-// The objects of differences.
-fn difference_objects<L: Lookup>(
+#[tactic(auto, unfolding(crate::specs::DiffJson::differences_member))]
+fn push_differences_member<L: Lookup>(
     alloc: Global,
+    out: &mut Vec<u8>,
     first: &DiffSide<'_, L>,
     second: &DiffSide<'_, L>,
     told: &[Told<'_>],
-) -> Result<Vec<u8>, AllocError>
-    ensures { IfOk result (λ text. text.items ≡ differences_listed first.now.flows second.now.flows told.now) }
+) -> Result<(), AllocError>
+    ensures { OnOk result (out.new.items ≡ out.old.items ++ differences_member first.now.flows second.now.flows told.now) }
 {
-    let mut out = Vec::new(alloc);
-    push_listed(&mut out, told, |out, one| {
+    push_array_member(out, b"differences", told, |out, one| {
         push_difference_object(alloc, out, first, second, one)
-    })?;
-    Ok(out)
+    })
 }
+
+// ---- why frames are undecided
 
 fn name_of_why(why: Why) -> &'static [u8]
     ensures { result.now ≡ why_name why }
@@ -190,100 +201,84 @@ fn name_of_why(why: Why) -> &'static [u8]
 }
 
 #[tactic(auto, unfolding(crate::specs::DiffJson::undecided_string))]
-fn push_why(out: &mut Vec<u8>, undecided: &Undecided) -> Result<(), AllocError>
-    ensures { OnOk result (out.new.items ≡ out.old.items ++ undecided_string undecided.now) }
+fn push_why(out: &mut Vec<u8>, told: &ToldUndecided<'_>) -> Result<(), AllocError>
+    ensures { OnOk result (out.new.items ≡ out.old.items ++ undecided_string told.now) }
 {
-    push_quoted(out, name_of_why(undecided.why))
+    push_quoted(out, name_of_why(told.undecided.why))
 }
 
 #[tactic(auto, unfolding(crate::specs::DiffJson::undecided_member))]
-fn push_undecided_member(out: &mut Vec<u8>, undecided: &[Undecided]) -> Result<(), AllocError>
+fn push_undecided_member(
+    out: &mut Vec<u8>,
+    undecided: &[ToldUndecided<'_>],
+) -> Result<(), AllocError>
     ensures { OnOk result (out.new.items ≡ out.old.items ++ undecided_member undecided.now) }
 {
     push_array_member(out, b"undecided", undecided, push_why)
 }
 
-#[tactic(auto, unfolding(crate::specs::DiffJson::diff_head))]
-fn push_head(out: &mut Vec<u8>, same: &[u8], ports_differ: bool) -> Result<(), AllocError>
-    ensures { OnOk result (out.new.items ≡ out.old.items ++ diff_head same.now ports_differ) }
+// Appends the region of a set of frames, as it is printed in words, or null if there are no words for it.
+fn push_region(alloc: Global, out: &mut Vec<u8>, told: &ToldUndecided<'_>) -> Result<(), AllocError>
+    ensures { OnOk result (out.new.items ≡ out.old.items ++ region_string told.now) }
 {
-    push_document_head(out, b"diff")?;
-    out.push(b',')?;
-    push_key(out, b"same")?;
-    out.extend_from_slice(same)?;
-    out.push(b',')?;
-    push_key(out, b"ports_differ")?;
-    push_truth(out, ports_differ)
+    let Some(set) = &told.region else {
+        return out.extend_from_slice(b"null");
+    };
+    let mut text = Vec::new(alloc);
+    push_set(&mut text, set)?;
+    push_string(out, &text)
 }
 
-fn push_port(out: &mut Vec<u8>, port: &u32) -> Result<(), AllocError>
-    ensures { OnOk result (out.new.items ≡ out.old.items ++ decimal port.now) }
+#[tactic(auto, unfolding(crate::specs::DiffJson::regions_member))]
+fn push_regions_member(
+    alloc: Global,
+    out: &mut Vec<u8>,
+    undecided: &[ToldUndecided<'_>],
+) -> Result<(), AllocError>
+    ensures { OnOk result (out.new.items ≡ out.old.items ++ regions_member undecided.now) }
 {
-    push_decimal(out, u128::from(*port))
+    push_array_member(
+        out,
+        b"undecided_regions",
+        undecided,
+        |out, told| push_region(alloc, out, told),
+    )
 }
 
-#[tactic(auto, unfolding(crate::specs::DiffJson::missing_member))]
-fn push_missing_member(out: &mut Vec<u8>, missing: &[u32]) -> Result<(), AllocError>
-    ensures { OnOk result (out.new.items ≡ out.old.items ++ missing_member missing.now) }
-{
-    push_array_member(out, b"missing_ports", missing, push_port)
-}
+// ---- the document
 
 fn push_limits(out: &mut Vec<u8>, limits: Option<Limits>) -> Result<(), AllocError>
-    ensures { OnOk result (out.new.items ≡ out.old.items ++ limits_in_json limits) }
+    ensures { OnOk result (out.new.items ≡ out.old.items ++ limits_member limits) }
 {
     match limits {
-        None => out.extend_from_slice(b"null"),
-        Some(limits) => {
-            out.push(b'[')?;
-            push_decimal(out, u128::from(limits.first))?;
-            out.push(b',')?;
-            push_decimal(out, u128::from(limits.second))?;
-            out.push(b']')?;
-            Ok(())
-        }
+        None => out.extend_from_slice(&NO_LIMITS),
+        Some(Limits { first, second }) => put(
+            out,
+            &BOTH_LIMITS,
+            &[Number(u128::from(first)), Number(u128::from(second))],
+        ),
     }
 }
 
-#[tactic(auto, unfolding(crate::specs::DiffJson::limits_member))]
-fn push_limits_member(out: &mut Vec<u8>, limits: Option<Limits>) -> Result<(), AllocError>
-    ensures { OnOk result (out.new.items ≡ out.old.items ++ limits_member_of limits) }
-{
-    out.push(b',')?;
-    push_key(out, b"miss_send_len")?;
-    push_limits(out, limits)
-}
-
-#[tactic(auto, unfolding(of_json::specs::Strings::array_member))]
-fn push_objects_member(out: &mut Vec<u8>, objects: &[u8]) -> Result<(), AllocError>
-    ensures { OnOk result (out.new.items ≡ out.old.items ++ array_member (codes "differences") objects.now) }
-{
-    begin_array(out, b"differences")?;
-    out.extend_from_slice(objects)?;
-    out.push(b']')?;
-    Ok(())
-}
-
-#[tactic(auto, unfolding(crate::specs::DiffJson::diff_document))]
-fn document(
+// The beginning of the document, up to the differences.
+#[tactic(auto, unfolding(crate::specs::DiffJson::diff_head))]
+fn head(
     alloc: Global,
     same: &[u8],
     ports_differ: bool,
     of: &Reserved<'_>,
-    objects: &[u8],
-    undecided: &[Undecided],
 ) -> Result<Vec<u8>, AllocError>
-    ensures { IfOk result (λ text. text.items ≡ diff_document same.now ports_differ of.now.missing.now of.now.limits objects.now undecided.now) }
+    ensures { IfOk result (λ text. text.items ≡ diff_head same.now ports_differ of.now.missing.now of.now.limits) }
 {
     let mut out = Vec::new(alloc);
     out.push(b'{')?;
-    push_head(&mut out, same, ports_differ)?;
-    push_missing_member(&mut out, of.missing)?;
-    push_limits_member(&mut out, of.limits)?;
-    push_objects_member(&mut out, objects)?;
-    push_undecided_member(&mut out, undecided)?;
-    out.push(b'}')?;
-    out.push(b'\n')?;
+    push_document_head(&mut out, b"diff")?;
+    put(&mut out, &SAME, &[Text(same)])?;
+    push_truth(&mut out, ports_differ)?;
+    push_array_member(&mut out, b"missing_ports", of.missing, |out, port| {
+        push_decimal(out, u128::from(*port))
+    })?;
+    push_limits(&mut out, of.limits)?;
     Ok(out)
 }
 
@@ -300,28 +295,28 @@ fn same_word(of: &Reserved<'_>, found: &Differences) -> &'static [u8]
 }
 
 /// What is found about two switches, as JSON.
+#[tactic(auto, unfolding(crate::specs::DiffJson::diff_json))]
 pub fn differences_as_json<L: Lookup>(
     alloc: Global,
     first: &DiffSide<'_, L>,
     second: &DiffSide<'_, L>,
     of: &Reserved<'_>,
     told: &[Told<'_>],
+    undecided: &[ToldUndecided<'_>],
     found: &Differences,
 ) -> Result<Vec<u8>, AllocError>
-    ensures { IfOk result (λ text. text.items ≡ diff_json first.now.flows second.now.flows of.now.missing.now of.now.limits told.now found.now) }
+    ensures { IfOk result (λ text. text.items ≡ diff_json first.now.flows second.now.flows of.now.missing.now of.now.limits told.now undecided.now found.now) }
 {
-    let objects = difference_objects(alloc, first, second, told)?;
-    document(
-        alloc,
-        same_word(of, found),
-        false,
-        of,
-        &objects,
-        &found.undecided,
-    )
+    let mut out = head(alloc, same_word(of, found), false, of)?;
+    push_differences_member(alloc, &mut out, first, second, told)?;
+    push_undecided_member(&mut out, undecided)?;
+    push_regions_member(alloc, &mut out, undecided)?;
+    out.extend_from_slice(b"}\n")?;
+    Ok(out)
 }
 
 /// That two switches have different ports, as JSON.
+#[tactic(auto, unfolding(crate::specs::DiffJson::other_ports_json))]
 pub fn other_ports_as_json(alloc: Global, missing: &[u32]) -> Result<Vec<u8>, AllocError>
     ensures { IfOk result (λ text. text.items ≡ other_ports_json missing.now) }
 {
@@ -329,5 +324,8 @@ pub fn other_ports_as_json(alloc: Global, missing: &[u32]) -> Result<Vec<u8>, Al
         missing,
         limits: None,
     };
-    document(alloc, b"false", true, &of, &[], &[])
+    let mut out = head(alloc, b"false", true, &of)?;
+    out.extend_from_slice(&NOTHING)?;
+    out.extend_from_slice(b"}\n")?;
+    Ok(out)
 }

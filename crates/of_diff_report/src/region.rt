@@ -1,12 +1,11 @@
 //! What all frames of a set have in common, in words.
-ghost use Rattle.std.specs.Prelude.{◌≡◌, ℕ, ◌++◌, ◌∷◌, List, Option, IfOk, OnOk, true};
+ghost use Rattle.std.specs.Prelude.{◌≡◌, ℕ, ◌++◌, Option, IfOk, OnOk, true};
 ghost use Rattle.of_layers.specs.declared.field.Field.{Field as TheField};
 ghost use Rattle.of_oxm.specs.Relations.{matches_map};
 ghost use Rattle.of_regions.specs.declared.meeting.Meeting.TheVariants.{Whole};
 ghost use Rattle.of_regions.specs.Meeting.{Meets};
 ghost use Rattle.of_regions.specs.Searching.{InSome};
-ghost use Rattle.of_symbolic_run.specs.declared.frame_set.FrameSet.{FrameSet as AFrameSet};
-ghost use Rattle.of_diff_report.specs.RegionWords.{IsRegionOf, IsTrueOf, count_of_entries, is_of_entry as is_of_entry_by, is_port_block as is_port_block_by, lacks_part, matches_word, region_head, region_line, set_line, ttl_range_part, words_said};
+ghost use Rattle.of_diff_report.specs.RegionWords.{IsRegion, IsRegionOf, IsTrueOf, count_of_entries, is_of_entry as is_of_entry_by, is_port_block as is_port_block_by, lacks_part, region_line, set_words, ttl_range_part, words_said};
 
 use of_frame_words::{NoFrame, read_conditions};
 use of_layers::Field;
@@ -14,8 +13,27 @@ use of_ovs_words::text_for;
 use of_oxm::MatchField;
 use of_regions::{Meeting, Region};
 use of_symbolic_run::FrameSet;
-use of_values::{push_decimal, push_value_words};
+use of_values::Part::Number;
+use of_values::{push_value_words, put};
 use std::alloc::{AllocError, Global};
+
+pub const REGION: [u8; 12] = *b"    region: ";
+
+pub const ALL_FRAMES: [u8; 10] = *b"all frames";
+
+pub const TTL: [u8; 19] = *b" with nw_ttl % to %";
+
+pub const LACKS_ONE: [u8; 16] = *b" without % match";
+
+pub const LACKS: [u8; 18] = *b" without % matches";
+
+/// A set of frames, and what all of them have in common, in words such as `in_port=1,tcp,nw_dst=10.0.0.0/8`: `paths --match` reads them as conditions
+/// that each of its frames fulfils. The set may have fewer frames.
+#[derive(Drop)]
+pub struct DescribedSet<'a> {
+    pub frames: &'a FrameSet,
+    pub words: Vec<u8>,
+}
 
 // ---- conditions
 
@@ -42,21 +60,14 @@ fn known_condition(region: &Region, field: Field) -> Option<MatchField> {
     let mask = region.masks.masks.get(field)?;
     let value = region.known.get(field)?;
     let row = field.row();
-    if mask == row.ones {
-        Some(MatchField {
-            field,
-            value,
-            mask: None,
-        })
-    } else if mask != 0 && row.maskable {
-        Some(MatchField {
-            field,
-            value,
-            mask: Some(mask),
-        })
-    } else {
+    let mask = if mask == row.ones {
         None
-    }
+    } else if mask != 0 && row.maskable {
+        Some(mask)
+    } else {
+        return None;
+    };
+    Some(MatchField { field, value, mask })
 }
 
 // Adds what is known of a field in the first of some regions, if so it is in all of them.
@@ -182,27 +193,29 @@ fn are_true_of(alloc: Global, words: &[u8], frames: &FrameSet) -> Result<bool, A
     }
 }
 
-// Words for what all frames of a set have in common, if they are read as such.
-fn words_of_set(alloc: Global, frames: &FrameSet) -> Result<Option<Vec<u8>>, AllocError>
-    ensures { IfOk result (λ words. (sets : List AFrameSet) → IsRegionOf (frames.now ∷ sets) words) }
+/// What all frames of a set have in common, if there are words for it that are read as such.
+pub fn describe(alloc: Global, frames: &FrameSet) -> Result<Option<DescribedSet<'_>>, AllocError>
+    ensures { IfOk result (IsRegion frames.now) }
 {
     let conditions = common_conditions(alloc, &frames.part.regions)?;
     let words = words_for(alloc, &conditions)?;
     if are_true_of(alloc, &words, frames)? {
-        Ok(Some(words))
+        Ok(Some(DescribedSet { frames, words }))
     } else {
         Ok(None)
     }
 }
 
-/// Words for the first of some sets of frames, such as `in_port=1,tcp,nw_dst=10.0.0.0/8`: `paths --match` reads them as conditions that each of its
-/// frames fulfils. The set may have fewer frames. None if there are no such words.
-pub fn region_words(alloc: Global, sets: &[FrameSet]) -> Result<Option<Vec<u8>>, AllocError>
+/// The same of the first of some sets.
+pub fn describe_first(
+    alloc: Global,
+    sets: &[FrameSet],
+) -> Result<Option<DescribedSet<'_>>, AllocError>
     ensures { IfOk result (IsRegionOf sets.now) }
 {
     match sets {
         [] => Ok(None),
-        [frames, ..] => words_of_set(alloc, frames),
+        [frames, ..] => describe(alloc, frames),
     }
 }
 
@@ -211,24 +224,20 @@ pub fn region_words(alloc: Global, sets: &[FrameSet]) -> Result<Option<Vec<u8>>,
 fn said(words: &[u8]) -> &[u8]
     ensures { result.now ≡ words_said words.now }
 {
-    if words.is_empty() {
-        b"all frames"
-    } else {
-        words
-    }
+    if words.is_empty() { &ALL_FRAMES } else { words }
 }
 
-#[tactic(auto, unfolding(crate::specs::RegionWords::ttl_range_part))]
 fn push_ttl(out: &mut Vec<u8>, low: u8, high: u8) -> Result<(), AllocError>
     ensures { OnOk result (out.new.items ≡ out.old.items ++ ttl_range_part low high) }
 {
     if low == 0 && high == 255 {
         return Ok(());
     }
-    out.extend_from_slice(b" with nw_ttl ")?;
-    push_decimal(out, u128::from(low))?;
-    out.extend_from_slice(b" to ")?;
-    push_decimal(out, u128::from(high))
+    put(
+        out,
+        &TTL,
+        &[Number(u128::from(low)), Number(u128::from(high))],
+    )
 }
 
 fn is_port_block(e: &MatchField) -> bool
@@ -255,53 +264,38 @@ pub fn lacking(frames: &FrameSet) -> usize
         .count()
 }
 
-fn word_for_matches(count: usize) -> &'static [u8]
-    ensures { result.now ≡ matches_word count }
-{
-    if count == 1 { b" match" } else { b" matches" }
-}
-
-#[tactic(auto, unfolding(crate::specs::RegionWords::lacks_part))]
 fn push_lacks(out: &mut Vec<u8>, count: usize) -> Result<(), AllocError>
     ensures { OnOk result (out.new.items ≡ out.old.items ++ lacks_part count) }
 {
-    if count == 0 {
-        return Ok(());
+    match count {
+        0 => Ok(()),
+        1 => put(out, &LACKS_ONE, &[Number(1)]),
+        _ => put(out, &LACKS, &[Number(count as u128)]),
     }
-    out.extend_from_slice(b" without ")?;
-    push_decimal(out, count as u128)?;
-    out.extend_from_slice(word_for_matches(count))
 }
 
-#[tactic(auto, unfolding(crate::specs::RegionWords::region_head))]
-fn push_region_head(out: &mut Vec<u8>, words: &[u8]) -> Result<(), AllocError>
-    ensures { OnOk result (out.new.items ≡ out.old.items ++ region_head words.now) }
+/// Appends the region of a set: its words, the range of its TTL, and how many matches match none of its frames.
+#[tactic(auto, unfolding(crate::specs::RegionWords::set_words))]
+pub fn push_set(out: &mut Vec<u8>, set: &DescribedSet<'_>) -> Result<(), AllocError>
+    ensures { OnOk result (out.new.items ≡ out.old.items ++ set_words set.now) }
 {
-    out.extend_from_slice(b"    region: ")?;
-    out.extend_from_slice(said(words))
+    out.extend_from_slice(said(&set.words))?;
+    push_ttl(out, set.frames.ttl_from, set.frames.ttl_to)?;
+    push_lacks(out, lacking(set.frames))
 }
 
-#[tactic(auto, unfolding(crate::specs::RegionWords::set_line))]
-fn push_set(out: &mut Vec<u8>, words: &[u8], frames: &FrameSet) -> Result<(), AllocError>
-    ensures { OnOk result (out.new.items ≡ out.old.items ++ set_line words.now frames.now) }
-{
-    push_region_head(out, words)?;
-    push_ttl(out, frames.ttl_from, frames.ttl_to)?;
-    push_lacks(out, lacking(frames))?;
-    out.push(b'\n')?;
-    Ok(())
-}
-
-/// Appends a line with the region of the first of some sets of frames, if there are words for it.
+/// Appends a line with the region of a set, if there are words for it.
 pub fn push_region_line(
     out: &mut Vec<u8>,
-    sets: &[FrameSet],
-    region: &Option<Vec<u8>>,
+    region: &Option<DescribedSet<'_>>,
 ) -> Result<(), AllocError>
-    ensures { OnOk result (out.new.items ≡ out.old.items ++ region_line sets.now region.now) }
+    ensures { OnOk result (out.new.items ≡ out.old.items ++ region_line region.now) }
 {
-    match (region, sets) {
-        (Some(words), [frames, ..]) => push_set(out, words, frames),
-        _ => Ok(()),
-    }
+    let Some(set) = region else {
+        return Ok(());
+    };
+    out.extend_from_slice(&REGION)?;
+    push_set(out, set)?;
+    out.push(b'\n')?;
+    Ok(())
 }

@@ -1,13 +1,13 @@
 //! Differences as they are told: those of the same changed entries are told as one.
-ghost use Rattle.std.specs.Prelude.{◌≡◌, IfNone, IfOk, IfSome, OnOk, List, Some, slice_get, true, false};
-ghost use Rattle.std.specs.List.{Contains};
+ghost use Rattle.std.specs.Prelude.{◌≡◌, IfNone, IfOk, IfSome, OnOk, List, Some, map, slice_get, true, false};
+ghost use Rattle.std.specs.List.{AllByRecursion, Contains};
 ghost use Rattle.of_diff_report.specs.declared.telling.Told.{Told as TheTold};
-ghost use Rattle.of_diff_report.specs.Telling.{AreTold, IsTold, PutsTold, has_changed as has_changed_hits, is_of_kind as is_of_kind_by};
+ghost use Rattle.of_diff_report.specs.Telling.{AreTold, HasRegion, IsTold, PutsTold, has_changed as has_changed_hits, is_of_kind as is_of_kind_by, set_of};
 
 use crate::hits::{DiffSide, SideHits, are_same_hits, side_hits};
-use crate::region::region_words;
+use crate::region::{DescribedSet, describe, describe_first};
 use of_classifier::Lookup;
-use of_diff::Difference;
+use of_diff::{Difference, Undecided};
 use of_switch::Switch;
 use std::alloc::{AllocError, Global};
 
@@ -19,10 +19,17 @@ pub struct Told<'a> {
     pub first: SideHits,
     /// Those at the second.
     pub second: SideHits,
-    /// What all frames of its first set have in common, in words.
-    pub region: Option<Vec<u8>>,
+    /// Its first set of frames.
+    pub region: Option<DescribedSet<'a>>,
     /// Further differences whose frames hit the same changed entries.
     pub also: Vec<&'a Difference>,
+}
+
+/// Frames that are undecided, and their region.
+#[derive(Drop)]
+pub struct ToldUndecided<'a> {
+    pub undecided: &'a Undecided,
+    pub region: Option<DescribedSet<'a>>,
 }
 
 // What is told of a difference.
@@ -39,7 +46,7 @@ fn tell<'a, L: Lookup>(
         difference,
         first: side_hits(alloc, first.switch, second.switch, port, frame)?,
         second: side_hits(alloc, second.switch, first.switch, port, frame)?,
-        region: region_words(alloc, &difference.sets)?,
+        region: describe_first(alloc, &difference.sets)?,
         also: Vec::new(alloc),
     })
 }
@@ -101,6 +108,25 @@ pub fn tell_all<'a, L: Lookup>(
     for difference in found {
         let further = tell(alloc, first, second, difference)?;
         put_told(&mut told, further)?;
+    }
+    Ok(told)
+}
+
+/// The sets of frames that are undecided, each with its region.
+pub fn tell_undecided(
+    alloc: Global,
+    undecided: &[Undecided],
+) -> Result<Vec<ToldUndecided<'_>>, AllocError>
+    ensures sets { IfOk result (λ told. map set_of told.items ≡ undecided.now) }
+    ensures regions { IfOk result (λ told. AllByRecursion HasRegion told.items) }
+{
+    let mut told = Vec::new(alloc);
+    for set in undecided {
+        let region = describe(alloc, &set.frames)?;
+        told.push(ToldUndecided {
+            undecided: set,
+            region,
+        })?;
     }
     Ok(told)
 }

@@ -1,131 +1,121 @@
 //! What is found about two switches, in words.
-ghost use Rattle.std.specs.Prelude.{◌≡◌, ◌++◌, ◌∷◌, [], IfOk, OnOk, filter, length};
+ghost use Rattle.std.specs.Prelude.{◌≡◌, ◌++◌, [], IfOk, OnOk};
 ghost use Rattle.std.specs.List.{flat_map, list_all, list_any};
-ghost use Rattle.of_diff_report.specs.DiffWords.{also_line, also_words, are_of_expired, are_same, are_same_with, both_limits_words, first_limit_words, further_place, is_expired_difference, is_same_place as is_same_place_by, at_words, wheres_after, second_limit_words, such_port_words, expired_count_words, count_why, diff_summary, diff_words, difference_count, both_switches_words, difference_head, difference_words, sets_and_also_words, expired_count, expired_line, expired_words, first_expired_words, such_as_words, is_expired_item, is_invalid_ttl, is_of_expired, is_why, limits_line, limits_words, missing_line, missing_lines, other_ports_words, same_unless, same_words, sets_line, sets_words, switch_words, told_words, undecided_line, undecided_words, where_words, undecided_why, with_where};
+ghost use Rattle.of_diff_report.specs.DiffWords.{also_line, are_of_expired, are_same, are_same_with, count_why, diff_summary, diff_words, difference_count, difference_head, difference_words, expired_count, expired_words, first_expired_words, further_place, is_expired_difference, is_expired_item, is_of_expired, is_same_place, limits_line, missing_line, missing_lines, other_ports_words, reason_lines, regions_of, same_words, sets_line, switch_words, told_words, undecided_why, undecided_words, where_words, wheres_after, with_where};
 
 use crate::hits::{DiffSide, FileFlows, MarkedHit, push_hit_lines};
 use crate::region::push_region_line;
 use crate::reserved::{Limits, Reserved, has_reason};
-use crate::telling::Told;
+use crate::telling::{Told, ToldUndecided};
 use of_alike::Where;
 use of_build::push_hex;
-use of_json::{push_changed_side, push_frame_lines, push_undecided_count, push_undecided_sets};
 use of_classifier::Lookup;
-use of_diff::{Difference, Differences, Undecided, Why};
+use of_diff::{Difference, Differences, Why};
+use of_json::{push_changed_side, push_frame_lines, push_undecided_count, push_undecided_sets};
 use of_machine::Item;
 use of_switch::Switch;
 use of_trace::push_heading;
-use of_values::push_decimal;
+use of_values::Part::{Number, Text};
+use of_values::put;
 use of_wire::PacketInReason;
 use std::alloc::{AllocError, Global};
 
-#[tactic(auto, unfolding(crate::specs::DiffWords::missing_line))]
-fn push_missing_line(out: &mut Vec<u8>, port: u32) -> Result<(), AllocError>
-    ensures { OnOk result (out.new.items ≡ out.old.items ++ missing_line port) }
-{
-    out.extend_from_slice(b"port ")?;
-    push_decimal(out, u128::from(port))?;
-    out.extend_from_slice(b" is named, and the switch does not have it\n")
-}
+// ---- lines: % is the place of a part
+
+pub const MISSING: [u8; 49] = *b"port % is named, and the switch does not have it\n";
+
+pub const OTHER_PORTS: [u8; 34] = *b"the switches have different ports\n";
+
+pub const LIMITS: [u8; 96] =
+    *b"miss_send_len is % and %: how much of a frame whose TTL expires a PACKET_IN has is not compared\n";
+
+pub const BY_PORT: [u8; 19] = *b"differs by port %: ";
+
+pub const TO_CONTROLLER: [u8; 27] = *b"differs to the controller: ";
+
+pub const SETS: [u8; 22] = *b"    sets of frames: %\n";
+
+pub const DIFFERENCE: [u8; 12] = *b"% difference";
+
+pub const DIFFERENCES: [u8; 13] = *b"% differences";
+
+pub const ALSO: [u8; 10] = *b"    also: ";
+
+pub const ALSO_BY_PORT: [u8; 11] = *b", by port %";
+
+pub const ALSO_TO_CONTROLLER: [u8; 19] = *b", to the controller";
+
+pub const EXPIRED: [u8; 29] = *b"of frames whose TTL expires: ";
+
+pub const SUCH_AS: [u8; 19] = *b", such as --port % ";
+
+pub const UNKNOWN_TAG: [u8; 46] = *b"a lookup asks what is not known of a VLAN tag\n";
+
+pub const STEPS: [u8; 50] = *b"the runs took as many steps as they may (--steps)\n";
+
+pub const SEARCH: [u8; 95] =
+    *b"the search for a frame took as many steps as it may, or found none with a port of the switches\n";
+
+pub const OTHER_ACTIONS: [u8; 77] =
+    *b"the actions differ, but what they made of the frame that was run is the same\n";
+
+pub const MORE_REGIONS: [u8; 15] = *b"    and % more\n";
+
+pub const SAME: [u8; 56] = *b"same: all frames that a port receives are treated alike\n";
+
+pub const SAME_UNLESS_LIMITS: [u8; 69] =
+    *b"no difference, except perhaps in how much of a frame a PACKET_IN has\n";
+
+pub const SAME_UNLESS_MISSING: [u8; 63] =
+    *b"no difference, as long as the switches do not have these ports\n";
+
+/// How many regions of undecided frames are printed for each reason.
+pub const REGIONS: usize = 5;
 
 // Appends a line for each port that is named and missing.
+#[tactic(auto, unfolding(crate::specs::DiffWords::missing_line))]
 fn push_missing(out: &mut Vec<u8>, missing: &[u32]) -> Result<(), AllocError>
     ensures { OnOk result (out.new.items ≡ out.old.items ++ missing_lines missing.now) }
 {
     for port in missing {
-        push_missing_line(out, *port)?;
+        put(out, &MISSING, &[Number(u128::from(*port))])?;
     }
-    Ok(())
-}
-
-#[tactic(auto, unfolding(crate::specs::DiffWords::first_limit_words))]
-fn push_first_limit(out: &mut Vec<u8>, limit: u16) -> Result<(), AllocError>
-    ensures { OnOk result (out.new.items ≡ out.old.items ++ first_limit_words limit) }
-{
-    out.extend_from_slice(b"miss_send_len is ")?;
-    push_decimal(out, u128::from(limit))?;
-    Ok(())
-}
-
-fn push_second_limit(out: &mut Vec<u8>, limit: u16) -> Result<(), AllocError>
-    ensures { OnOk result (out.new.items ≡ out.old.items ++ second_limit_words limit) }
-{
-    out.extend_from_slice(b" and ")?;
-    push_decimal(out, u128::from(limit))
-}
-
-#[tactic(auto, unfolding(crate::specs::DiffWords::both_limits_words))]
-fn push_both_limits(out: &mut Vec<u8>, limits: Limits) -> Result<(), AllocError>
-    ensures { OnOk result (out.new.items ≡ out.old.items ++ both_limits_words limits) }
-{
-    push_first_limit(out, limits.first)?;
-    push_second_limit(out, limits.second)
-}
-
-#[tactic(auto, unfolding(crate::specs::DiffWords::limits_words))]
-fn push_limits(out: &mut Vec<u8>, limits: Limits) -> Result<(), AllocError>
-    ensures { OnOk result (out.new.items ≡ out.old.items ++ limits_words limits) }
-{
-    push_both_limits(out, limits)?;
-    out.extend_from_slice(
-        b": how much of a frame whose TTL expires a PACKET_IN has is not compared",
-    )?;
-    out.push(b'\n')?;
     Ok(())
 }
 
 // Appends a line about the miss_send_len, if they differ.
-fn push_limits_line(out: &mut Vec<u8>, limits: Option<Limits>) -> Result<(), AllocError>
+fn push_limits(out: &mut Vec<u8>, limits: Option<Limits>) -> Result<(), AllocError>
     ensures { OnOk result (out.new.items ≡ out.old.items ++ limits_line limits) }
 {
     match limits {
         None => Ok(()),
-        Some(limits) => push_limits(out, limits),
+        Some(Limits { first, second }) => put(
+            out,
+            &LIMITS,
+            &[Number(u128::from(first)), Number(u128::from(second))],
+        ),
     }
 }
 
-#[tactic(auto, unfolding(crate::specs::DiffWords::at_words))]
-fn push_place(out: &mut Vec<u8>, at: Where) -> Result<(), AllocError>
-    ensures { OnOk result (out.new.items ≡ out.old.items ++ at_words at) }
-{
-    match at {
-        Where::Port(port) => {
-            out.extend_from_slice(b"by port ")?;
-            push_decimal(out, u128::from(port))
-        }
-        Where::Controller => out.extend_from_slice(b"to the controller"),
-    }
-}
+// ---- a difference
 
 // Appends where something else leaves.
-#[tactic(auto, unfolding(crate::specs::DiffWords::where_words))]
 fn push_where(out: &mut Vec<u8>, at: Where) -> Result<(), AllocError>
     ensures { OnOk result (out.new.items ≡ out.old.items ++ where_words at) }
 {
-    out.extend_from_slice(b"differs ")?;
-    push_place(out, at)?;
-    out.extend_from_slice(b": ")
-}
-
-#[tactic(auto, unfolding(crate::specs::DiffWords::sets_words))]
-fn push_sets_words(out: &mut Vec<u8>, count: usize) -> Result<(), AllocError>
-    ensures { OnOk result (out.new.items ≡ out.old.items ++ sets_words count) }
-{
-    out.extend_from_slice(b"    sets of frames: ")?;
-    push_decimal(out, count as u128)?;
-    out.push(b'\n')?;
-    Ok(())
+    match at {
+        Where::Port(port) => put(out, &BY_PORT, &[Number(u128::from(port))]),
+        Where::Controller => out.extend_from_slice(&TO_CONTROLLER),
+    }
 }
 
 // Appends how many sets of frames a difference has, if more than one.
-#[tactic(auto, unfolding(crate::specs::DiffWords::sets_line))]
 fn push_sets_line(out: &mut Vec<u8>, count: usize) -> Result<(), AllocError>
     ensures { OnOk result (out.new.items ≡ out.old.items ++ sets_line count) }
 {
-    if count == 1 {
-        Ok(())
-    } else {
-        push_sets_words(out, count)
+    match count {
+        1 => Ok(()),
+        _ => put(out, &SETS, &[Number(count as u128)]),
     }
 }
 
@@ -149,28 +139,18 @@ fn push_switch(
 fn push_difference_count(out: &mut Vec<u8>, count: usize) -> Result<(), AllocError>
     ensures { OnOk result (out.new.items ≡ out.old.items ++ difference_count count) }
 {
-    push_decimal(out, count as u128)?;
-    if count == 1 {
-        out.extend_from_slice(b" difference")
+    let line: &[u8] = if count == 1 {
+        &DIFFERENCE
     } else {
-        out.extend_from_slice(b" differences")
-    }
-}
-
-fn is_same_place(a: Where, b: Where) -> bool
-    ensures { result ≡ is_same_place_by a b }
-{
-    match (a, b) {
-        (Where::Port(port), Where::Port(other)) => port == other,
-        (Where::Controller, Where::Controller) => true,
-        _ => false,
-    }
+        &DIFFERENCES
+    };
+    put(out, line, &[Number(count as u128)])
 }
 
 fn is_among(places: &[Where], at: Where) -> bool
-    ensures { result ≡ list_any (is_same_place_by at) places.now }
+    ensures { result ≡ list_any (is_same_place at) places.now }
 {
-    places.iter().any(|place| is_same_place(at, *place))
+    places.iter().any(|place| at == *place)
 }
 
 // Adds a place, once.
@@ -195,45 +175,32 @@ fn places_of(alloc: Global, also: &[&Difference]) -> Result<Vec<Where>, AllocErr
     Ok(places)
 }
 
-#[tactic(auto, unfolding(crate::specs::DiffWords::further_place))]
-fn push_further_place(out: &mut Vec<u8>, at: Where) -> Result<(), AllocError>
-    ensures { OnOk result (out.new.items ≡ out.old.items ++ further_place at) }
-{
-    out.extend_from_slice(b", ")?;
-    push_place(out, at)
-}
-
 fn push_places(out: &mut Vec<u8>, places: &[Where]) -> Result<(), AllocError>
     ensures { OnOk result (out.new.items ≡ out.old.items ++ flat_map further_place places.now) }
 {
     for at in places {
-        push_further_place(out, *at)?;
+        match at {
+            Where::Port(port) => put(out, &ALSO_BY_PORT, &[Number(u128::from(*port))])?,
+            Where::Controller => out.extend_from_slice(&ALSO_TO_CONTROLLER)?,
+        }
     }
-    Ok(())
-}
-
-#[tactic(auto, unfolding(crate::specs::DiffWords::also_words))]
-fn push_also(alloc: Global, out: &mut Vec<u8>, also: &[&Difference]) -> Result<(), AllocError>
-    ensures { OnOk result (out.new.items ≡ out.old.items ++ also_words also.now) }
-{
-    let places = places_of(alloc, also)?;
-    out.extend_from_slice(b"    also: ")?;
-    push_difference_count(out, also.len())?;
-    push_places(out, &places)?;
-    out.push(b'\n')?;
     Ok(())
 }
 
 // Appends where further differences of the same changed entries are, if there are such.
 #[tactic(auto, unfolding(crate::specs::DiffWords::also_line))]
-fn push_also_line(alloc: Global, out: &mut Vec<u8>, also: &[&Difference]) -> Result<(), AllocError>
+fn push_also(alloc: Global, out: &mut Vec<u8>, also: &[&Difference]) -> Result<(), AllocError>
     ensures { OnOk result (out.new.items ≡ out.old.items ++ also_line also.now) }
 {
     if also.is_empty() {
-        Ok(())
-    } else {
-        push_also(alloc, out, also)
+        return Ok(());
     }
+    let places = places_of(alloc, also)?;
+    out.extend_from_slice(&ALSO)?;
+    push_difference_count(out, also.len())?;
+    push_places(out, &places)?;
+    out.push(b'\n')?;
+    Ok(())
 }
 
 // Appends where something else leaves, a frame, and the region of its set.
@@ -251,50 +218,10 @@ fn push_difference_head<L: Lookup>(
     push_where(out, difference.at)?;
     push_heading(alloc, out, switch, port, frame)?;
     push_frame_lines(alloc, out, port, frame)?;
-    push_region_line(out, &difference.sets, &told.region)
+    push_region_line(out, &told.region)
 }
 
-// Appends what both switches do with a frame.
-#[tactic(auto, unfolding(crate::specs::DiffWords::both_switches_words))]
-fn push_both_switches(
-    alloc: Global,
-    out: &mut Vec<u8>,
-    first: &FileFlows<'_>,
-    second: &FileFlows<'_>,
-    told: &Told<'_>,
-) -> Result<(), AllocError>
-    ensures { OnOk result (out.new.items ≡ out.old.items ++ both_switches_words first.now second.now told.now) }
-{
-    let difference = told.difference;
-    push_switch(
-        alloc,
-        out,
-        b"    first: ",
-        first,
-        &told.first.all,
-        &difference.frame,
-        &difference.first,
-    )?;
-    push_switch(
-        alloc,
-        out,
-        b"    second: ",
-        second,
-        &told.second.all,
-        &difference.frame,
-        &difference.second,
-    )
-}
-
-// Appends how many sets of frames a difference has, and what is told with it.
-#[tactic(auto, unfolding(crate::specs::DiffWords::sets_and_also_words))]
-fn push_further(alloc: Global, out: &mut Vec<u8>, told: &Told<'_>) -> Result<(), AllocError>
-    ensures { OnOk result (out.new.items ≡ out.old.items ++ sets_and_also_words told.now) }
-{
-    push_sets_line(out, told.difference.sets.len())?;
-    push_also_line(alloc, out, &told.also)
-}
-
+// Appends a difference: where, the frame, what both switches do with it, and what is told with it.
 #[tactic(auto, unfolding(crate::specs::DiffWords::difference_words))]
 fn push_difference<L: Lookup>(
     alloc: Global,
@@ -306,23 +233,39 @@ fn push_difference<L: Lookup>(
     ensures { OnOk result (out.new.items ≡ out.old.items ++
         difference_words first.now.flows second.now.flows first.now.switch.now.core.forwarding told.now) }
 {
+    let difference = told.difference;
+    let (frame, one, other) = (&difference.frame, &told.first.all, &told.second.all);
     push_difference_head(alloc, out, first.switch, told)?;
-    push_both_switches(alloc, out, &first.flows, &second.flows, told)?;
-    push_further(alloc, out, told)
+    push_switch(
+        alloc,
+        out,
+        b"    first: ",
+        &first.flows,
+        one,
+        frame,
+        &difference.first,
+    )?;
+    push_switch(
+        alloc,
+        out,
+        b"    second: ",
+        &second.flows,
+        other,
+        frame,
+        &difference.second,
+    )?;
+    push_sets_line(out, difference.sets.len())?;
+    push_also(alloc, out, &told.also)
 }
 
-fn is_invalid(reason: PacketInReason) -> bool
-    ensures { result ≡ is_invalid_ttl reason }
-{
-    matches!(reason, PacketInReason::InvalidTtl)
-}
+// ---- differences of frames whose TTL expires
 
 fn is_expired(item: &Item) -> bool
     ensures { result ≡ is_expired_item item.now }
 {
     match item {
         Item::Sent { .. } => false,
-        Item::PacketIn(packet) => is_invalid(packet.reason),
+        Item::PacketIn(packet) => packet.reason == PacketInReason::InvalidTtl,
     }
 }
 
@@ -340,39 +283,15 @@ fn expires(difference: &Difference) -> bool
     some_expire(&difference.first) || some_expire(&difference.second)
 }
 
-fn all_of_expired(also: &[&Difference]) -> bool
-    ensures { result ≡ list_all is_expired_difference also.now }
-{
-    also.iter().all(|difference| expires(difference))
-}
-
 // Whether the TTL expires of each frame of those that are told together.
 #[tactic(auto, unfolding(crate::specs::DiffWords::are_of_expired))]
 fn all_expire(told: &Told<'_>) -> bool
     ensures { result ≡ are_of_expired told.now }
 {
-    expires(told.difference) && all_of_expired(&told.also)
+    expires(told.difference) && told.also.iter().all(|difference| expires(difference))
 }
 
-// Appends differences, unless they are some of those that are only counted.
-fn push_told<L: Lookup>(
-    alloc: Global,
-    out: &mut Vec<u8>,
-    first: &DiffSide<'_, L>,
-    second: &DiffSide<'_, L>,
-    all: bool,
-    told: &Told<'_>,
-) -> Result<(), AllocError>
-    ensures { OnOk result (out.new.items ≡ out.old.items ++ told_words all first.now.flows second.now.flows
-        first.now.switch.now.core.forwarding told.now) }
-{
-    if all || !all_expire(told) {
-        push_difference(alloc, out, first, second, told)
-    } else {
-        Ok(())
-    }
-}
-
+// Appends differences, except those that are only counted.
 fn push_differences<L: Lookup>(
     alloc: Global,
     out: &mut Vec<u8>,
@@ -385,35 +304,10 @@ fn push_differences<L: Lookup>(
         first.now.switch.now.core.forwarding) told.now) }
 {
     for one in told {
-        push_told(alloc, out, first, second, all, one)?;
+        if all || !all_expire(one) {
+            push_difference(alloc, out, first, second, one)?;
+        }
     }
-    Ok(())
-}
-
-#[tactic(auto, unfolding(crate::specs::DiffWords::such_port_words))]
-fn push_such_port(out: &mut Vec<u8>, port: u32) -> Result<(), AllocError>
-    ensures { OnOk result (out.new.items ≡ out.old.items ++ such_port_words port) }
-{
-    out.extend_from_slice(b", such as --port ")?;
-    push_decimal(out, u128::from(port))?;
-    Ok(())
-}
-
-#[tactic(auto, unfolding(crate::specs::DiffWords::such_as_words))]
-fn push_such_as(alloc: Global, out: &mut Vec<u8>, difference: &Difference) -> Result<(), AllocError>
-    ensures { OnOk result (out.new.items ≡ out.old.items ++ such_as_words difference.now) }
-{
-    push_such_port(out, difference.in_port)?;
-    out.push(b' ')?;
-    push_hex(alloc, out, &difference.frame)
-}
-
-#[tactic(auto, unfolding(crate::specs::DiffWords::expired_count_words))]
-fn push_expired_count(out: &mut Vec<u8>, count: usize) -> Result<(), AllocError>
-    ensures { OnOk result (out.new.items ≡ out.old.items ++ expired_count_words count) }
-{
-    out.extend_from_slice(b"of frames whose TTL expires: ")?;
-    push_difference_count(out, count)?;
     Ok(())
 }
 
@@ -426,13 +320,15 @@ fn push_expired(
 ) -> Result<(), AllocError>
     ensures { OnOk result (out.new.items ≡ out.old.items ++ expired_words count difference.now) }
 {
-    push_expired_count(out, count)?;
-    push_such_as(alloc, out, difference)?;
+    out.extend_from_slice(&EXPIRED)?;
+    push_difference_count(out, count)?;
+    put(out, &SUCH_AS, &[Number(u128::from(difference.in_port))])?;
+    push_hex(alloc, out, &difference.frame)?;
     out.push(b'\n')?;
     Ok(())
 }
 
-// Appends how many differences are of frames whose TTL expires, and the first of these frames.
+// Appends a line about the differences that are only counted, if there are such: how many, and the first of their frames.
 fn push_first_expired(
     alloc: Global,
     out: &mut Vec<u8>,
@@ -452,45 +348,18 @@ fn push_first_expired(
 fn count_expired(told: &[Told<'_>]) -> usize
     ensures { result ≡ expired_count told.now }
 {
-    let mut count = 0;
-    for one in told {
-        if all_expire(one) {
-            count += 1;
-        }
-    }
-    count
+    told.iter().filter(|one| all_expire(one)).count()
 }
 
-fn all_told_expire(told: &[Told<'_>]) -> bool
-    ensures { result ≡ list_all are_of_expired told.now }
-{
-    told.iter().all(|one| all_expire(one))
-}
-
-// Appends a line about the differences that are only counted, if there are such.
-fn push_expired_line(alloc: Global, out: &mut Vec<u8>, told: &[Told<'_>]) -> Result<(), AllocError>
-    ensures { OnOk result (out.new.items ≡ out.old.items ++ expired_line told.now) }
-{
-    if all_told_expire(told) {
-        return Ok(());
-    }
-    push_first_expired(alloc, out, count_expired(told), told)
-}
-
-// Whether a reason is the other one.
-fn is_reason(why: Why, other: Why) -> bool
-    ensures { result ≡ is_why why other }
-{
-    why == other
-}
+// ---- why frames are undecided
 
 // How many sets of frames are undecided for a reason.
-fn count_undecided(undecided: &[Undecided], why: Why) -> usize
+fn count_undecided(undecided: &[ToldUndecided<'_>], why: Why) -> usize
     ensures { result ≡ count_why why undecided.now }
 {
     undecided
         .iter()
-        .filter(|set| is_reason(why, set.why))
+        .filter(|set| why == set.undecided.why)
         .count()
 }
 
@@ -498,47 +367,64 @@ fn sentence(why: Why) -> &'static [u8]
     ensures { result.now ≡ undecided_why why }
 {
     match why {
-        Why::UnknownTag => b"a lookup asks what is not known of a VLAN tag",
-        Why::Steps => b"the runs took as many steps as they may (--steps)",
-        Why::Search => {
-            b"the search for a frame took as many steps as it may, or found none with a port of the switches"
-        }
-        Why::OtherActions => {
-            b"the actions differ, but what they made of the frame that was run is the same"
-        }
+        Why::UnknownTag => &UNKNOWN_TAG,
+        Why::Steps => &STEPS,
+        Why::Search => &SEARCH,
+        Why::OtherActions => &OTHER_ACTIONS,
     }
 }
 
-// Appends how many sets of frames are undecided for a reason, if there are such.
-#[tactic(auto, unfolding(crate::specs::DiffWords::undecided_line))]
-fn push_undecided_line(out: &mut Vec<u8>, count: usize, why: Why) -> Result<(), AllocError>
-    ensures { OnOk result (out.new.items ≡ out.old.items ++ undecided_line count why) }
+// Appends the regions of the first sets of frames that are undecided for a reason.
+fn push_regions(
+    out: &mut Vec<u8>,
+    undecided: &[ToldUndecided<'_>],
+    why: Why,
+) -> Result<(), AllocError>
+    ensures { OnOk result (out.new.items ≡ out.old.items ++ regions_of why REGIONS undecided.now) }
 {
+    let mut left = REGIONS;
+    for set in undecided {
+        if left > 0 && why == set.undecided.why {
+            push_region_line(out, &set.region)?;
+            left -= 1;
+        }
+    }
+    Ok(())
+}
+
+// Appends how many sets of frames are undecided for a reason, and regions of them, if there are such.
+#[tactic(auto, unfolding(crate::specs::DiffWords::reason_lines))]
+fn push_reason(
+    out: &mut Vec<u8>,
+    undecided: &[ToldUndecided<'_>],
+    why: Why,
+) -> Result<(), AllocError>
+    ensures { OnOk result (out.new.items ≡ out.old.items ++ reason_lines undecided.now why) }
+{
+    let count = count_undecided(undecided, why);
     if count == 0 {
         return Ok(());
     }
     push_undecided_sets(out, count)?;
     out.extend_from_slice(sentence(why))?;
-    out.push(b'\n')?;
+    push_regions(out, undecided, why)?;
+    if count > REGIONS {
+        put(out, &MORE_REGIONS, &[Number((count - REGIONS) as u128)])?;
+    }
     Ok(())
 }
 
-// Appends how many sets of frames are undecided for a reason, if there are such.
-fn push_reason_line(out: &mut Vec<u8>, undecided: &[Undecided], why: Why) -> Result<(), AllocError>
-    ensures { OnOk result (out.new.items ≡ out.old.items ++ undecided_line (count_why why undecided.now) why) }
-{
-    push_undecided_line(out, count_undecided(undecided, why), why)
-}
-
 #[tactic(auto, unfolding(crate::specs::DiffWords::undecided_words))]
-fn push_undecided(out: &mut Vec<u8>, undecided: &[Undecided]) -> Result<(), AllocError>
+fn push_undecided(out: &mut Vec<u8>, undecided: &[ToldUndecided<'_>]) -> Result<(), AllocError>
     ensures { OnOk result (out.new.items ≡ out.old.items ++ undecided_words undecided.now) }
 {
-    push_reason_line(out, undecided, Why::UnknownTag)?;
-    push_reason_line(out, undecided, Why::Steps)?;
-    push_reason_line(out, undecided, Why::Search)?;
-    push_reason_line(out, undecided, Why::OtherActions)
+    push_reason(out, undecided, Why::UnknownTag)?;
+    push_reason(out, undecided, Why::Steps)?;
+    push_reason(out, undecided, Why::Search)?;
+    push_reason(out, undecided, Why::OtherActions)
 }
+
+// ---- the summary
 
 /// Whether nothing differs, and nothing is undecided.
 pub fn is_same(found: &Differences) -> bool
@@ -554,21 +440,13 @@ pub fn is_same_with(of: &Reserved<'_>, found: &Differences) -> bool
     !has_reason(of) && is_same(found)
 }
 
-fn sentence_of_limits(limits: Option<Limits>) -> &'static [u8]
-    ensures { result.now ≡ same_unless limits }
-{
-    match limits {
-        None => b"same: all frames that a port receives are treated alike",
-        Some(_) => b"no difference, except perhaps in how much of a frame a PACKET_IN has",
-    }
-}
-
-fn same_sentence(of: &Reserved<'_>) -> &'static [u8]
+fn same_line(of: &Reserved<'_>) -> &'static [u8]
     ensures { result.now ≡ same_words of.now.missing.now of.now.limits }
 {
-    match of.missing {
-        [] => sentence_of_limits(of.limits),
-        _ => b"no difference, as long as the switches do not have these ports",
+    match (of.missing, of.limits) {
+        ([], None) => &SAME,
+        ([], Some(_)) => &SAME_UNLESS_LIMITS,
+        _ => &SAME_UNLESS_MISSING,
     }
 }
 
@@ -583,11 +461,10 @@ fn push_summary(
     ensures { OnOk result (out.new.items ≡ out.old.items ++ diff_summary of.now.missing.now of.now.limits told found.now) }
 {
     if is_same(found) {
-        out.extend_from_slice(same_sentence(of))?;
-    } else {
-        push_difference_count(out, told)?;
-        push_undecided_count(out, found.undecided.len())?;
+        return out.extend_from_slice(same_line(of));
     }
+    push_difference_count(out, told)?;
+    push_undecided_count(out, found.undecided.len())?;
     out.push(b'\n')?;
     Ok(())
 }
@@ -600,18 +477,21 @@ pub fn differences_in_words<L: Lookup>(
     second: &DiffSide<'_, L>,
     of: &Reserved<'_>,
     told: &[Told<'_>],
+    undecided: &[ToldUndecided<'_>],
     found: &Differences,
 ) -> Result<Vec<u8>, AllocError>
     ensures { IfOk result (λ text. text.items ≡ diff_words first.now.flows second.now.flows of.now.missing.now of.now.limits
-        first.now.switch.now.core.forwarding told.now found.now) }
+        first.now.switch.now.core.forwarding told.now undecided.now found.now) }
 {
     let mut out = Vec::new(alloc);
-    let all = all_told_expire(told);
+    let expired = count_expired(told);
     push_missing(&mut out, of.missing)?;
-    push_limits_line(&mut out, of.limits)?;
-    push_differences(alloc, &mut out, first, second, all, told)?;
-    push_expired_line(alloc, &mut out, told)?;
-    push_undecided(&mut out, &found.undecided)?;
+    push_limits(&mut out, of.limits)?;
+    push_differences(alloc, &mut out, first, second, expired == told.len(), told)?;
+    if expired < told.len() {
+        push_first_expired(alloc, &mut out, expired, told)?;
+    }
+    push_undecided(&mut out, undecided)?;
     push_summary(&mut out, of, told.len(), found)?;
     Ok(out)
 }
@@ -622,6 +502,6 @@ pub fn other_ports_in_words(alloc: Global, missing: &[u32]) -> Result<Vec<u8>, A
 {
     let mut out = Vec::new(alloc);
     push_missing(&mut out, missing)?;
-    out.extend_from_slice(b"the switches have different ports\n")?;
+    out.extend_from_slice(&OTHER_PORTS)?;
     Ok(out)
 }

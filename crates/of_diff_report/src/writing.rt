@@ -6,13 +6,13 @@ ghost use Rattle.of_symbolic_run.specs.Received.{IsReceivedAt};
 ghost use Rattle.of_diff.specs.Differences.{IsDifference, IsTreatedAlike};
 ghost use Rattle.of_diff.specs.SameSwitches.{AreSameSwitches, IsNothing};
 ghost use Rattle.of_alike.specs.declared.alike.Compared.{Compared as WhatIsCompared};
-ghost use Rattle.of_diff_report.specs.DiffFiles.{AreFoundBetween, IsDiffReport, IsTextFound, IsVerdict, diff_text, diff_verdict, other_ports_text, verdict_on};
+ghost use Rattle.of_diff_report.specs.DiffFiles.{AreFoundBetween, IsDiffReport, IsTextFound, IsVerdict, diff_verdict, verdict_on};
 ghost use Rattle.of_diff_report.specs.DiffWords.{other_limits};
 
 use crate::hits::DiffSide;
 use crate::json::{differences_as_json, other_ports_as_json};
 use crate::reserved::{Limits, Reserved, limits_between};
-use crate::telling::{Told, tell_all};
+use crate::telling::{tell_all, tell_undecided};
 use crate::words::{differences_in_words, is_same_with, other_ports_in_words};
 use of_alike::Compared;
 use of_classifier::Lookup;
@@ -56,51 +56,6 @@ fn find_differences<L: Lookup>(
     differences(alloc, first.datapath(), second.datapath(), compared, steps)
 }
 
-// That the ports differ.
-fn other_ports_in(alloc: Global, form: DiffForm, missing: &[u32]) -> Result<Vec<u8>, AllocError>
-    ensures { IfOk result (λ text. text.items ≡ other_ports_text form missing.now) }
-{
-    match form {
-        DiffForm::Words => other_ports_in_words(alloc, missing),
-        DiffForm::Json => other_ports_as_json(alloc, missing),
-    }
-}
-
-// What is told of what is found, if the ports are the same.
-fn told_in<L: Lookup>(
-    alloc: Global,
-    form: DiffForm,
-    first: &DiffSide<'_, L>,
-    second: &DiffSide<'_, L>,
-    of: &Reserved<'_>,
-    told: &[Told<'_>],
-    found: &Differences,
-) -> Result<Vec<u8>, AllocError>
-    ensures { IfOk result (λ text. text.items ≡ diff_text form first.now.flows second.now.flows of.now.missing.now of.now.limits
-        first.now.switch.now.core.forwarding told.now found.now) }
-{
-    match form {
-        DiffForm::Words => differences_in_words(alloc, first, second, of, told, found),
-        DiffForm::Json => differences_as_json(alloc, first, second, of, told, found),
-    }
-}
-
-// What is found, if the ports are the same.
-fn found_in<L: Lookup>(
-    alloc: Global,
-    form: DiffForm,
-    first: &DiffSide<'_, L>,
-    second: &DiffSide<'_, L>,
-    of: &Reserved<'_>,
-    found: &Differences,
-) -> Result<Vec<u8>, AllocError>
-    ensures { IfOk result (λ text. IsTextFound form first.now.flows second.now.flows of.now.missing.now of.now.limits
-        first.now.switch.now.core.forwarding second.now.switch.now.core.forwarding (Some found.now) text.items) }
-{
-    let told = tell_all(alloc, first, second, &found.found)?;
-    told_in(alloc, form, first, second, of, &told, found)
-}
-
 // The text of what is found.
 fn text_in<L: Lookup>(
     alloc: Global,
@@ -113,9 +68,17 @@ fn text_in<L: Lookup>(
     ensures { IfOk result (λ text. IsTextFound form first.now.flows second.now.flows of.now.missing.now of.now.limits
         first.now.switch.now.core.forwarding second.now.switch.now.core.forwarding found.now text.items) }
 {
-    match found {
-        None => other_ports_in(alloc, form, of.missing),
-        Some(found) => found_in(alloc, form, first, second, of, found),
+    let Some(found) = found else {
+        return match form {
+            DiffForm::Words => other_ports_in_words(alloc, of.missing),
+            DiffForm::Json => other_ports_as_json(alloc, of.missing),
+        };
+    };
+    let told = tell_all(alloc, first, second, &found.found)?;
+    let open = tell_undecided(alloc, &found.undecided)?;
+    match form {
+        DiffForm::Words => differences_in_words(alloc, first, second, of, &told, &open, found),
+        DiffForm::Json => differences_as_json(alloc, first, second, of, &told, &open, found),
     }
 }
 

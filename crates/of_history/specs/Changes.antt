@@ -9,9 +9,11 @@ use Rattle.of_switch.specs.declared.event.Event.TheVariants as events
 use Rattle.of_switch.specs.State.{State}
 use Rattle.of_replay.specs.Rows.{row_of_line}
 use Rattle.of_replay.specs.RowTexts.{RowText, row_happened}
+use Rattle.of_values.specs.Filled.{filled}
 use Rattle.of_explain.specs.Requests.{request_notes}
 use Rattle.of_history.specs.Causes.{By, Message, Moment, Cause, by_row, cause_of_turn}
 use Rattle.of_history.specs.declared.reason.Reason.{Reason}
+use Rattle.of_history.specs.declared.telling.TheConstants as words
 use Rattle.of_history.specs.Reasons.{fate_reason_note, fate_reason}
 use Rattle.of_history.specs.Turns.{Turn, row_turns}
 
@@ -22,13 +24,10 @@ ChangeText = Cause → Option Reason → List ℕ → List ℕ → List ℕ
 -- ---- in words
 
 -- `line 9: t 4000000000` and what expires, or `line 24, message 3` and the notes of the message
-abbrev pub by_words : List ℕ → By → List ℕ
-by_words line (Message k m) = codes ", message " ++ decimal k ++ 10 ∷ request_notes m
-by_words line (Moment expired) = codes ": " ++ ended line ++ expired
-by_words line other = codes ": " ++ ended line
-
-unfoldable pub cause_words : Cause → List ℕ
-cause_words c = codes "line " ++ decimal c.number ++ by_words c.line c.by
+abbrev pub cause_words : ℕ → List ℕ → By → List ℕ
+cause_words n line (Message k m) = filled words.MESSAGE (decimal n ∷ decimal k ∷ []) ++ request_notes m
+cause_words n line (Moment expired) = filled words.LINE (decimal n ∷ line ∷ []) ++ expired
+cause_words n line other = filled words.LINE (decimal n ∷ line ∷ [])
 
 abbrev pub kept_line : List ℕ → List ℕ
 kept_line line = codes "      " ++ ended line
@@ -49,7 +48,7 @@ marked_lines (l ∷ old) [] = other_lines (l ∷ old) []
 marked_lines (l ∷ old) (m ∷ new) = if bytes_eq l m then kept_line l ++ marked_lines old new else other_lines (l ∷ old) (m ∷ new)
 
 unfoldable pub changed_words : ChangeText
-changed_words cause reason old new = cause_words cause ++ fate_reason_note reason ++ marked_lines (lines_of old) (lines_of new)
+changed_words cause reason old new = cause_words cause.number cause.line cause.by ++ fate_reason_note reason ++ marked_lines (lines_of old) (lines_of new)
 
 -- ---- of a text whose lines are a set, such as flow entries
 

@@ -1,6 +1,7 @@
 -- ENTRIES WHOSE TIMEOUTS ARE OVER at a moment (OpenFlow 1.3.5, 5.5), each in a line: by which timeout, and since when that counts.
-use Rattle.std.specs.Prelude.{ℕ, nat_lt, List, [], ◌++◌, codes, slice_get, Option, Some, None, if◌then◌else◌}
+use Rattle.std.specs.Prelude.{ℕ, nat_lt, List, [], ◌∷◌, ◌++◌, decimal, slice_get, Option, Some, None, if◌then◌else◌}
 use Rattle.std.specs.List.{flat_map}
+use Rattle.std.specs.Option.{option_map_or}
 use Rattle.of_wire.specs.declared.reasons.FlowRemovedReason.{FlowRemovedReason}
 use Rattle.of_wire.specs.declared.reasons.FlowRemovedReason.TheVariants.{HardTimeout}
 use Rattle.of_headers.specs.declared.headers.FrameFault.{FrameFault}
@@ -13,18 +14,16 @@ use Rattle.of_machine.specs.declared.data.Step.TheVariants.{Entry}
 use Rattle.of_datapath.specs.Datapath.{Forwarding}
 use Rattle.of_datapath.specs.DryRun.{received_steps}
 use Rattle.of_text.specs.Lines.{note}
-use Rattle.of_trace.specs.Words.{found_words, numbered_words}
+use Rattle.of_values.specs.Filled.{filled}
+use Rattle.of_trace.specs.Words.{found_words}
+use Rattle.of_history.specs.declared.expiring.TheConstants as line
 
-unfoldable pub last_hit_words : Option ℕ → List ℕ
-last_hit_words None = codes "never hit"
-last_hit_words (Some last) = numbered_words (codes "last hit at") last
-
-unfoldable pub timeout_words : FlowEntry → FlowRemovedReason → List ℕ
-timeout_words e HardTimeout = numbered_words (codes ": hard timeout, added at") e.created
-timeout_words e other = codes ": idle timeout, " ++ last_hit_words e.last
+abbrev pub timeout_words : FlowEntry → FlowRemovedReason → List ℕ
+timeout_words e HardTimeout = filled line.HARD (decimal e.created ∷ [])
+timeout_words e other = option_map_or (λ last. filled line.IDLE (decimal last ∷ [])) e.last line.NEVER_HIT
 
 unfoldable pub expiry_words : ℕ → FlowEntry → FlowRemovedReason → List ℕ
-expiry_words table e reason = numbered_words (codes "expired: table") table ++ found_words (Some e.flow) ++ timeout_words e reason
+expiry_words table e reason = filled line.EXPIRED (decimal table ∷ []) ++ found_words (Some e.flow) ++ timeout_words e reason
 
 abbrev pub expiry_by : ℕ → FlowEntry → Option FlowRemovedReason → List ℕ
 expiry_by table e None = []

@@ -1,5 +1,5 @@
 -- THE FLOW ENTRIES THAT ARE SELECTED, by table and then by age, each in a line that has all of it except its counters (OpenFlow 1.3.5, 5.2).
-use Rattle.std.specs.Prelude.{ℕ, ◌==◌, ◌&&◌, Bool, true, List, [], ◌++◌, codes, Option, Some, None, bit_and, if◌then◌else◌}
+use Rattle.std.specs.Prelude.{ℕ, ◌==◌, ◌&&◌, Bool, true, List, [], ◌∷◌, ◌++◌, codes, decimal, Option, Some, None, bit_and, if◌then◌else◌}
 use Rattle.std.specs.List.{flat_map}
 use Rattle.std.specs.Option.{option_map_or}
 use Rattle.of_oxm.specs.declared.match_field.MatchField.{MatchField}
@@ -13,9 +13,11 @@ use Rattle.of_machine.specs.declared.data.Step.TheVariants.{Apply, Clear, Write,
 use Rattle.of_statistics.specs.Flows.{from_tables}
 use Rattle.of_datapath.specs.Datapath.{Forwarding}
 use Rattle.of_text.specs.Lines.{ended}
+use Rattle.of_values.specs.Filled.{filled}
 use Rattle.of_values.specs.Numbers.{hexadecimal}
-use Rattle.of_trace.specs.Words.{found_words, numbered_words, words_line}
+use Rattle.of_trace.specs.Words.{found_words, words_line}
 use Rattle.of_history.specs.declared.entries.EntryFilter.{EntryFilter}
+use Rattle.of_history.specs.declared.entries.TheConstants as line
 use Rattle.of_history.specs.Expiring.{expiry_line}
 
 -- the entry's match is at least as specific as these fields (6.4); its priority is that of the filter, if it has one; and the cookies agree in the bits of the mask
@@ -38,11 +40,10 @@ instruction_words f (instructions.Goto table) = further_step f (Goto table)
 -- since when it is there, and for how long
 unfoldable pub lasting_words : FlowEntry → List ℕ
 lasting_words e =
-    codes ", cookie " ++ hexadecimal 1 e.flow.cookie ++ numbered_words (codes ", idle") e.flow.idle_timeout ++ numbered_words (codes ", hard") e.flow.hard_timeout
-    ++ numbered_words (codes ", flags") (flags_number e.flow.flags) ++ numbered_words (codes ", added at") e.created
+    filled line.LASTING (hexadecimal 1 e.flow.cookie ∷ decimal e.flow.idle_timeout ∷ decimal e.flow.hard_timeout ∷ decimal (flags_number e.flow.flags) ∷ decimal e.created ∷ [])
 
 unfoldable pub selected_line : Forwarding → ℕ → FlowEntry → List ℕ
-selected_line f table e = numbered_words (codes "table") table ++ found_words (Some e.flow) ++ lasting_words e ++ flat_map (instruction_words f) e.flow.instructions
+selected_line f table e = filled line.TABLE (decimal table ∷ []) ++ found_words (Some e.flow) ++ lasting_words e ++ flat_map (instruction_words f) e.flow.instructions
 
 -- what is said of an entry: all, or whether it expires at a moment
 abbrev pub said_of_entry : Forwarding → Option ℕ → ℕ → FlowEntry → List ℕ

@@ -10,7 +10,7 @@ ghost use Rattle.of_text.specs.Lines.{ended};
 ghost use Rattle.of_tracing.specs.Encoded.{is_encoded};
 ghost use Rattle.of_history.specs.Selected.{entry_selected, further_step, instruction_words, is_selected as selected, lasting_words, selected_entries, selected_line, table_selected};
 
-use crate::expiring::{push_expiry, push_numbered};
+use crate::expiring::push_expiry;
 use crate::fate::push_winner_words;
 use crate::sight::Sight;
 use crate::view::View;
@@ -21,9 +21,14 @@ use of_oxm::{Match, covers};
 use of_switch::Switch;
 use of_table::{Entries, Entry};
 use of_trace::push_words_line;
-use of_values::push_hexadecimal;
+use of_values::Part::{Hex, Number};
+use of_values::put;
 use of_wire::limits::TABLES;
 use std::alloc::{AllocError, Global};
+
+pub const TABLE: [u8; 7] = *b"table %";
+
+pub const LASTING: [u8; 47] = *b", cookie %, idle %, hard %, flags %, added at %";
 
 /// Which flow entries are selected, besides their match.
 #[derive(Clone, Copy)]
@@ -122,12 +127,18 @@ fn push_instructions<L: Lookup>(
 fn push_lasting(out: &mut Vec<u8>, entry: &Entry) -> Result<(), AllocError>
     ensures { OnOk result (out.new.items ≡ out.old.items ++ lasting_words (entry_of entry.now)) }
 {
-    out.extend_from_slice(b", cookie ")?;
-    push_hexadecimal(out, 1, u128::from(entry.flow.cookie))?;
-    push_numbered(out, b", idle", u64::from(entry.flow.idle_timeout))?;
-    push_numbered(out, b", hard", u64::from(entry.flow.hard_timeout))?;
-    push_numbered(out, b", flags", u64::from(entry.flow.flags.number()))?;
-    push_numbered(out, b", added at", entry.created)
+    let flow = &entry.flow;
+    put(
+        out,
+        &LASTING,
+        &[
+            Hex(u128::from(flow.cookie)),
+            Number(u128::from(flow.idle_timeout)),
+            Number(u128::from(flow.hard_timeout)),
+            Number(u128::from(flow.flags.number())),
+            Number(u128::from(entry.created)),
+        ],
+    )
 }
 
 // Appends the line of an entry.
@@ -140,7 +151,7 @@ fn push_line<L: Lookup>(
 ) -> Result<(), AllocError>
     ensures { OnOk result (out.new.items ≡ out.old.items ++ ended (selected_line switch.now.core.forwarding table (entry_of entry.now))) }
 {
-    push_numbered(out, b"table", u64::from(table))?;
+    put(out, &TABLE, &[Number(u128::from(table))])?;
     push_winner_words(out, &entry.flow)?;
     push_lasting(out, entry)?;
     push_instructions(out, switch, entry.flow.instructions.as_slice())?;

@@ -2,17 +2,26 @@
 ghost use Rattle.std.specs.Prelude.{◌≡◌, ◌++◌, OnOk};
 ghost use Rattle.of_table.specs.Entries.{entry_of};
 ghost use Rattle.of_table.specs.Selecting.{is_over as over, timeout_reason};
-ghost use Rattle.of_trace.specs.Words.{numbered_words};
-ghost use Rattle.of_history.specs.Expiring.{expiry_line, expiry_words, last_hit_words, step_expiry, timeout_words};
+ghost use Rattle.of_history.specs.Expiring.{expiry_line, expiry_words, step_expiry, timeout_words};
 
 use crate::fate::push_winner_words;
 use of_classifier::Lookup;
 use of_machine::Step;
 use of_switch::Switch;
 use of_table::{Entry, FlowRemovedReason, NANOS};
-use of_text::{begin_note, end_note, push_number};
+use of_text::{begin_note, end_note};
+use of_values::Part::Number;
+use of_values::put;
 use of_wire::limits::TABLES;
 use std::alloc::AllocError;
+
+pub const EXPIRED: [u8; 16] = *b"expired: table %";
+
+pub const HARD: [u8; 26] = *b": hard timeout, added at %";
+
+pub const IDLE: [u8; 29] = *b": idle timeout, last hit at %";
+
+pub const NEVER_HIT: [u8; 25] = *b": idle timeout, never hit";
 
 // Whether a timeout of this many seconds is over; 0 is none.
 fn is_over(moment: u64, since: u64, seconds: u16) -> bool
@@ -35,28 +44,7 @@ fn timeout(moment: u64, entry: &Entry) -> Option<FlowRemovedReason>
     None
 }
 
-/// Appends words and a number.
-#[tactic(auto, unfolding(of_trace::specs::Words::numbered_words))]
-pub fn push_numbered(out: &mut Vec<u8>, words: &[u8], number: u64) -> Result<(), AllocError>
-    ensures { OnOk result (out.new.items ≡ out.old.items ++ numbered_words words.now number) }
-{
-    out.extend_from_slice(words)?;
-    push_number(out, number)
-}
-
-// Appends when an entry was hit last.
-#[tactic(auto, unfolding(crate::specs::Expiring::last_hit_words))]
-fn push_hit(out: &mut Vec<u8>, last: Option<u64>) -> Result<(), AllocError>
-    ensures { OnOk result (out.new.items ≡ out.old.items ++ last_hit_words last) }
-{
-    match last {
-        None => out.extend_from_slice(b"never hit"),
-        Some(last) => push_numbered(out, b"last hit at", last),
-    }
-}
-
 // Appends a timeout, and since when it counts.
-#[tactic(auto, unfolding(crate::specs::Expiring::timeout_words))]
 fn push_timeout(
     out: &mut Vec<u8>,
     entry: &Entry,
@@ -64,14 +52,12 @@ fn push_timeout(
 ) -> Result<(), AllocError>
     ensures { OnOk result (out.new.items ≡ out.old.items ++ timeout_words (entry_of entry.now) reason) }
 {
-    match reason {
-        FlowRemovedReason::HardTimeout => {
-            push_numbered(out, b": hard timeout, added at", entry.created)
+    match (reason, entry.last) {
+        (FlowRemovedReason::HardTimeout, _) => {
+            put(out, &HARD, &[Number(u128::from(entry.created))])
         }
-        _ => {
-            out.extend_from_slice(b": idle timeout, ")?;
-            push_hit(out, entry.last)
-        }
+        (_, Some(last)) => put(out, &IDLE, &[Number(u128::from(last))]),
+        (_, None) => out.extend_from_slice(&NEVER_HIT),
     }
 }
 
@@ -85,7 +71,7 @@ fn push_expiry_words(
 ) -> Result<(), AllocError>
     ensures { OnOk result (out.new.items ≡ out.old.items ++ expiry_words table (entry_of entry.now) reason) }
 {
-    push_numbered(out, b"expired: table", u64::from(table))?;
+    put(out, &EXPIRED, &[Number(u128::from(table))])?;
     push_winner_words(out, &entry.flow)?;
     push_timeout(out, entry, reason)
 }

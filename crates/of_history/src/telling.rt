@@ -1,13 +1,18 @@
 //! What is said of a change.
 ghost use Rattle.std.specs.Prelude.{◌≡◌, ◌++◌, OnOk};
-ghost use Rattle.of_history.specs.Changes.{ChangeText, by_words, cause_words, changed_words};
+ghost use Rattle.of_history.specs.Changes.{ChangeText, cause_words, changed_words};
 
 use crate::cause::{By, Cause};
-use crate::marks::{push_both, push_marked};
+use crate::marks::push_both;
 use crate::reason::{Reason, push_reason};
 use of_explain::push_request;
-use of_values::push_decimal;
+use of_values::Part::{Number, Text};
+use of_values::put;
 use std::alloc::{AllocError, Global};
+
+pub const LINE: [u8; 10] = *b"line %: %\n";
+
+pub const MESSAGE: [u8; 18] = *b"line %, message %\n";
 
 /// Says who changed a view of a switch, why, and both texts.
 pub trait ChangeTeller {
@@ -27,33 +32,22 @@ pub trait ChangeTeller {
         ensures { OnOk result (out.new.items ≡ out.old.items ++ text cause.now reason old.now new.now) };
 }
 
-// Appends what a row or a message does.
-fn push_by(alloc: Global, out: &mut Vec<u8>, cause: &Cause<'_>) -> Result<(), AllocError>
-    ensures { OnOk result (out.new.items ≡ out.old.items ++ by_words cause.now.line cause.now.by) }
+// Appends who it was, and what a message does or what expires.
+fn push_cause(alloc: Global, out: &mut Vec<u8>, cause: &Cause<'_>) -> Result<(), AllocError>
+    ensures { OnOk result (out.new.items ≡ out.old.items ++ cause_words cause.now.number cause.now.line cause.now.by) }
 {
+    let number = Number(u128::from(cause.number));
     match cause.by {
-        By::Message(number) => {
-            out.extend_from_slice(b", message ")?;
-            push_decimal(out, u128::from(number))?;
-            out.push(b'\n')?;
+        By::Message(which) => {
+            put(out, &MESSAGE, &[number, Number(u128::from(which))])?;
             push_request(alloc, out, cause.text)
         }
         By::Moment => {
-            push_marked(out, b": ", cause.line)?;
+            put(out, &LINE, &[number, Text(cause.line)])?;
             out.extend_from_slice(cause.text)
         }
-        By::Port | By::Row => push_marked(out, b": ", cause.line),
+        By::Port | By::Row => put(out, &LINE, &[number, Text(cause.line)]),
     }
-}
-
-// Appends who it was.
-#[tactic(auto, unfolding(crate::specs::Changes::cause_words))]
-fn push_cause(alloc: Global, out: &mut Vec<u8>, cause: &Cause<'_>) -> Result<(), AllocError>
-    ensures { OnOk result (out.new.items ≡ out.old.items ++ cause_words cause.now) }
-{
-    out.extend_from_slice(b"line ")?;
-    push_decimal(out, u128::from(cause.number))?;
-    push_by(alloc, out, cause)
 }
 
 /// In words: the row, or the message and what it says; the reason; then the lines of the view, of which those that went are marked by `-`,

@@ -6,6 +6,7 @@ use Rattle.of_machine.specs.declared.data.Step.{Step}
 use Rattle.of_datapath.specs.Datapath.{Forwarding}
 use Rattle.of_datapath.specs.DryRun.{steps_in}
 use Rattle.of_trace.specs.Text.{step_line}
+use Rattle.of_values.specs.Filled.{filled}
 use Rattle.of_json.specs.declared.hits.Hit.{Hit}
 use Rattle.of_json.specs.Hits.{hits_at}
 use Rattle.of_json.specs.Parts.{document_head, key, listed, number_member, quoted, text_member}
@@ -19,6 +20,8 @@ use Rattle.of_paths.specs.declared.path.UndecidedFrames.{UndecidedFrames}
 use Rattle.of_paths.specs.declared.path.WhyUndecided.{WhyUndecided}
 use Rattle.of_paths.specs.declared.path.WhyUndecided.TheVariants.{Search, Steps, UnknownTag}
 use Rattle.of_paths.specs.declared.destination.Destination.{Destination}
+use Rattle.of_paths_report.specs.declared.json.TheConstants.{CLASS}
+use Rattle.of_paths_report.specs.declared.json_hits.TheConstants.{HIT}
 use Rattle.of_paths_report.specs.Destinations.{is_class_shown}
 
 -- ---- the entries that a path hits, in turn: an object for each, with its table and its number by age
@@ -26,8 +29,8 @@ use Rattle.of_paths_report.specs.Destinations.{is_class_shown}
 abbrev pub hits_of_path : Path → List Hit
 hits_of_path p = flat_map hits_at p.steps.items
 
-unfoldable pub hit_object : Hit → List ℕ
-hit_object hit = 123 ∷ key (codes "table") ++ decimal hit.table ++ number_member (codes "entry") hit.number ++ 125 ∷ []
+abbrev pub hit_object : Hit → List ℕ
+hit_object hit = filled HIT (decimal hit.table ∷ decimal hit.number ∷ [])
 
 unfoldable pub hits_array : Path → List ℕ
 hits_array p = 91 ∷ listed hit_object (hits_of_path p) ++ 93 ∷ []
@@ -45,14 +48,11 @@ step_string s = quoted (step_line s)
 unfoldable pub steps_member : List Step → List ℕ
 steps_member steps = 44 ∷ key (codes "steps") ++ 91 ∷ listed step_string steps ++ 93 ∷ []
 
-unfoldable pub class_members : Forwarding → PathClass → List ℕ
-class_members f c =
-    key (codes "in_port") ++ decimal c.in_port ++ text_member (codes "frame") (encode_lower c.frame.items)
-    ++ steps_member (steps_in c.in_port c.frame.items f) ++ items_member (codes "items") c.items.items
-    ++ changes_member (codes "changes") c.frame.items c.items.items ++ hits_member c.paths.items
-
 unfoldable pub class_object : Forwarding → PathClass → List ℕ
-class_object f c = 123 ∷ class_members f c ++ 125 ∷ []
+class_object f c =
+    filled CLASS (decimal c.in_port ∷ []) ++ text_member (codes "frame") (encode_lower c.frame.items)
+    ++ steps_member (steps_in c.in_port c.frame.items f) ++ items_member (codes "items") c.items.items
+    ++ changes_member (codes "changes") c.frame.items c.items.items ++ hits_member c.paths.items ++ 125 ∷ []
 
 -- those whose paths lead to the place that is asked for
 abbrev pub shown_classes : Option Destination → List PathClass → List PathClass
@@ -73,7 +73,7 @@ why_in_json UnknownTag = codes "unknown tag"
 why_in_json Steps = codes "steps"
 why_in_json Search = codes "search"
 
-unfoldable pub undecided_frames_string : UndecidedFrames → List ℕ
+abbrev pub undecided_frames_string : UndecidedFrames → List ℕ
 undecided_frames_string u = quoted (why_in_json u.why)
 
 unfoldable pub undecided_frames_member : List UndecidedFrames → List ℕ
@@ -81,10 +81,7 @@ undecided_frames_member undecided = array_member (codes "undecided") (listed und
 
 -- ---- THE DOCUMENT: the classes that are asked for, how many there are in all, and why frames are undecided
 
-unfoldable pub paths_head : List ℕ
-paths_head = 123 ∷ document_head (codes "paths")
-
 unfoldable pub paths_json : Forwarding → Option Destination → Paths → List ℕ
 paths_json f to found =
-    paths_head ++ classes_member f to found.classes.items ++ number_member (codes "classes") (length found.classes.items)
+    123 ∷ document_head (codes "paths") ++ classes_member f to found.classes.items ++ number_member (codes "classes") (length found.classes.items)
     ++ undecided_frames_member found.undecided.items ++ 125 ∷ 10 ∷ []

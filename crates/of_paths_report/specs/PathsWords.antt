@@ -2,6 +2,7 @@
 use Rattle.std.specs.Prelude.{ℕ, ◌==◌, nat_lt, Bool, true, false, List, [], ◌∷◌, ◌++◌, length, filter, take, codes, decimal, Option, Some, None, if◌then◌else◌}
 use Rattle.std.specs.List.{flat_map}
 use Rattle.of_text.specs.Lines.{ended}
+use Rattle.of_values.specs.Filled.{filled}
 use Rattle.of_json.specs.Parts.{listed}
 use Rattle.of_machine.specs.declared.data.Step.{Step}
 use Rattle.of_machine.specs.declared.data.Step.TheVariants.{Entry}
@@ -19,12 +20,14 @@ use Rattle.of_paths.specs.declared.path.UndecidedFrames.{UndecidedFrames}
 use Rattle.of_paths.specs.declared.path.WhyUndecided.{WhyUndecided}
 use Rattle.of_paths.specs.declared.path.WhyUndecided.TheVariants.{Search, Steps, UnknownTag}
 use Rattle.of_paths.specs.declared.destination.Destination.{Destination}
+use Rattle.of_paths_report.specs.declared.hits.TheConstants as hits
+use Rattle.of_paths_report.specs.declared.undecided.TheConstants as line
 use Rattle.of_paths_report.specs.Destinations.{is_class_leading, is_class_shown}
 
 -- ---- the entries that a path hits: ` 0:3 1:4`
 
-unfoldable pub hit_words : Step → List ℕ
-hit_words (Entry table number) = 32 ∷ decimal table ++ 58 ∷ decimal number
+abbrev pub hit_words : Step → List ℕ
+hit_words (Entry table number) = filled hits.HIT (decimal table ∷ decimal number ∷ [])
 hit_words other = []
 
 abbrev pub path_hits : Path → List ℕ
@@ -32,17 +35,10 @@ path_hits p = flat_map hit_words p.steps.items
 
 -- ---- the paths of a class behind the first one: how many, and the entries of at most 8 of them
 
-abbrev pub left_out_mark : ℕ → List ℕ
-left_out_mark n = if nat_lt 8 n then codes ", .." else []
-
-abbrev pub sets_said : ℕ → List ℕ
-sets_said n = if n == 1 then codes " more set of frames, by other entries:" else codes " more sets of frames, by other entries:"
-
-unfoldable pub counted_sets : ℕ → List ℕ
-counted_sets n = codes "    and " ++ decimal n ++ sets_said n
-
 unfoldable pub further_paths : List Path → List ℕ
-further_paths paths = counted_sets (length paths) ++ listed path_hits (take 8 paths) ++ left_out_mark (length paths) ++ 10 ∷ []
+further_paths paths =
+    filled (if length paths == 1 then hits.FURTHER_SET else hits.FURTHER_SETS) (decimal (length paths) ∷ []) ++ listed path_hits (take hits.NAMED paths)
+    ++ (if nat_lt hits.NAMED (length paths) then hits.LEFT_OUT else hits.END)
 
 abbrev pub further_words : List Path → List ℕ
 further_words [] = []
@@ -75,25 +71,24 @@ abbrev pub count_frames : WhyUndecided → List UndecidedFrames → ℕ
 count_frames why undecided = length (filter (λ u. is_why_undecided why u.why) undecided)
 
 abbrev pub why_said : WhyUndecided → List ℕ
-why_said UnknownTag = codes "a lookup asks what is not known of a VLAN tag"
-why_said Steps = codes "the runs took as many steps as they may (--steps)"
-why_said Search = codes "the search for a frame took as many steps as it may, or found none with a port of the switch"
+why_said UnknownTag = line.UNKNOWN_TAG
+why_said Steps = line.STEPS
+why_said Search = line.SEARCH
 
-unfoldable pub frames_line : ℕ → WhyUndecided → List ℕ
-frames_line n why = if n == 0 then [] else undecided_sets n ++ why_said why ++ 10 ∷ []
+unfoldable pub why_line : List UndecidedFrames → WhyUndecided → List ℕ
+why_line undecided why = if count_frames why undecided == 0 then [] else undecided_sets (count_frames why undecided) ++ why_said why
 
-unfoldable pub undecided_frames_words : List UndecidedFrames → List ℕ
-undecided_frames_words undecided =
-    frames_line (count_frames UnknownTag undecided) UnknownTag ++ frames_line (count_frames Steps undecided) Steps ++ frames_line (count_frames Search undecided) Search
+abbrev pub undecided_frames_words : List UndecidedFrames → List ℕ
+undecided_frames_words undecided = why_line undecided UnknownTag ++ why_line undecided Steps ++ why_line undecided Search
 
 -- ---- the summary: `7 paths, 1 undecided`, or `2 of 7 paths` if those are asked for that lead to a place
 
 abbrev pub shown_count : Option Destination → List PathClass → List ℕ
 shown_count None classes = []
-shown_count (Some to) classes = decimal (length (filter (is_class_leading to) classes)) ++ codes " of "
+shown_count (Some to) classes = filled line.OF (decimal (length (filter (is_class_leading to) classes)) ∷ [])
 
 abbrev pub path_count : ℕ → List ℕ
-path_count n = decimal n ++ (if n == 1 then codes " path" else codes " paths")
+path_count n = filled (if n == 1 then line.PATH else line.PATHS) (decimal n ∷ [])
 
 unfoldable pub path_summary : Option Destination → Paths → List ℕ
 path_summary to found = shown_count to found.classes.items ++ path_count (length found.classes.items) ++ undecided_count (length found.undecided.items) ++ 10 ∷ []

@@ -2,13 +2,13 @@
 ghost use Rattle.std.specs.Prelude.{◌≡◌, ◌++◌, IfOk, OnOk, IsTrue};
 ghost use Rattle.std.specs.List.{flat_map};
 ghost use Rattle.of_datapath.specs.DryRun.{steps_in};
-ghost use Rattle.of_tracing.specs.Encoded.{are_encoded, is_encoded};
+ghost use Rattle.of_tracing.specs.Encoded.{are_encoded};
 ghost use Rattle.of_paths_report.specs.PathsWords.{class_words, indented_line, shown_words};
 
 use crate::destination::is_shown;
 use crate::hits::push_further;
-use of_json::{push_changed_side, push_frame_lines};
 use of_classifier::Lookup;
+use of_json::{push_changed_side, push_frame_lines};
 use of_machine::Step;
 use of_paths::{Destination, PathClass};
 use of_switch::{Switch, SwitchError};
@@ -31,24 +31,16 @@ pub fn traced<L: Lookup>(
     }
 }
 
-#[tactic(auto, unfolding(crate::specs::PathsWords::indented_line))]
-fn push_indented(out: &mut Vec<u8>, step: Step) -> Result<(), AllocError>
-    requires { IsTrue (is_encoded step) }
-    ensures { OnOk result (out.new.items ≡ out.old.items ++ indented_line step) }
-{
-    out.extend_from_slice(b"    ")?;
-    push_step(out, step)?;
-    out.push(b'\n')?;
-    Ok(())
-}
-
 // Appends the lines of steps.
+#[tactic(auto, unfolding(crate::specs::PathsWords::indented_line))]
 fn push_indented_steps(out: &mut Vec<u8>, steps: &[Step]) -> Result<(), AllocError>
     requires { IsTrue (are_encoded steps.now) }
     ensures { OnOk result (out.new.items ≡ out.old.items ++ flat_map indented_line steps.now) }
 {
     for step in steps {
-        push_indented(out, *step)?;
+        out.extend_from_slice(b"    ")?;
+        push_step(out, *step)?;
+        out.push(b'\n')?;
     }
     Ok(())
 }
@@ -72,23 +64,6 @@ fn push_class_words<L: Lookup>(
     push_further(out, &class.paths)
 }
 
-// Appends a class if its paths lead to the place that is asked for.
-fn push_shown_class<L: Lookup>(
-    alloc: Global,
-    out: &mut Vec<u8>,
-    switch: &Switch<L>,
-    to: Option<Destination>,
-    class: &PathClass,
-) -> Result<(), AllocError>
-    ensures { OnOk result (out.new.items ≡ out.old.items ++ shown_words switch.now.core.forwarding to class.now) }
-{
-    if is_shown(class, to) {
-        push_class_words(alloc, out, switch, class)
-    } else {
-        Ok(())
-    }
-}
-
 /// Appends classes, one block each, whose paths lead to the place that is asked for, if one is.
 pub fn push_classes<L: Lookup>(
     alloc: Global,
@@ -100,7 +75,9 @@ pub fn push_classes<L: Lookup>(
     ensures { OnOk result (out.new.items ≡ out.old.items ++ flat_map (shown_words switch.now.core.forwarding to) classes.now) }
 {
     for class in classes {
-        push_shown_class(alloc, out, switch, to, class)?;
+        if is_shown(class, to) {
+            push_class_words(alloc, out, switch, class)?;
+        }
     }
     Ok(())
 }

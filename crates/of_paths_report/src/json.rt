@@ -4,19 +4,25 @@ ghost use Rattle.std.specs.List.{flat_map};
 ghost use Rattle.of_json.specs.Parts.{listed};
 ghost use Rattle.of_tracing.specs.Encoded.{are_encoded, is_encoded};
 ghost use Rattle.of_paths.specs.declared.path.PathClass.{PathClass as APathClass};
-ghost use Rattle.of_paths_report.specs.PathsJson.{class_members, class_object, classes_member, listed_behind, paths_head, paths_json, shown_classes, step_string, steps_member, undecided_frames_member, undecided_frames_string, why_in_json};
+ghost use Rattle.of_paths_report.specs.PathsJson.{class_object, classes_member, listed_behind, paths_json, shown_classes, step_string, steps_member, undecided_frames_member, why_in_json};
 
 use crate::classes::traced;
 use crate::destination::is_shown;
 use crate::json_hits::push_hits_member;
-use of_json::{begin_array, push_array_member, push_bytes_member, push_changes_member, push_document_head, push_items_member, push_key, push_number_member, push_quoted};
 use of_classifier::Lookup;
+use of_json::{
+    begin_array, push_array_member, push_bytes_member, push_changes_member, push_document_head,
+    push_items_member, push_number_member, push_quoted,
+};
 use of_machine::Step;
 use of_paths::{Destination, PathClass, Paths, UndecidedFrames, WhyUndecided};
 use of_switch::Switch;
 use of_trace::push_step;
-use of_values::push_decimal;
+use of_values::Part::Number;
+use of_values::put;
 use std::alloc::{AllocError, Global};
+
+pub const CLASS: [u8; 12] = *br#"{"in_port":%"#;
 
 #[tactic(auto, unfolding(crate::specs::PathsJson::step_string))]
 fn push_step_string(out: &mut Vec<u8>, step: Step) -> Result<(), AllocError>
@@ -65,26 +71,7 @@ fn push_steps_member(out: &mut Vec<u8>, steps: &[Step]) -> Result<(), AllocError
     Ok(())
 }
 
-// Appends the members of a class: its frame, the steps of that, what leaves and changed, and which entries its paths hit.
-#[tactic(auto, unfolding(crate::specs::PathsJson::class_members))]
-fn push_class_members<L: Lookup>(
-    alloc: Global,
-    out: &mut Vec<u8>,
-    switch: &Switch<L>,
-    class: &PathClass,
-) -> Result<(), AllocError>
-    ensures { OnOk result (out.new.items ≡ out.old.items ++ class_members switch.now.core.forwarding class.now) }
-{
-    let trace = traced(alloc, switch, class)?;
-    push_key(out, b"in_port")?;
-    push_decimal(out, u128::from(class.in_port))?;
-    push_bytes_member(alloc, out, b"frame", &class.frame)?;
-    push_steps_member(out, &trace.steps)?;
-    push_items_member(alloc, out, b"items", &class.items)?;
-    push_changes_member(alloc, out, b"changes", &class.frame, &class.items)?;
-    push_hits_member(alloc, out, &class.paths)
-}
-
+// Appends a class: its frame, the steps of that, what leaves and changed, and which entries its paths hit.
 #[tactic(auto, unfolding(crate::specs::PathsJson::class_object))]
 fn push_class_object<L: Lookup>(
     alloc: Global,
@@ -94,8 +81,13 @@ fn push_class_object<L: Lookup>(
 ) -> Result<(), AllocError>
     ensures { OnOk result (out.new.items ≡ out.old.items ++ class_object switch.now.core.forwarding class.now) }
 {
-    out.push(b'{')?;
-    push_class_members(alloc, out, switch, class)?;
+    let trace = traced(alloc, switch, class)?;
+    put(out, &CLASS, &[Number(u128::from(class.in_port))])?;
+    push_bytes_member(alloc, out, b"frame", &class.frame)?;
+    push_steps_member(out, &trace.steps)?;
+    push_items_member(alloc, out, b"items", &class.items)?;
+    push_changes_member(alloc, out, b"changes", &class.frame, &class.items)?;
+    push_hits_member(alloc, out, &class.paths)?;
     out.push(b'}')?;
     Ok(())
 }
@@ -163,26 +155,13 @@ fn why_as_json(why: WhyUndecided) -> &'static [u8]
     }
 }
 
-#[tactic(auto, unfolding(crate::specs::PathsJson::undecided_frames_string))]
-fn push_frames_string(out: &mut Vec<u8>, set: &UndecidedFrames) -> Result<(), AllocError>
-    ensures { OnOk result (out.new.items ≡ out.old.items ++ undecided_frames_string set.now) }
-{
-    push_quoted(out, why_as_json(set.why))
-}
-
 #[tactic(auto, unfolding(crate::specs::PathsJson::undecided_frames_member))]
 fn push_frames_member(out: &mut Vec<u8>, undecided: &[UndecidedFrames]) -> Result<(), AllocError>
     ensures { OnOk result (out.new.items ≡ out.old.items ++ undecided_frames_member undecided.now) }
 {
-    push_array_member(out, b"undecided", undecided, push_frames_string)
-}
-
-#[tactic(auto, unfolding(crate::specs::PathsJson::paths_head))]
-fn push_paths_head(out: &mut Vec<u8>) -> Result<(), AllocError>
-    ensures { OnOk result (out.new.items ≡ out.old.items ++ paths_head) }
-{
-    out.push(b'{')?;
-    push_document_head(out, b"paths")
+    push_array_member(out, b"undecided", undecided, |out, set| {
+        push_quoted(out, why_as_json(set.why))
+    })
 }
 
 /// What is found, as JSON.
@@ -196,7 +175,8 @@ pub fn paths_as_json<L: Lookup>(
     ensures { IfOk result (λ text. text.items ≡ paths_json switch.now.core.forwarding to found.now) }
 {
     let mut out = Vec::new(alloc);
-    push_paths_head(&mut out)?;
+    out.push(b'{')?;
+    push_document_head(&mut out, b"paths")?;
     push_classes_member(alloc, &mut out, switch, to, &found.classes)?;
     push_number_member(&mut out, b"classes", found.classes.len() as u128)?;
     push_frames_member(&mut out, &found.undecided)?;

@@ -2,21 +2,22 @@
 ghost use Rattle.std.specs.Prelude.{◌≡◌, ◌++◌, OnOk};
 ghost use Rattle.of_paths_report.specs.PathsJson.{hit_object, hits_array, hits_member};
 
-use of_json::{Hit, hits_among, push_array_member, push_key, push_listed, push_number_member};
+use of_json::{Hit, hits_among, push_array_member, push_listed};
 use of_paths::Path;
-use of_values::push_decimal;
+use of_values::Part::Number;
+use of_values::put;
 use std::alloc::{AllocError, Global};
 
-#[tactic(auto, unfolding(crate::specs::PathsJson::hit_object))]
-fn push_hit_object(out: &mut Vec<u8>, hit: Hit) -> Result<(), AllocError>
-    ensures { OnOk result (out.new.items ≡ out.old.items ++ hit_object hit) }
+pub const HIT: [u8; 21] = *br#"{"table":%,"entry":%}"#;
+
+fn push_hit_object(out: &mut Vec<u8>, hit: &Hit) -> Result<(), AllocError>
+    ensures { OnOk result (out.new.items ≡ out.old.items ++ hit_object hit.now) }
 {
-    out.push(b'{')?;
-    push_key(out, b"table")?;
-    push_decimal(out, u128::from(hit.table))?;
-    push_number_member(out, b"entry", hit.number as u128)?;
-    out.push(b'}')?;
-    Ok(())
+    put(
+        out,
+        &HIT,
+        &[Number(u128::from(hit.table)), Number(hit.number as u128)],
+    )
 }
 
 // Appends an array of the entries that a path hits.
@@ -26,7 +27,7 @@ fn push_hits_array(alloc: Global, out: &mut Vec<u8>, path: &Path) -> Result<(), 
 {
     let hits = hits_among(alloc, &path.steps)?;
     out.push(b'[')?;
-    push_listed(out, &hits, |out, hit| push_hit_object(out, *hit))?;
+    push_listed(out, &hits, push_hit_object)?;
     out.push(b']')?;
     Ok(())
 }

@@ -2,6 +2,8 @@
 use Rattle.std.specs.Prelude.{ℕ, ◌==◌, Bool, true, false, not, List, filter, length, if◌then◌else◌}
 use Rattle.of_machine.specs.TheWorld.{TheWorld}
 use Rattle.of_require.specs.declared.answers.Answer.{Answer}
+use Rattle.of_require.specs.declared.deciding.Decision.{Decision}
+use Rattle.of_require.specs.declared.deciding.Decision.TheVariants.{NoneMatches}
 use Rattle.of_require.specs.declared.deciding.Verdict.{Verdict}
 use Rattle.of_require.specs.declared.deciding.Verdict.TheVariants.{Fails, Holds, Undecided}
 use Rattle.of_require.specs.Decisions.{IsDecision, verdict_by}
@@ -28,3 +30,8 @@ worst_of answers =
     if not (count_verdicts Fails answers == 0) then Fails
     else if not (count_verdicts Undecided answers == 0) then Undecided
     else Holds
+
+-- whether some frame may match that the switch receives
+abbrev pub may_match : Decision → Bool
+may_match NoneMatches = false
+may_match other = true

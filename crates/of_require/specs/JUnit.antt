@@ -1,12 +1,14 @@
 -- THE REPORT ON REQUIREMENTS AS XML, as JUnit writes the results of tests: a test case for each requirement, which fails if the requirement does not hold.
-use Rattle.std.specs.Prelude.{ℕ, ◌==◌, List, [], ◌∷◌, ◌++◌, length, codes, if◌then◌else◌}
+use Rattle.std.specs.Prelude.{ℕ, ◌==◌, List, [], ◌∷◌, ◌++◌, length, codes, decimal, if◌then◌else◌}
 use Rattle.std.specs.List.{flat_map}
+use Rattle.of_values.specs.Filled.{filled}
 use Rattle.of_values.specs.Origins.{printable}
 use Rattle.of_require.specs.declared.answers.Answer.{Answer}
 use Rattle.of_require.specs.declared.deciding.Verdict.{Verdict}
 use Rattle.of_require.specs.declared.deciding.Verdict.TheVariants.{Fails, Holds, Undecided}
+use Rattle.of_require.specs.declared.junit.TheConstants as line
 use Rattle.of_require.specs.Answers.{count_verdicts, verdict_of}
-use Rattle.of_require.specs.Words.{numbered_text, why_decided}
+use Rattle.of_require.specs.Words.{why_decided}
 
 -- a character of an attribute's value, which is between apostrophes
 abbrev pub xml_character : ℕ → List ℕ
@@ -18,21 +20,20 @@ xml_character b =
     else printable b ∷ []
 
 -- one that fails, with why; one that is undecided is an error
+abbrev pub outcome_named : List ℕ → List ℕ → List ℕ
+outcome_named name why = filled line.BEGIN (name ∷ []) ++ why ++ filled line.END (name ∷ [])
+
 abbrev pub outcome_element : Verdict → List ℕ → List ℕ
 outcome_element Holds why = []
-outcome_element Fails why = codes "<failure>" ++ why ++ codes "</failure>"
-outcome_element Undecided why = codes "<error>" ++ why ++ codes "</error>"
+outcome_element Fails why = outcome_named (codes "failure") why
+outcome_element Undecided why = outcome_named (codes "error") why
 
 unfoldable pub test_case : Answer → List ℕ
 test_case a =
-    numbered_text (codes "<testcase classname='requirements' name='line ") a.line.number ++ codes ": " ++ flat_map xml_character a.line.text.items ++ codes "'>"
-    ++ outcome_element (verdict_of a) (why_decided (verdict_of a) a.decision) ++ codes "</testcase>" ++ 10 ∷ []
-
-unfoldable pub suite_head : ℕ → ℕ → ℕ → List ℕ
-suite_head tests failures errors =
-    numbered_text (codes "<testsuite name='ofswitch requirements' tests='") tests ++ numbered_text (codes "' failures='") failures
-    ++ numbered_text (codes "' errors='") errors ++ codes "'>" ++ 10 ∷ []
+    filled line.CASE (decimal a.line.number ∷ []) ++ flat_map xml_character a.line.text.items ++ codes "'>"
+    ++ outcome_element (verdict_of a) (why_decided a.decision (verdict_of a)) ++ codes "</testcase>" ++ 10 ∷ []
 
 unfoldable pub requirements_junit : List Answer → List ℕ
 requirements_junit answers =
-    codes "<?xml version='1.0' encoding='UTF-8'?>" ++ 10 ∷ [] ++ suite_head (length answers) (count_verdicts Fails answers) (count_verdicts Undecided answers) ++ flat_map test_case answers ++ codes "</testsuite>" ++ 10 ∷ []
+    filled line.SUITE (decimal (length answers) ∷ decimal (count_verdicts Fails answers) ∷ decimal (count_verdicts Undecided answers) ∷ [])
+    ++ flat_map test_case answers ++ codes "</testsuite>" ++ 10 ∷ []

@@ -1,12 +1,19 @@
 //! The report on requirements as JSON.
 ghost use Rattle.std.specs.Prelude.{◌≡◌, ◌++◌, IfOk, OnOk};
-ghost use Rattle.of_require.specs.RequirementsJson.{answer_object, frame_members, line_members, may_match as may_match_so, requirements_member, shown_members, requirement_verdict_members, verdict_name as name_of_verdict};
+ghost use Rattle.of_require.specs.Answers.{may_match as may_match_so};
+ghost use Rattle.of_require.specs.RequirementsJson.{answer_object, requirements_member, shown_members, verdict_name as name_of_verdict};
 
 use crate::answers::Answer;
-use crate::deciding::{Decision, Shown, Verdict};
-use of_json::{push_array_member, push_bytes_member, push_changes_member, push_items_member, push_key, push_number_member, push_string_member, push_text_member, push_truth_member};
-use of_values::push_decimal;
+use crate::deciding::{Decision, Verdict};
+use of_json::{
+    push_array_member, push_bytes_member, push_changes_member, push_items_member,
+    push_number_member, push_string_member, push_text_member, push_truth_member,
+};
+use of_values::Part::Number;
+use of_values::put;
 use std::alloc::{AllocError, Global};
+
+pub const LINE: [u8; 9] = *br#"{"line":%"#;
 
 fn verdict_name(verdict: Verdict) -> &'static [u8]
     ensures { result.now ≡ name_of_verdict verdict }
@@ -18,22 +25,14 @@ fn verdict_name(verdict: Verdict) -> &'static [u8]
     }
 }
 
-fn may_match(decision: &Decision) -> bool
+/// Whether some frame may match that the switch receives.
+pub fn may_match(decision: &Decision) -> bool
     ensures { result ≡ may_match_so decision.now }
 {
     !matches!(decision, Decision::NoneMatches)
 }
 
-#[tactic(auto, unfolding(crate::specs::RequirementsJson::frame_members))]
-fn push_frame_members(alloc: Global, out: &mut Vec<u8>, shown: &Shown) -> Result<(), AllocError>
-    ensures { OnOk result (out.new.items ≡ out.old.items ++ frame_members shown.now) }
-{
-    push_number_member(out, b"in_port", u128::from(shown.in_port))?;
-    push_bytes_member(alloc, out, b"frame", &shown.frame)?;
-    push_items_member(alloc, out, b"items", &shown.items)?;
-    push_changes_member(alloc, out, b"changes", &shown.frame, &shown.items)
-}
-
+// Appends the frame that decides, and what leaves and changed; or the port of frames of which it is not known.
 #[tactic(auto, unfolding(crate::specs::RequirementsJson::shown_members))]
 fn push_shown_members(
     alloc: Global,
@@ -43,37 +42,26 @@ fn push_shown_members(
     ensures { OnOk result (out.new.items ≡ out.old.items ++ shown_members decision.now) }
 {
     match decision {
-        Decision::Frame(shown) => push_frame_members(alloc, out, shown),
+        Decision::Frame(shown) => {
+            push_number_member(out, b"in_port", u128::from(shown.in_port))?;
+            push_bytes_member(alloc, out, b"frame", &shown.frame)?;
+            push_items_member(alloc, out, b"items", &shown.items)?;
+            push_changes_member(alloc, out, b"changes", &shown.frame, &shown.items)
+        }
         Decision::Undecided(port) => push_number_member(out, b"in_port", u128::from(*port)),
         Decision::NoFrame | Decision::NoneMatches => Ok(()),
     }
-}
-
-#[tactic(auto, unfolding(crate::specs::RequirementsJson::line_members))]
-fn push_line_members(out: &mut Vec<u8>, answer: &Answer) -> Result<(), AllocError>
-    ensures { OnOk result (out.new.items ≡ out.old.items ++ line_members answer.now) }
-{
-    push_key(out, b"line")?;
-    push_decimal(out, answer.line.number as u128)?;
-    push_string_member(out, b"requirement", &answer.line.text)
-}
-
-#[tactic(auto, unfolding(crate::specs::RequirementsJson::requirement_verdict_members))]
-fn push_verdict_members(alloc: Global, out: &mut Vec<u8>, answer: &Answer) -> Result<(), AllocError>
-    ensures { OnOk result (out.new.items ≡ out.old.items ++ requirement_verdict_members answer.now) }
-{
-    push_text_member(out, b"verdict", verdict_name(answer.verdict()))?;
-    push_truth_member(out, b"matches", may_match(&answer.decision))?;
-    push_shown_members(alloc, out, &answer.decision)
 }
 
 #[tactic(auto, unfolding(crate::specs::RequirementsJson::answer_object))]
 fn push_answer_object(alloc: Global, out: &mut Vec<u8>, answer: &Answer) -> Result<(), AllocError>
     ensures { OnOk result (out.new.items ≡ out.old.items ++ answer_object answer.now) }
 {
-    out.push(b'{')?;
-    push_line_members(out, answer)?;
-    push_verdict_members(alloc, out, answer)?;
+    put(out, &LINE, &[Number(answer.line.number as u128)])?;
+    push_string_member(out, b"requirement", &answer.line.text)?;
+    push_text_member(out, b"verdict", verdict_name(answer.verdict()))?;
+    push_truth_member(out, b"matches", may_match(&answer.decision))?;
+    push_shown_members(alloc, out, &answer.decision)?;
     out.push(b'}')?;
     Ok(())
 }

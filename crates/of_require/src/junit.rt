@@ -1,14 +1,24 @@
 //! The report on requirements as XML, as JUnit writes the results of tests.
 ghost use Rattle.std.specs.Prelude.{◌≡◌, ◌++◌, IfOk, OnOk};
 ghost use Rattle.std.specs.List.{flat_map};
-ghost use Rattle.of_require.specs.JUnit.{outcome_element, requirements_junit, suite_head, test_case, xml_character};
+ghost use Rattle.of_require.specs.JUnit.{outcome_element, requirements_junit, test_case, xml_character};
 ghost use Rattle.of_require.specs.Words.{why_decided};
 
 use crate::answers::{Answer, count};
 use crate::deciding::{Decision, Verdict};
-use crate::words::{push_numbered, push_why};
-use of_values::{printable, push_decimal};
+use crate::words::push_why;
+use of_values::Part::{Number, Text};
+use of_values::{printable, put};
 use std::alloc::{AllocError, Global};
+
+pub const SUITE: [u8; 114] =
+    *b"<?xml version='1.0' encoding='UTF-8'?>\n<testsuite name='ofswitch requirements' tests='%' failures='%' errors='%'>\n";
+
+pub const CASE: [u8; 49] = *b"<testcase classname='requirements' name='line %: ";
+
+pub const BEGIN: [u8; 3] = *b"<%>";
+
+pub const END: [u8; 4] = *b"</%>";
 
 fn push_character(out: &mut Vec<u8>, byte: u8) -> Result<(), AllocError>
     ensures { OnOk result (out.new.items ≡ out.old.items ++ xml_character byte) }
@@ -34,71 +44,36 @@ fn push_characters(out: &mut Vec<u8>, text: &[u8]) -> Result<(), AllocError>
     Ok(())
 }
 
+// Appends an element for a requirement that does not hold, with why.
 fn push_outcome(
     alloc: Global,
     out: &mut Vec<u8>,
     verdict: Verdict,
     decision: &Decision,
 ) -> Result<(), AllocError>
-    ensures { OnOk result (out.new.items ≡ out.old.items ++ outcome_element verdict (why_decided verdict decision.now)) }
+    ensures { OnOk result (out.new.items ≡ out.old.items ++ outcome_element verdict (why_decided decision.now verdict)) }
 {
-    match verdict {
-        Verdict::Holds => Ok(()),
-        Verdict::Fails => {
-            out.extend_from_slice(b"<failure>")?;
-            push_why(alloc, out, verdict, decision)?;
-            out.extend_from_slice(b"</failure>")
-        }
-        Verdict::Undecided => {
-            out.extend_from_slice(b"<error>")?;
-            push_why(alloc, out, verdict, decision)?;
-            out.extend_from_slice(b"</error>")
-        }
-    }
+    let name: &[u8] = match verdict {
+        Verdict::Holds => return Ok(()),
+        Verdict::Fails => b"failure",
+        Verdict::Undecided => b"error",
+    };
+    put(out, &BEGIN, &[Text(name)])?;
+    push_why(alloc, out, verdict, decision)?;
+    put(out, &END, &[Text(name)])
 }
 
 #[tactic(auto, unfolding(crate::specs::JUnit::test_case))]
-fn push_test_case(alloc: Global, out: &mut Vec<u8>, answer: &Answer) -> Result<(), AllocError>
-    ensures { OnOk result (out.new.items ≡ out.old.items ++ test_case answer.now) }
-{
-    push_numbered(
-        out,
-        b"<testcase classname='requirements' name='line ",
-        answer.line.number,
-    )?;
-    out.extend_from_slice(b": ")?;
-    push_characters(out, &answer.line.text)?;
-    out.extend_from_slice(b"'>")?;
-    push_outcome(alloc, out, answer.verdict(), &answer.decision)?;
-    out.extend_from_slice(b"</testcase>\n")
-}
-
 fn push_test_cases(alloc: Global, out: &mut Vec<u8>, answers: &[Answer]) -> Result<(), AllocError>
     ensures { OnOk result (out.new.items ≡ out.old.items ++ flat_map test_case answers.now) }
 {
     for answer in answers {
-        push_test_case(alloc, out, answer)?;
+        put(out, &CASE, &[Number(answer.line.number as u128)])?;
+        push_characters(out, &answer.line.text)?;
+        out.extend_from_slice(b"'>")?;
+        push_outcome(alloc, out, answer.verdict(), &answer.decision)?;
+        out.extend_from_slice(b"</testcase>\n")?;
     }
-    Ok(())
-}
-
-#[tactic(auto, unfolding(crate::specs::JUnit::suite_head))]
-fn push_suite_head(
-    out: &mut Vec<u8>,
-    tests: usize,
-    failures: usize,
-    errors: usize,
-) -> Result<(), AllocError>
-    ensures { OnOk result (out.new.items ≡ out.old.items ++ suite_head tests failures errors) }
-{
-    push_numbered(
-        out,
-        b"<testsuite name='ofswitch requirements' tests='",
-        tests,
-    )?;
-    push_numbered(out, b"' failures='", failures)?;
-    push_numbered(out, b"' errors='", errors)?;
-    out.extend_from_slice(b"'>\n")?;
     Ok(())
 }
 
@@ -108,12 +83,17 @@ pub fn requirements_as_junit(alloc: Global, answers: &[Answer]) -> Result<Vec<u8
     ensures { IfOk result (λ text. text.items ≡ requirements_junit answers.now) }
 {
     let mut out = Vec::new(alloc);
-    out.extend_from_slice(b"<?xml version='1.0' encoding='UTF-8'?>\n")?;
-    let (failures, errors) = (
-        count(Verdict::Fails, answers),
-        count(Verdict::Undecided, answers),
-    );
-    push_suite_head(&mut out, answers.len(), failures, errors)?;
+    let failures = count(Verdict::Fails, answers) as u128;
+    let errors = count(Verdict::Undecided, answers) as u128;
+    put(
+        &mut out,
+        &SUITE,
+        &[
+            Number(answers.len() as u128),
+            Number(failures),
+            Number(errors),
+        ],
+    )?;
     push_test_cases(alloc, &mut out, answers)?;
     out.extend_from_slice(b"</testsuite>\n")?;
     Ok(out)

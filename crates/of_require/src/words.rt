@@ -1,21 +1,38 @@
 //! The report on requirements in words.
-ghost use Rattle.std.specs.Prelude.{◌≡◌, ◌++◌, IfOk, OnOk};
+ghost use Rattle.std.specs.Prelude.{◌≡◌, ◌==◌, ◌++◌, IfOk, OnOk, if◌then◌else◌};
 ghost use Rattle.std.specs.List.{flat_map};
-ghost use Rattle.of_require.specs.Words.{answer_words, counted_noun, decision_words, is_told as is_told_by, is_told_always as is_told_in_short, requirements_summary, requirements_words, deciding_frame_words, verdict_counts, verdict_line, numbered_text, undecided_port_line, verdict_said, why_decided};
+ghost use Rattle.of_require.specs.Words.{answer_words, is_told as is_told_by, requirements_summary, requirements_words, verdict_begun, verdict_line, why_decided};
 
 use crate::answers::{Answer, count};
-use crate::deciding::{Decision, Shown, Verdict};
+use crate::deciding::{Decision, Verdict};
+use crate::json::may_match;
 use of_json::{push_changed_side, push_frame_lines};
-use of_values::{push_decimal, push_printable};
+use of_values::Part::{Number, Text};
+use of_values::{push_printable, put};
 use std::alloc::{AllocError, Global};
 
-fn verdict_in_words(verdict: Verdict) -> &'static [u8]
-    ensures { result.now ≡ verdict_said verdict }
+pub const HOLDS: [u8; 27] = *b"requirement holds: line %: ";
+
+pub const FAILS: [u8; 27] = *b"requirement fails: line %: ";
+
+pub const UNDECIDED: [u8; 31] = *b"requirement undecided: line %: ";
+
+pub const NO_FRAME: [u8; 23] = *b"    no frame does this\n";
+
+pub const NONE_MATCHES: [u8; 46] = *b"    the switch receives no frame that matches\n";
+
+pub const UNDECIDED_PORT: [u8; 102] =
+    *b"    it is not known of all frames that come in by port % and match; `ofswitch paths --match` says why\n";
+
+pub const SUMMARY: [u8; 27] = *b"% %: % %, % %, % undecided\n";
+
+fn begin_verdict(verdict: Verdict) -> &'static [u8]
+    ensures { result.now ≡ verdict_begun verdict }
 {
     match verdict {
-        Verdict::Holds => b"requirement holds",
-        Verdict::Fails => b"requirement fails",
-        Verdict::Undecided => b"requirement undecided",
+        Verdict::Holds => &HOLDS,
+        Verdict::Fails => &FAILS,
+        Verdict::Undecided => &UNDECIDED,
     }
 }
 
@@ -23,60 +40,14 @@ fn verdict_in_words(verdict: Verdict) -> &'static [u8]
 fn push_verdict_line(out: &mut Vec<u8>, answer: &Answer) -> Result<(), AllocError>
     ensures { OnOk result (out.new.items ≡ out.old.items ++ verdict_line answer.now) }
 {
-    out.extend_from_slice(verdict_in_words(answer.verdict()))?;
-    out.extend_from_slice(b": line ")?;
-    push_decimal(out, answer.line.number as u128)?;
-    out.extend_from_slice(b": ")?;
+    let line = begin_verdict(answer.verdict());
+    put(out, line, &[Number(answer.line.number as u128)])?;
     push_printable(out, &answer.line.text)?;
     out.push(b'\n')?;
     Ok(())
 }
 
-// Appends the frame that decides, and what leaves and changed.
-#[tactic(auto, unfolding(crate::specs::Words::deciding_frame_words))]
-fn push_shown(alloc: Global, out: &mut Vec<u8>, shown: &Shown) -> Result<(), AllocError>
-    ensures { OnOk result (out.new.items ≡ out.old.items ++ deciding_frame_words shown.now) }
-{
-    push_frame_lines(alloc, out, shown.in_port, &shown.frame)?;
-    push_changed_side(alloc, out, b"    ", &shown.frame, &shown.items)
-}
-
-/// Appends a text, and a number.
-#[tactic(auto, unfolding(crate::specs::Words::numbered_text))]
-pub fn push_numbered(out: &mut Vec<u8>, text: &[u8], number: usize) -> Result<(), AllocError>
-    ensures { OnOk result (out.new.items ≡ out.old.items ++ numbered_text text.now number) }
-{
-    out.extend_from_slice(text)?;
-    push_decimal(out, number as u128)
-}
-
-fn push_undecided(out: &mut Vec<u8>, port: u32) -> Result<(), AllocError>
-    ensures { OnOk result (out.new.items ≡ out.old.items ++ undecided_port_line port) }
-{
-    push_numbered(
-        out,
-        b"    it is not known of all frames that come in by port ",
-        port as usize,
-    )?;
-    out.extend_from_slice(b" and match; `ofswitch paths --match` says why\n")?;
-    Ok(())
-}
-
-#[tactic(auto, unfolding(crate::specs::Words::decision_words))]
-fn push_decision(alloc: Global, out: &mut Vec<u8>, decision: &Decision) -> Result<(), AllocError>
-    ensures { OnOk result (out.new.items ≡ out.old.items ++ decision_words decision.now) }
-{
-    match decision {
-        Decision::Frame(shown) => push_shown(alloc, out, shown),
-        Decision::NoFrame => Ok(()),
-        Decision::NoneMatches => {
-            out.extend_from_slice(b"    the switch receives no frame that matches\n")
-        }
-        Decision::Undecided(port) => push_undecided(out, *port),
-    }
-}
-
-/// Appends why a requirement is met or not.
+/// Appends why a requirement is met or not: the frame that decides, and what leaves and changed, or that there is none.
 #[tactic(auto, unfolding(crate::specs::Words::why_decided))]
 pub fn push_why(
     alloc: Global,
@@ -84,46 +55,30 @@ pub fn push_why(
     verdict: Verdict,
     decision: &Decision,
 ) -> Result<(), AllocError>
-    ensures { OnOk result (out.new.items ≡ out.old.items ++ why_decided verdict decision.now) }
+    ensures { OnOk result (out.new.items ≡ out.old.items ++ why_decided decision.now verdict) }
 {
-    match (verdict, decision) {
-        (Verdict::Fails, Decision::NoFrame) => out.extend_from_slice(b"    no frame does this\n"),
-        _ => push_decision(alloc, out, decision),
-    }
-}
-
-fn is_told_always(verdict: Verdict, decision: &Decision) -> bool
-    ensures { result ≡ is_told_in_short verdict decision.now }
-{
-    match (verdict, decision) {
-        (Verdict::Holds, Decision::NoneMatches) => true,
-        (Verdict::Holds, _) => false,
-        _ => true,
+    match decision {
+        Decision::Frame(shown) => {
+            push_frame_lines(alloc, out, shown.in_port, &shown.frame)?;
+            push_changed_side(alloc, out, b"    ", &shown.frame, &shown.items)
+        }
+        Decision::NoFrame => match verdict {
+            Verdict::Fails => out.extend_from_slice(&NO_FRAME),
+            _ => Ok(()),
+        },
+        Decision::NoneMatches => out.extend_from_slice(&NONE_MATCHES),
+        Decision::Undecided(port) => put(out, &UNDECIDED_PORT, &[Number(u128::from(*port))]),
     }
 }
 
 fn is_told(all: bool, answer: &Answer) -> bool
     ensures { result ≡ is_told_by all answer.now }
 {
-    all || is_told_always(answer.verdict(), &answer.decision)
+    all || answer.verdict() != Verdict::Holds || !may_match(&answer.decision)
 }
 
+// Appends what is told of each requirement.
 #[tactic(auto, unfolding(crate::specs::Words::answer_words))]
-fn push_answer(
-    alloc: Global,
-    out: &mut Vec<u8>,
-    all: bool,
-    answer: &Answer,
-) -> Result<(), AllocError>
-    ensures { OnOk result (out.new.items ≡ out.old.items ++ answer_words all answer.now) }
-{
-    if is_told(all, answer) {
-        push_verdict_line(out, answer)?;
-        push_why(alloc, out, answer.verdict(), &answer.decision)?;
-    }
-    Ok(())
-}
-
 fn push_answers(
     alloc: Global,
     out: &mut Vec<u8>,
@@ -133,47 +88,41 @@ fn push_answers(
     ensures { OnOk result (out.new.items ≡ out.old.items ++ flat_map (answer_words all) answers.now) }
 {
     for answer in answers {
-        push_answer(alloc, out, all, answer)?;
+        if is_told(all, answer) {
+            push_verdict_line(out, answer)?;
+            push_why(alloc, out, answer.verdict(), &answer.decision)?;
+        }
     }
     Ok(())
 }
 
-#[tactic(auto, unfolding(crate::specs::Words::counted_noun))]
-fn push_counted(out: &mut Vec<u8>, number: usize, one: &[u8], more: &[u8]) -> Result<(), AllocError>
-    ensures { OnOk result (out.new.items ≡ out.old.items ++ counted_noun number one.now more.now) }
+fn plural<'a>(number: usize, one: &'a [u8], more: &'a [u8]) -> &'a [u8]
+    ensures { result.now ≡ (if number == 1 then one.now else more.now) }
 {
-    push_decimal(out, number as u128)?;
-    out.extend_from_slice(if number == 1 { one } else { more })
-}
-
-#[tactic(auto, unfolding(crate::specs::Words::verdict_counts))]
-fn push_verdict_counts(
-    out: &mut Vec<u8>,
-    hold: usize,
-    fail: usize,
-    undecided: usize,
-) -> Result<(), AllocError>
-    ensures { OnOk result (out.new.items ≡ out.old.items ++ verdict_counts hold fail undecided) }
-{
-    push_counted(out, hold, b" holds, ", b" hold, ")?;
-    push_counted(out, fail, b" fails, ", b" fail, ")?;
-    push_decimal(out, undecided as u128)?;
-    out.extend_from_slice(b" undecided")
+    if number == 1 { one } else { more }
 }
 
 #[tactic(auto, unfolding(crate::specs::Words::requirements_summary))]
 fn push_summary(out: &mut Vec<u8>, answers: &[Answer]) -> Result<(), AllocError>
     ensures { OnOk result (out.new.items ≡ out.old.items ++ requirements_summary answers.now) }
 {
-    let (hold, fail) = (
-        count(Verdict::Holds, answers),
-        count(Verdict::Fails, answers),
-    );
+    let all = answers.len();
+    let hold = count(Verdict::Holds, answers);
+    let fail = count(Verdict::Fails, answers);
     let undecided = count(Verdict::Undecided, answers);
-    push_counted(out, answers.len(), b" requirement: ", b" requirements: ")?;
-    push_verdict_counts(out, hold, fail, undecided)?;
-    out.push(b'\n')?;
-    Ok(())
+    put(
+        out,
+        &SUMMARY,
+        &[
+            Number(all as u128),
+            Text(plural(all, b"requirement", b"requirements")),
+            Number(hold as u128),
+            Text(plural(hold, b"holds", b"hold")),
+            Number(fail as u128),
+            Text(plural(fail, b"fails", b"fail")),
+            Number(undecided as u128),
+        ],
+    )
 }
 
 /// The report on requirements in words: those that do not hold or match no frame, each with the frame that decides it, or all of them; and a summary.
