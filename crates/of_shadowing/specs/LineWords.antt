@@ -2,14 +2,9 @@
 use Rattle.std.specs.Prelude.{ℕ, ◌&&◌, ◌||◌, not, Bool, true, false, List, [], ◌∷◌, ◌++◌, codes, filter, if◌then◌else◌}
 use Rattle.std.specs.Str.{bytes_eq, str_eq_ignore_ascii_case}
 use Rattle.of_ovs_words.specs.Words.{word_name, word_value}
-<<<<<<< HEAD
-use Rattle.of_import.specs.PartialFlows.{begins_actions}
+use Rattle.of_ovs_lines.specs.PartialFlows.{begins_actions}
 use Rattle.of_shadowing.specs.Conditions.{is_arp, is_condition, is_fragments}
 use Rattle.of_shadowing.specs.Leads.{Scan, no_scan, with_action_led}
-=======
-use Rattle.of_ovs_lines.specs.PartialFlows.{begins_actions}
-use Rattle.of_shadowing.specs.Conditions.{is_condition}
->>>>>>> origin/main
 
 pub record LineWords : Type 0 where
   -- those that are no conditions, and `actions=drop` in place of all actions
