@@ -18,12 +18,13 @@ pub data IsReached (flows : List ListedFlow) : ℕ → Type 0 where
   First : IsReached flows 0
   Later : (from to : ℕ) → IsReached flows from → leads_to flows from to ≡ true → IsReached flows to
 
-abbrev pub leads_anywhere : List ListedFlow → Bool
-leads_anywhere flows = list_any (λ f. f.leads.anywhere) flows
+-- some actions may lead anywhere; or the file is a part of the tables, without table 0
+abbrev pub leaves_open : List ListedFlow → Bool
+leaves_open flows = list_any (λ f. f.leads.anywhere) flows || not (has_flow flows 0)
 
--- THE UNREACHABLE TABLES: they have flows, and no actions lead there; none if some actions may lead anywhere
+-- THE UNREACHABLE TABLES: they have flows, and no actions lead there; none where that is open
 abbrev pub AreUnreachable : List ListedFlow → List ℕ → Type 0
-AreUnreachable flows tables = (t : ℕ) → (is_among tables t ≡ true) ↔ ((leads_anywhere flows ≡ false) × (has_flow flows t ≡ true) × ¬ (IsReached flows t))
+AreUnreachable flows tables = (t : ℕ) → (is_among tables t ≡ true) ↔ ((leaves_open flows ≡ false) × (has_flow flows t ≡ true) × ¬ (IsReached flows t))
 
 -- ---- the same, as it is computed: of the tables behind table 0, one after the other is reached from those that are not among the rest
 

@@ -154,14 +154,20 @@ fn flow_from(
     ensures { IfOk result (λ content. view_content content ≡ flow_or_fault line (view_line_words words) (view flow) None) }
 {
     let (table, priority) = (flow.head.table, flow.head.priority);
+    let LineWords {
+        conditions,
+        is_clause,
+        scan,
+        ..
+    } = words;
     match match_of(flow.fields) {
         Some(fields) => Ok(ListedLine::Flow(ListedFlow {
             line,
             table,
             priority,
             fields,
-            words: with_clause_word(alloc, line, words.conditions, words.is_clause)?,
-            leads: words.scan.leads,
+            words: with_clause_word(alloc, line, conditions, is_clause)?,
+            leads: scan.leads,
         })),
         None => refused(
             alloc,

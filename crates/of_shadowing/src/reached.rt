@@ -1,7 +1,7 @@
 //! The tables to which no actions lead.
 ghost use Rattle.std.specs.Prelude.{◌≡◌, ◌==◌, not, filter, find, IfOk, OnOk};
 ghost use Rattle.std.specs.List.{list_any};
-ghost use Rattle.of_shadowing.specs.Reached.{AreUnreachable, is_among as is_one_of, is_led_to as is_led_so, later_tables as later_tables_of, leads_anywhere as leads_anywhere_so, leads_from_others as leads_so, with_table_of};
+ghost use Rattle.of_shadowing.specs.Reached.{AreUnreachable, is_among as is_one_of, is_led_to as is_led_so, later_tables as later_tables_of, has_flow as has_flow_of, leaves_open as leaves_open_so, leads_from_others as leads_so, with_table_of};
 
 use crate::listed_flow::ListedFlow;
 use std::alloc::{AllocError, Global};
@@ -58,10 +58,23 @@ fn later_tables(alloc: Global, flows: &[ListedFlow]) -> Result<Vec<u8>, AllocErr
     Ok(tables)
 }
 
+fn has_flow(flows: &[ListedFlow], table: u8) -> bool
+    ensures { result ≡ has_flow_of flows.now table }
+{
+    flows.iter().any(|flow| flow.table == table)
+}
+
 fn leads_anywhere(flows: &[ListedFlow]) -> bool
-    ensures { result ≡ leads_anywhere_so flows.now }
+    ensures { result ≡ list_any (λ f. f.leads.anywhere) flows.now }
 {
     flows.iter().any(|flow| flow.leads.anywhere)
+}
+
+// Whether the flows do not say to which tables they lead, or are a part of the tables without table 0.
+fn leaves_open(flows: &[ListedFlow]) -> bool
+    ensures { result ≡ leaves_open_so flows.now }
+{
+    leads_anywhere(flows) || !has_flow(flows, 0)
 }
 
 fn remove(tables: &mut Vec<u8>, table: u8)
@@ -70,11 +83,12 @@ fn remove(tables: &mut Vec<u8>, table: u8)
     tables.retain(|other| *other != table);
 }
 
-/// The tables that have flows and to which no actions lead from table 0, in the order of their first flows; none if some actions may lead anywhere.
+/// The tables that have flows and to which no actions lead from table 0, in the order of their first flows; none if some actions may lead
+/// anywhere, or if table 0 has no flows.
 pub fn unreachable_tables(alloc: Global, flows: &[ListedFlow]) -> Result<Vec<u8>, AllocError>
     ensures { IfOk result (λ tables. AreUnreachable flows.now tables.items) }
 {
-    if leads_anywhere(flows) {
+    if leaves_open(flows) {
         return Ok(Vec::new(alloc));
     }
     let mut tables = later_tables(alloc, flows)?;

@@ -1,11 +1,11 @@
 use Rattle.std.proofs.Common.{◌≡◌, ◌∙◌, [], Some, None, true, sym}
 use Rattle.std.specs.Prelude.{find}
-use Rattle.of_shadowing.specs.Reached.{is_among, is_led_to, leads_anywhere}
+use Rattle.of_shadowing.specs.Reached.{is_among, is_led_to, leaves_open}
 use Rattle.of_shadowing.proofs.ReachedLemmas.{begun, done, found, shorter, went_on}
 use Rattle.of_shadowing.proofs.reached.unreachable_tables.Goals as goal
 
 pub loop-table-init : goal.loop-table-init
-loop-table-init c = record { known = sym c.leads_anywhere.ensures ∙ c.if-leads_anywhere.false; rest = rw c.in_ok-tables.ensures (begun c.args.flows.now) }
+loop-table-init c = record { known = sym c.leaves_open.ensures ∙ c.if-leaves_open.false; rest = rw c.in_ok-tables.ensures (begun c.args.flows.now) }
 
 pub loop-table-preserved : goal.loop-table-preserved
 loop-table-preserved c =
@@ -17,9 +17,9 @@ loop-table-smaller c =
     let so : find (is_led_to c.args.flows.now c.loop-table.tables.items) c.loop-table.tables.items ≡ Some c.in-Some.table = sym (rw c.deref.ensures.value at c.next_reached.ensures) ∙ c.in-Some.is in
     rw c.remove.ensures (shorter c.in-Some.table c.loop-table.tables.items (found (is_led_to c.args.flows.now c.loop-table.tables.items) c.loop-table.tables.items c.in-Some.table so).0)
 
-pub returns-then-leads_anywhere : goal.returns-then-leads_anywhere
-returns-then-leads_anywhere c =
-    let anywhere : leads_anywhere c.args.flows.now ≡ true = sym c.leads_anywhere.ensures ∙ c.if-leads_anywhere.true in
+pub returns-then-leaves_open : goal.returns-then-leaves_open
+returns-then-leaves_open c =
+    let anywhere : leaves_open c.args.flows.now ≡ true = sym c.leaves_open.ensures ∙ c.if-leaves_open.true in
     λ t. (λ e. let none : is_among [] t ≡ true = rw c.new.ensures.items at e in absurd cc, λ h. let not_so = h.0 in absurd cc)
 
 pub returns : goal.returns

@@ -1,5 +1,5 @@
 use Rattle.std.proofs.Common.{◌≡◌, false, length}
-use Rattle.of_shadowing.specs.Reached.{leads_anywhere}
+use Rattle.of_shadowing.specs.Reached.{leaves_open}
 use Rattle.of_shadowing.proofs.ReachedLemmas.{IsRest}
 use Rattle.of_shadowing.proofs.reached.unreachable_tables.Given as goal
 
@@ -7,4 +7,4 @@ abbrev pub decreases-loop-table : goal.decreases-loop-table
 decreases-loop-table l = length l.tables.items
 
 abbrev pub invariant-loop-table : goal.invariant-loop-table
-invariant-loop-table l = record { known : leads_anywhere l.flows ≡ false; rest : IsRest l.flows l.tables.items }
+invariant-loop-table l = record { known : leaves_open l.flows ≡ false; rest : IsRest l.flows l.tables.items }
