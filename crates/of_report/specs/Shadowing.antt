@@ -1,5 +1,5 @@
 -- THE REPORT OF `check` ON THE FLOWS OF A FILE OF OVS-OFCTL, in words: findings first, then a summary, and then, if all is asked for, the flows that win.
-use Rattle.std.specs.Prelude.{◌≡◌, ℕ, ◌==◌, Bool, not, List, [], ◌∷◌, ◌++◌, length, filter, slice_get, codes, decimal, Option, Some, None, Result, if◌then◌else◌}
+use Rattle.std.specs.Prelude.{◌≡◌, ℕ, ◌==◌, ◌||◌, Bool, not, List, [], ◌∷◌, ◌++◌, length, filter, slice_get, codes, decimal, Option, Some, None, Result, if◌then◌else◌}
 use Rattle.std.specs.List.{flat_map}
 use Rattle.of_values.specs.Entries.{entry_words}
 use Rattle.of_values.specs.Origins.{further_counter, view_words}
@@ -8,6 +8,7 @@ use Rattle.of_check.specs.declared.finding.Finding.{Finding}
 use Rattle.of_check.specs.declared.verdict.Verdict.{Verdict}
 use Rattle.of_check.specs.declared.verdict.Verdict.TheVariants.{Wins, Never, Unreceived, Open}
 use Rattle.of_shadowing.specs.declared.listed_flow.ListedFlow.{ListedFlow}
+use Rattle.of_shadowing.specs.Reached.{AreUnreachable}
 use Rattle.of_shadowing.specs.Shadows.{AreVerdicts}
 use Rattle.of_report.specs.Files.{IsFindingResult}
 use Rattle.of_report.specs.Report.{counted_words, is_found, packet_said, summary, tie_words, unreceived_words}
@@ -47,19 +48,23 @@ has_conditions f = not (length f.words.items == 0)
 
 unfoldable pub conditions_line : List ListedFlow → List ℕ
 conditions_line flows =
-    codes "this switch cannot run these flows (import says why): only their tables, priorities and matches are checked" ++ 10 ∷ []
+    codes "this switch cannot run these flows (import says why): only their tables, priorities and matches, and the tables they lead to, are checked" ++ 10 ∷ []
     ++ counted_words (length (filter has_conditions flows)) (codes " flows match words that OpenFlow 1.3 does not have: each word is a condition of its own, which may hold or not") ++ 10 ∷ []
 
 abbrev pub flow_wins_if : Bool → Bool → List ListedFlow → List Finding → List ℕ
 flow_wins_if all words flows findings = if all then flat_map (λ f. flow_win_words words flows f.place f.verdict) findings else []
 
--- THE REPORT on these findings
-unfoldable pub flow_report : Bool → Bool → List ListedFlow → List Finding → List ℕ
-flow_report all words flows findings =
-    conditions_line flows ++ flat_map (λ f. flow_never_words flows f.place f.verdict) findings ++ flat_map (λ f. flow_open_words flows f.place f.verdict) findings
-    ++ summary findings ++ flow_wins_if all words flows findings
+unfoldable pub unreachable_line : ℕ → List ℕ
+unreachable_line table = codes "table " ++ decimal table ++ codes " is unreachable: no goto_table, resubmit or ct leads to it from table 0" ++ 10 ∷ []
 
--- the text of the report on these flows, after so many steps at most for each, and whether something was found: a flow that does not win
+-- THE REPORT on these findings and unreachable tables
+unfoldable pub flow_report : Bool → Bool → List ListedFlow → List Finding → List ℕ → List ℕ
+flow_report all words flows findings tables =
+    conditions_line flows ++ flat_map (λ f. flow_never_words flows f.place f.verdict) findings ++ flat_map (λ f. flow_open_words flows f.place f.verdict) findings
+    ++ flat_map unreachable_line tables ++ summary findings ++ flow_wins_if all words flows findings
+
+-- the text of the report on these flows, after so many steps at most for each, and whether something was found: a flow that does not win, or an unreachable table
 abbrev pub IsShadowReport : Result Bool Ended → ℕ → Bool → Bool → List ListedFlow → List ℕ → Type 0
 IsShadowReport result steps all words flows text =
-    (findings : List Finding) × AreVerdicts flows steps findings × (text ≡ flow_report all words flows findings) × IsFindingResult result (is_found findings [])
+    (findings : List Finding) × (tables : List ℕ) × AreVerdicts flows steps findings × AreUnreachable flows tables × (text ≡ flow_report all words flows findings tables)
+    × IsFindingResult result (is_found findings [] || not (length tables == 0))

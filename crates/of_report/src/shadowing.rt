@@ -2,7 +2,7 @@
 ghost use Rattle.std.specs.Prelude.{◌≡◌, ◌<◌, ◌↔◌, ◌++◌, length, filter, slice_get, IfOk, OnOk};
 ghost use Rattle.std.specs.List.{flat_map};
 ghost use Rattle.of_replay.specs.FileRuns.{Writes, ended_as};
-ghost use Rattle.of_report.specs.Shadowing.{IsShadowReport, conditions_line, listed_flow_at, flow_name, flow_never_words, flow_open_words, flow_report, flow_win_words, flow_wins_if, has_conditions, indented_flow};
+ghost use Rattle.of_report.specs.Shadowing.{IsShadowReport, conditions_line, listed_flow_at, flow_name, flow_never_words, flow_open_words, flow_report, flow_win_words, flow_wins_if, has_conditions, indented_flow, unreachable_line};
 
 use crate::counting::is_found;
 use crate::packets::push_packet;
@@ -10,7 +10,7 @@ use crate::report::{push_count, push_summary};
 use crate::words::{push_reason, push_unreceived};
 use of_check::{Finding, Verdict};
 use of_replay::{Ended, Sink, write_all};
-use of_shadowing::{ListedFlow, check_flows};
+use of_shadowing::{ListedFlow, check_flows, unreachable_tables};
 use of_values::{push_counter_words, push_decimal, push_entry_words};
 use std::alloc::{AllocError, Global};
 
@@ -195,7 +195,7 @@ fn push_conditions(out: &mut Vec<u8>, flows: &[ListedFlow]) -> Result<(), AllocE
     ensures { OnOk result (out.new.items ≡ out.old.items ++ conditions_line flows.now) }
 {
     out.extend_from_slice(
-        b"this switch cannot run these flows (import says why): only their tables, priorities and matches are checked",
+        b"this switch cannot run these flows (import says why): only their tables, priorities and matches, and the tables they lead to, are checked",
     )?;
     out.push(b'\n')?;
     push_count(
@@ -207,6 +207,28 @@ fn push_conditions(out: &mut Vec<u8>, flows: &[ListedFlow]) -> Result<(), AllocE
     Ok(())
 }
 
+#[tactic(auto, unfolding(crate::specs::Shadowing::unreachable_line))]
+fn push_unreachable(out: &mut Vec<u8>, table: u8) -> Result<(), AllocError>
+    ensures { OnOk result (out.new.items ≡ out.old.items ++ unreachable_line table) }
+{
+    out.extend_from_slice(b"table ")?;
+    push_decimal(out, u128::from(table))?;
+    out.extend_from_slice(
+        b" is unreachable: no goto_table, resubmit or ct leads to it from table 0",
+    )?;
+    out.push(b'\n')?;
+    Ok(())
+}
+
+fn push_unreachable_tables(out: &mut Vec<u8>, tables: &[u8]) -> Result<(), AllocError>
+    ensures { OnOk result (out.new.items ≡ out.old.items ++ flat_map unreachable_line tables.now) }
+{
+    for table in tables {
+        push_unreachable(out, *table)?;
+    }
+    Ok(())
+}
+
 #[tactic(auto, unfolding(crate::specs::Shadowing::flow_report))]
 fn report_of(
     alloc: Global,
@@ -214,19 +236,21 @@ fn report_of(
     words: bool,
     flows: &[ListedFlow],
     findings: &[Finding],
+    tables: &[u8],
 ) -> Result<Vec<u8>, AllocError>
-    ensures { IfOk result (λ text. text.items ≡ flow_report all words flows.now findings.now) }
+    ensures { IfOk result (λ text. text.items ≡ flow_report all words flows.now findings.now tables.now) }
 {
     let mut out = Vec::new(alloc);
     push_conditions(&mut out, flows)?;
     push_never_flows(&mut out, flows, findings)?;
     push_open_flows(&mut out, flows, findings)?;
+    push_unreachable_tables(&mut out, tables)?;
     push_summary(&mut out, findings)?;
     push_win_flows_if(alloc, &mut out, all, words, flows, findings)?;
     Ok(out)
 }
 
-/// Writes the report on the flows of a file of ovs-ofctl, each after at most so many steps: what is found, a summary, and with `all` the flows that
+/// Writes the report on the flows of a file of ovs-ofctl, each after at most so many steps: what is found, the tables to which no actions lead, a summary, and with `all` the flows that
 /// win, with their packets in words if these are asked for. Ok says whether something was found.
 ///
 /// Err is `WriteFault`, where a write failed and a prefix of the text was written; or `NoMemory`, where nothing was.
@@ -245,11 +269,14 @@ pub fn write_flow_report<W: Sink>(
     let Ok(findings) = check_flows(alloc, flows, steps) else {
         return Err(Ended::NoMemory);
     };
-    let Ok(text) = report_of(alloc, all, words, flows, &findings) else {
+    let Ok(tables) = unreachable_tables(alloc, flows) else {
+        return Err(Ended::NoMemory);
+    };
+    let Ok(text) = report_of(alloc, all, words, flows, &findings, &tables) else {
         return Err(Ended::NoMemory);
     };
     if write_all(writer, &text) {
-        Ok(is_found(&findings, &[]))
+        Ok(is_found(&findings, &[]) || !tables.is_empty())
     } else {
         Err(Ended::WriteFault)
     }

@@ -1,8 +1,10 @@
 pub mod Conditions
+pub mod Leads
 pub mod LineWordViews
 pub mod LineWords
 pub mod ListingViews
 pub mod Listings
 pub mod Plain
+pub mod Reached
 pub mod Shadows
 pub mod Worlds

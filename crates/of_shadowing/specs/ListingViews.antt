@@ -10,7 +10,7 @@ use Rattle.of_shadowing.specs.declared.listing.Listing.{Listing as Declared}
 use Rattle.of_shadowing.specs.Listings.{ListedContent, ListedText, Listing, Nothing, Flow, Refused}
 
 abbrev pub view_flow : ListedFlow → ListedText
-view_flow f = record { line = f.line; table = f.table; priority = f.priority; fields = f.fields; words = view_words f.words.items }
+view_flow f = record { line = f.line; table = f.table; priority = f.priority; fields = f.fields; words = view_words f.words.items; tables = f.leads.tables.items; anywhere = f.leads.anywhere }
 
 abbrev pub view_content : ListedLine → ListedContent
 view_content variants.Nothing = Nothing

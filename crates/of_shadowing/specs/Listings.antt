@@ -8,22 +8,24 @@ use Rattle.of_frame_words.specs.Fields.{is_match}
 use Rattle.of_text.specs.Flows.{Flow as TextFlow}
 use Rattle.of_text.specs.Lines.{before}
 use Rattle.of_ovs_words.specs.declared.why.Why.TheVariants as whys
-use Rattle.of_ovs_words.specs.Words.{word_name, words_from}
+use Rattle.of_ovs_words.specs.Words.{words_from}
 use Rattle.of_ovs_lines.specs.PartialFlows.{Refusal}
 use Rattle.of_ovs_lines.specs.LineContents as lines
 use Rattle.of_ovs_lines.specs.LineContents.{begins_group, parsed_line, trimmed, with_words}
 use Rattle.of_shadowing.specs.declared.conditions.Need.{Need}
 use Rattle.of_shadowing.specs.declared.listing.TheConstants.{ANY_TABLE, NO_TABLE}
-use Rattle.of_shadowing.specs.Conditions.{is_need_met, need_of, why_unmet}
+use Rattle.of_shadowing.specs.Conditions.{is_need_met, need_of_word, why_unmet}
 use Rattle.of_shadowing.specs.LineWords.{LineWords, no_line_words, with_line_word}
 
--- a flow: its line, its table, its priority, its match, and its conditions
+-- a flow: its line, its table, its priority, its match, its conditions, and where its actions lead
 pub record ListedText : Type 0 where
   pub line : ℕ
   pub table : ℕ
   pub priority : ℕ
   pub fields : List MatchField
   pub words : List (List ℕ)
+  pub tables : List ℕ
+  pub anywhere : Bool
 
 pub data ListedContent : Type 0 where
   Nothing : ListedContent
@@ -36,8 +38,8 @@ pub data ListedContent : Type 0 where
 abbrev pub clause_name : ℕ → List ℕ
 clause_name n = codes "conjunction of line " ++ decimal n
 
-abbrev pub with_clause : ℕ → LineWords → List (List ℕ)
-with_clause n s = if s.is_clause then s.conditions ++ clause_name n ∷ [] else s.conditions
+abbrev pub with_clause : ℕ → Bool → List (List ℕ) → List (List ℕ)
+with_clause n is_clause conditions = if is_clause then conditions ++ clause_name n ∷ [] else conditions
 
 -- the match has what the field of a condition needs
 abbrev pub is_met_beside : List MatchField → Option Need → Bool
@@ -45,7 +47,7 @@ is_met_beside m None = true
 is_met_beside m (Some need) = is_need_met m need
 
 abbrev pub is_word_met : List MatchField → List ℕ → Bool
-is_word_met m word = is_met_beside m (need_of (word_name word))
+is_word_met m word = is_met_beside m (need_of_word word)
 
 abbrev pub why_of : Option Need → List ℕ → Refusal
 why_of None word = record { word = word; why = whys.Unknown }
@@ -53,7 +55,7 @@ why_of (Some need) word = record { word = word; why = why_unmet need }
 
 abbrev pub unmet_fault : Option (List ℕ) → Option Refusal
 unmet_fault None = None
-unmet_fault (Some word) = Some (why_of (need_of (word_name word)) word)
+unmet_fault (Some word) = Some (why_of (need_of_word word) word)
 
 -- table 255 is none; then the first condition whose field lacks what it needs
 abbrev pub listed_fault : TextFlow → List (List ℕ) → Option Refusal
@@ -64,7 +66,7 @@ listed_fault f conditions =
 abbrev pub flow_or_fault : ℕ → LineWords → TextFlow → Option Refusal → ListedContent
 flow_or_fault n s f (Some fault) = Refused (fault ∷ [])
 flow_or_fault n s f None =
-    if is_match f.fields then Flow (record { line = n; table = f.head.table; priority = f.head.priority; fields = f.fields; words = with_clause n s })
+    if is_match f.fields then Flow (record { line = n; table = f.head.table; priority = f.head.priority; fields = f.fields; words = with_clause n s.is_clause s.conditions; tables = s.scan.tables; anywhere = s.scan.anywhere })
     else Refused (record { word = codes "match"; why = whys.Value } ∷ [])
 
 -- of the line without its conditions this is read

@@ -1,13 +1,14 @@
 //! The words of a line: those that are conditions, and the others.
 ghost use Rattle.std.specs.Prelude.{◌≡◌, ◌∷◌, [], ◌++◌, ◌||◌, not, filter, IfOk, OnOk};
-ghost use Rattle.std.specs.Str.{bytes_eq};
+ghost use Rattle.std.specs.Str.{str_eq_ignore_ascii_case};
 ghost use Rattle.of_ovs_words.specs.Words.{word_name, words_from};
 ghost use Rattle.of_ovs_lines.specs.LineContents.{with_words};
 ghost use Rattle.of_values.specs.Origins.{view_words};
-ghost use Rattle.of_shadowing.specs.LineWords.{with_actions_begun, is_conjunction as is_conjunction_so, no_line_words, with_action_passed, with_line_word, with_plain, with_word_named};
+ghost use Rattle.of_shadowing.specs.LineWords.{with_actions_begun, is_conjunction as is_conjunction_so, is_field_of as is_field_of_so, no_line_words, with_action_passed, with_line_word, with_plain, with_word_named};
 ghost use Rattle.of_shadowing.specs.LineWordViews.{view_line_words};
 
-use crate::conditions::is_condition;
+use crate::conditions::{is_arp, is_condition, is_fragments};
+use crate::leads::Scan;
 use of_ovs_lines::begins_actions;
 use of_ovs_words::{cut_word, name_of, value_of};
 use of_text::is;
@@ -20,32 +21,36 @@ pub struct LineWords {
     pub plain: Vec<u8>,
     /// Those that are conditions.
     pub conditions: Vec<Vec<u8>>,
+    /// Whether a word is `rarp`.
+    pub is_rarp: bool,
     pub in_actions: bool,
     /// Whether an action is `conjunction`.
     pub is_clause: bool,
+    /// Where its actions lead.
+    pub scan: Scan,
 }
 
 fn is_conjunction(word: &[u8]) -> bool
     ensures { result ≡ is_conjunction_so word.now }
 {
-    is(name_of(word), b"conjunction")
+    name_of(word).eq_ignore_ascii_case(b"conjunction")
 }
 
-// Whether two words have one name.
-fn have_one_name(a: &[u8], b: &[u8]) -> bool
-    ensures { result ≡ bytes_eq (word_name a.now) (word_name b.now) }
+// Whether two names are those of one field.
+fn is_field_of(name: &[u8], other: &[u8]) -> bool
+    ensures { result ≡ is_field_of_so name.now other.now }
 {
-    is(name_of(a), name_of(b))
+    is(name, other) || is_fragments(name) && is_fragments(other)
 }
 
-// Removes the words of the name of this one.
+// Removes the words of the field of this one.
 fn remove_named(words: &mut Vec<Vec<u8>>, word: &[u8])
-    ensures { words.new.items ≡ filter (λ w. not (bytes_eq (word_name w.items) (word_name word.now))) words.old.items }
+    ensures { words.new.items ≡ filter (λ w. not (is_field_of_so (word_name w.items) (word_name word.now))) words.old.items }
 {
-    words.retain(|other| !have_one_name(other, word));
+    words.retain(|other| !is_field_of(name_of(other), name_of(word)));
 }
 
-// Adds a word, which takes the place of those of its name.
+// Adds a word, which takes the place of those of its field.
 fn replace_named(alloc: Global, words: &mut Vec<Vec<u8>>, word: &[u8]) -> Result<(), AllocError>
     ensures { OnOk result (view_words words.new.items ≡ with_word_named word.now (view_words words.old.items)) }
 {
@@ -63,26 +68,29 @@ impl LineWords {
         LineWords {
             plain: Vec::new(alloc),
             conditions: Vec::new(alloc),
+            is_rarp: false,
             in_actions: false,
             is_clause: false,
+            scan: Scan::new(alloc),
         }
     }
 
     // An action.
-    fn add_action(&mut self, word: &[u8])
-        ensures { view_line_words self.new ≡ with_action_passed (view_line_words self.old) word.now }
+    fn add_action(&mut self, alloc: Global, word: &[u8]) -> Result<(), AllocError>
+        ensures { OnOk result (view_line_words self.new ≡ with_action_passed (view_line_words self.old) word.now) }
     {
         self.is_clause = self.is_clause || is_conjunction(word);
+        self.scan.add(alloc, word)
     }
 
     // `actions=` and the first action.
-    fn begin_actions(&mut self, word: &[u8]) -> Result<(), AllocError>
+    fn begin_actions(&mut self, alloc: Global, word: &[u8]) -> Result<(), AllocError>
         ensures { OnOk result (view_line_words self.new ≡ with_actions_begun (view_line_words self.old) word.now) }
     {
         self.plain.extend_from_slice(b"actions=drop")?;
         self.in_actions = true;
         self.is_clause = is_conjunction(value_of(word));
-        Ok(())
+        self.scan.add(alloc, value_of(word))
     }
 
     // A word that is no condition.
@@ -91,6 +99,7 @@ impl LineWords {
     {
         self.plain.extend_from_slice(word)?;
         self.plain.push(b',')?;
+        self.is_rarp = self.is_rarp || is(word, b"rarp");
         Ok(())
     }
 
@@ -99,11 +108,10 @@ impl LineWords {
         ensures { OnOk result (view_line_words self.new ≡ with_line_word (view_line_words self.old) word.now) }
     {
         if self.in_actions {
-            self.add_action(word);
-            Ok(())
+            self.add_action(alloc, word)
         } else if begins_actions(name_of(word)) {
-            self.begin_actions(word)
-        } else if is_condition(name_of(word)) {
+            self.begin_actions(alloc, word)
+        } else if is_condition(word) || self.is_rarp && is_arp(name_of(word)) {
             replace_named(alloc, &mut self.conditions, word)
         } else {
             self.add_plain(word)

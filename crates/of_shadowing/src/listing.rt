@@ -1,13 +1,12 @@
 //! The flows of a file of ovs-ofctl.
 ghost use Rattle.std.specs.Prelude.{◌≡◌, ◌++◌, ◌∷◌, [], None, not, filter, find, map, IfOk, OnOk};
 ghost use Rattle.std.specs.Option.{option_copied, option_map};
-ghost use Rattle.of_ovs_words.specs.Words.{word_name};
 ghost use Rattle.of_text.specs.Lines.{lines_of};
 ghost use Rattle.of_text.specs.Views.{view};
 ghost use Rattle.of_values.specs.Origins.{view_words};
 ghost use Rattle.of_ovs_lines.specs.LineContentViews.{view_line_content};
 ghost use Rattle.of_ovs_lines.specs.PartialFlowViews.{view_word_fault};
-ghost use Rattle.of_shadowing.specs.Conditions.{need_of as need_of_name};
+ghost use Rattle.of_shadowing.specs.Conditions.{need_of_word};
 ghost use Rattle.of_shadowing.specs.Listings.{Refused, are_among_words, clause_name, listed_fault, flow_or_fault, is_same_flow, is_word_met as is_word_met_so, listed_content, listed_line, listed_text, listed_words, listing_of, no_listing, split_words, unmet_fault as unmet_fault_of, why_of as why_of_word, with_clause, with_listed, with_flow_listed};
 ghost use Rattle.of_shadowing.specs.ListingViews.{view_content, view_flow, view_listing};
 ghost use Rattle.of_shadowing.specs.LineWordViews.{view_line_words};
@@ -19,7 +18,7 @@ use crate::rivals::are_among;
 use of_frame_words::match_of;
 use of_import::LineFaults;
 use of_ovs_lines::{LineContent, Mode, WordFault, begins_group, read_line, trimmed};
-use of_ovs_words::{Why, name_of};
+use of_ovs_words::Why;
 use of_oxm::MatchField;
 use of_text::{FlowText, cut};
 use of_values::push_decimal;
@@ -62,11 +61,16 @@ fn clause_word(alloc: Global, line: usize) -> Result<Vec<u8>, AllocError>
 }
 
 // The conditions of a line.
-fn conditions_of(alloc: Global, line: usize, words: LineWords) -> Result<Vec<Vec<u8>>, AllocError>
-    ensures { IfOk result (λ conditions. view_words conditions.items ≡ with_clause line (view_line_words words)) }
+fn with_clause_word(
+    alloc: Global,
+    line: usize,
+    conditions: Vec<Vec<u8>>,
+    is_clause: bool,
+) -> Result<Vec<Vec<u8>>, AllocError>
+    ensures { IfOk result (λ words. view_words words.items ≡ with_clause line is_clause (view_words conditions.items)) }
 {
-    let mut conditions = words.conditions;
-    if words.is_clause {
+    let mut conditions = conditions;
+    if is_clause {
         conditions.push(clause_word(alloc, line)?)?;
     }
     Ok(conditions)
@@ -76,7 +80,7 @@ fn conditions_of(alloc: Global, line: usize, words: LineWords) -> Result<Vec<Vec
 fn is_word_met(fields: &[MatchField], word: &[u8]) -> bool
     ensures { result ≡ is_word_met_so fields.now word.now }
 {
-    match need_of(name_of(word)) {
+    match need_of(word) {
         None => true,
         Some(need) => is_need_met(fields, need),
     }
@@ -89,9 +93,9 @@ fn first_unmet<'a>(fields: &[MatchField], conditions: &'a [Vec<u8>]) -> Option<&
 }
 
 fn why_of(word: &[u8]) -> Why
-    ensures { result ≡ (why_of_word (need_of_name (word_name word.now)) word.now).why }
+    ensures { result ≡ (why_of_word (need_of_word word.now) word.now).why }
 {
-    match need_of(name_of(word)) {
+    match need_of(word) {
         None => Why::Unknown,
         Some(need) => why_unmet(need),
     }
@@ -150,13 +154,20 @@ fn flow_from(
     ensures { IfOk result (λ content. view_content content ≡ flow_or_fault line (view_line_words words) (view flow) None) }
 {
     let (table, priority) = (flow.head.table, flow.head.priority);
+    let LineWords {
+        conditions,
+        is_clause,
+        scan,
+        ..
+    } = words;
     match match_of(flow.fields) {
         Some(fields) => Ok(ListedLine::Flow(ListedFlow {
             line,
             table,
             priority,
             fields,
-            words: conditions_of(alloc, line, words)?,
+            words: with_clause_word(alloc, line, conditions, is_clause)?,
+            leads: scan.leads,
         })),
         None => refused(
             alloc,

@@ -1,0 +1,6 @@
+use Rattle.std.proofs.Common.{rules}
+use Rattle.std.proofs.lemmas.Fn.{filter_same}
+use Rattle.of_shadowing.proofs.reached.remove.Goals as goal
+
+pub returns : goal.returns
+returns c = filter_same _ _ _ (λ x b h k. search rules) _ _ c.retain.ensures.filtered
