@@ -36,17 +36,17 @@ pub trait ChangeTeller {
 fn push_cause(alloc: Global, out: &mut Vec<u8>, cause: &Cause<'_>) -> Result<(), AllocError>
     ensures { OnOk result (out.new.items ≡ out.old.items ++ cause_words cause.now.number cause.now.line cause.now.by) }
 {
-    let number = Number(u128::from(cause.number));
+    let number = u128::from(cause.number);
     match cause.by {
         By::Message(which) => {
-            put(out, &MESSAGE, &[number, Number(u128::from(which))])?;
+            put(out, &MESSAGE, &[Number(number), Number(u128::from(which))])?;
             push_request(alloc, out, cause.text)
         }
         By::Moment => {
-            put(out, &LINE, &[number, Text(cause.line)])?;
+            put(out, &LINE, &[Number(number), Text(cause.line)])?;
             out.extend_from_slice(cause.text)
         }
-        By::Port | By::Row => put(out, &LINE, &[number, Text(cause.line)]),
+        By::Port | By::Row => put(out, &LINE, &[Number(number), Text(cause.line)]),
     }
 }
 
