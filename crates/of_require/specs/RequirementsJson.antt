@@ -27,10 +27,14 @@ shown_members (Frame s) =
 shown_members (NotKnown port) = number_member (codes "in_port") port
 shown_members other = []
 
+unfoldable pub line_members : Answer → List ℕ
+line_members a = filled LINE (decimal a.line.number ∷ []) ++ string_member (codes "requirement") a.line.text.items
+
+unfoldable pub requirement_verdict_members : Answer → List ℕ
+requirement_verdict_members a = text_member (codes "verdict") (verdict_name (verdict_of a)) ++ truth_member (codes "matches") (may_match a.decision) ++ shown_members a.decision
+
 unfoldable pub answer_object : Answer → List ℕ
-answer_object a =
-    filled LINE (decimal a.line.number ∷ []) ++ string_member (codes "requirement") a.line.text.items ++ text_member (codes "verdict") (verdict_name (verdict_of a))
-    ++ truth_member (codes "matches") (may_match a.decision) ++ shown_members a.decision ++ 125 ∷ []
+answer_object a = line_members a ++ requirement_verdict_members a ++ 125 ∷ []
 
 unfoldable pub requirements_member : List Answer → List ℕ
 requirements_member answers = array_member (codes "requirements") (listed answer_object answers)

@@ -1,7 +1,7 @@
 //! The report on requirements as JSON.
 ghost use Rattle.std.specs.Prelude.{◌≡◌, ◌++◌, IfOk, OnOk};
 ghost use Rattle.of_require.specs.Answers.{may_match as may_match_so};
-ghost use Rattle.of_require.specs.RequirementsJson.{answer_object, requirements_member, shown_members, verdict_name as name_of_verdict};
+ghost use Rattle.of_require.specs.RequirementsJson.{answer_object, line_members, requirement_verdict_members, requirements_member, shown_members, verdict_name as name_of_verdict};
 
 use crate::answers::Answer;
 use crate::deciding::{Decision, Verdict};
@@ -53,15 +53,29 @@ fn push_shown_members(
     }
 }
 
+#[tactic(auto, unfolding(crate::specs::RequirementsJson::line_members))]
+fn begin_object(out: &mut Vec<u8>, answer: &Answer) -> Result<(), AllocError>
+    ensures { OnOk result (out.new.items ≡ out.old.items ++ line_members answer.now) }
+{
+    put(out, &LINE, &[Number(answer.line.number as u128)])?;
+    push_string_member(out, b"requirement", &answer.line.text)
+}
+
+#[tactic(auto, unfolding(crate::specs::RequirementsJson::requirement_verdict_members))]
+fn push_verdict_members(alloc: Global, out: &mut Vec<u8>, answer: &Answer) -> Result<(), AllocError>
+    ensures { OnOk result (out.new.items ≡ out.old.items ++ requirement_verdict_members answer.now) }
+{
+    push_text_member(out, b"verdict", verdict_name(answer.verdict()))?;
+    push_truth_member(out, b"matches", may_match(&answer.decision))?;
+    push_shown_members(alloc, out, &answer.decision)
+}
+
 #[tactic(auto, unfolding(crate::specs::RequirementsJson::answer_object))]
 fn push_answer_object(alloc: Global, out: &mut Vec<u8>, answer: &Answer) -> Result<(), AllocError>
     ensures { OnOk result (out.new.items ≡ out.old.items ++ answer_object answer.now) }
 {
-    put(out, &LINE, &[Number(answer.line.number as u128)])?;
-    push_string_member(out, b"requirement", &answer.line.text)?;
-    push_text_member(out, b"verdict", verdict_name(answer.verdict()))?;
-    push_truth_member(out, b"matches", may_match(&answer.decision))?;
-    push_shown_members(alloc, out, &answer.decision)?;
+    begin_object(out, answer)?;
+    push_verdict_members(alloc, out, answer)?;
     out.push(b'}')?;
     Ok(())
 }
