@@ -48,11 +48,14 @@ step_string s = quoted (step_line s)
 unfoldable pub steps_member : List Step → List ℕ
 steps_member steps = 44 ∷ key (codes "steps") ++ 91 ∷ listed step_string steps ++ 93 ∷ []
 
-unfoldable pub class_object : Forwarding → PathClass → List ℕ
-class_object f c =
+unfoldable pub class_members : Forwarding → PathClass → List ℕ
+class_members f c =
     filled CLASS (decimal c.in_port ∷ []) ++ text_member (codes "frame") (encode_lower c.frame.items)
     ++ steps_member (steps_in c.in_port c.frame.items f) ++ items_member (codes "items") c.items.items
-    ++ changes_member (codes "changes") c.frame.items c.items.items ++ hits_member c.paths.items ++ 125 ∷ []
+    ++ changes_member (codes "changes") c.frame.items c.items.items ++ hits_member c.paths.items
+
+unfoldable pub class_object : Forwarding → PathClass → List ℕ
+class_object f c = class_members f c ++ 125 ∷ []
 
 -- those whose paths lead to the place that is asked for
 abbrev pub shown_classes : Option Destination → List PathClass → List PathClass

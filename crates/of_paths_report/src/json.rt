@@ -4,7 +4,7 @@ ghost use Rattle.std.specs.List.{flat_map};
 ghost use Rattle.of_json.specs.Parts.{listed};
 ghost use Rattle.of_tracing.specs.Encoded.{are_encoded, is_encoded};
 ghost use Rattle.of_paths.specs.declared.path.PathClass.{PathClass as APathClass};
-ghost use Rattle.of_paths_report.specs.PathsJson.{class_object, classes_member, listed_behind, paths_json, shown_classes, step_string, steps_member, undecided_frames_member, why_in_json};
+ghost use Rattle.of_paths_report.specs.PathsJson.{class_members, class_object, classes_member, listed_behind, paths_json, shown_classes, step_string, steps_member, undecided_frames_member, why_in_json};
 
 use crate::classes::traced;
 use crate::destination::is_shown;
@@ -71,7 +71,25 @@ fn push_steps_member(out: &mut Vec<u8>, steps: &[Step]) -> Result<(), AllocError
     Ok(())
 }
 
-// Appends a class: its frame, the steps of that, what leaves and changed, and which entries its paths hit.
+// Begins the object of a class: its frame, the steps of that, what leaves and changed, and which entries its paths hit.
+#[tactic(auto, unfolding(crate::specs::PathsJson::class_members))]
+fn push_class_members<L: Lookup>(
+    alloc: Global,
+    out: &mut Vec<u8>,
+    switch: &Switch<L>,
+    class: &PathClass,
+) -> Result<(), AllocError>
+    ensures { OnOk result (out.new.items ≡ out.old.items ++ class_members switch.now.core.forwarding class.now) }
+{
+    let trace = traced(alloc, switch, class)?;
+    put(out, &CLASS, &[Number(u128::from(class.in_port))])?;
+    push_bytes_member(alloc, out, b"frame", &class.frame)?;
+    push_steps_member(out, &trace.steps)?;
+    push_items_member(alloc, out, b"items", &class.items)?;
+    push_changes_member(alloc, out, b"changes", &class.frame, &class.items)?;
+    push_hits_member(alloc, out, &class.paths)
+}
+
 #[tactic(auto, unfolding(crate::specs::PathsJson::class_object))]
 fn push_class_object<L: Lookup>(
     alloc: Global,
@@ -81,13 +99,7 @@ fn push_class_object<L: Lookup>(
 ) -> Result<(), AllocError>
     ensures { OnOk result (out.new.items ≡ out.old.items ++ class_object switch.now.core.forwarding class.now) }
 {
-    let trace = traced(alloc, switch, class)?;
-    put(out, &CLASS, &[Number(u128::from(class.in_port))])?;
-    push_bytes_member(alloc, out, b"frame", &class.frame)?;
-    push_steps_member(out, &trace.steps)?;
-    push_items_member(alloc, out, b"items", &class.items)?;
-    push_changes_member(alloc, out, b"changes", &class.frame, &class.items)?;
-    push_hits_member(alloc, out, &class.paths)?;
+    push_class_members(alloc, out, switch, class)?;
     out.push(b'}')?;
     Ok(())
 }
