@@ -2,6 +2,8 @@
 use Rattle.std.specs.Prelude.{◌≡◌, ℕ, ◌==◌, ◌||◌, Bool, not, List, [], ◌∷◌, ◌++◌, length, filter, slice_get, codes, decimal, Option, Some, None, Result, if◌then◌else◌}
 use Rattle.std.specs.List.{flat_map}
 use Rattle.of_values.specs.Entries.{entry_words}
+use Rattle.of_values.specs.Filled.{filled}
+use Rattle.of_report.specs.declared.shadowing.TheConstants.{UNREACHABLE}
 use Rattle.of_values.specs.Origins.{further_counter, view_words}
 use Rattle.of_replay.specs.declared.event_file.Ended.{Ended}
 use Rattle.of_check.specs.declared.finding.Finding.{Finding}
@@ -54,8 +56,8 @@ conditions_line flows =
 abbrev pub flow_wins_if : Bool → Bool → List ListedFlow → List Finding → List ℕ
 flow_wins_if all words flows findings = if all then flat_map (λ f. flow_win_words words flows f.place f.verdict) findings else []
 
-unfoldable pub unreachable_line : ℕ → List ℕ
-unreachable_line table = codes "table " ++ decimal table ++ codes " is unreachable: no goto_table, resubmit or ct leads to it from table 0" ++ 10 ∷ []
+abbrev pub unreachable_line : ℕ → List ℕ
+unreachable_line table = filled UNREACHABLE (decimal table ∷ [])
 
 -- THE REPORT on these findings and unreachable tables
 unfoldable pub flow_report : Bool → Bool → List ListedFlow → List Finding → List ℕ → List ℕ

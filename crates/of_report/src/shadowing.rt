@@ -11,8 +11,12 @@ use crate::words::{push_reason, push_unreceived};
 use of_check::{Finding, Verdict};
 use of_replay::{Ended, Sink, write_all};
 use of_shadowing::{ListedFlow, check_flows, unreachable_tables};
-use of_values::{push_counter_words, push_decimal, push_entry_words};
+use of_values::Part::Number;
+use of_values::{push_counter_words, push_decimal, push_entry_words, put};
 use std::alloc::{AllocError, Global};
+
+pub const UNREACHABLE: [u8; 79] =
+    *b"table % is unreachable: no goto_table, resubmit or ct leads to it from table 0\n";
 
 // Appends a flow: its table, its line, its priority, its match and its conditions.
 #[tactic(auto, unfolding(crate::specs::Shadowing::flow_name))]
@@ -207,24 +211,11 @@ fn push_conditions(out: &mut Vec<u8>, flows: &[ListedFlow]) -> Result<(), AllocE
     Ok(())
 }
 
-#[tactic(auto, unfolding(crate::specs::Shadowing::unreachable_line))]
-fn push_unreachable(out: &mut Vec<u8>, table: u8) -> Result<(), AllocError>
-    ensures { OnOk result (out.new.items ≡ out.old.items ++ unreachable_line table) }
-{
-    out.extend_from_slice(b"table ")?;
-    push_decimal(out, u128::from(table))?;
-    out.extend_from_slice(
-        b" is unreachable: no goto_table, resubmit or ct leads to it from table 0",
-    )?;
-    out.push(b'\n')?;
-    Ok(())
-}
-
 fn push_unreachable_tables(out: &mut Vec<u8>, tables: &[u8]) -> Result<(), AllocError>
     ensures { OnOk result (out.new.items ≡ out.old.items ++ flat_map unreachable_line tables.now) }
 {
     for table in tables {
-        push_unreachable(out, *table)?;
+        put(out, &UNREACHABLE, &[Number(u128::from(*table))])?;
     }
     Ok(())
 }

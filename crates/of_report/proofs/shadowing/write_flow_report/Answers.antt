@@ -4,4 +4,4 @@ use Rattle.of_report.proofs.shadowing.write_flow_report.Goals as goal
 
 pub returns-clause-output : goal.returns-clause-output
 returns-clause-output g c =
-    (c.deref-3.result.now, (c.in-Ok.findings.items, c.in-Ok-2.tables.items, search rules, search rules, search rules, λ e. (let h : WriteFault ≡ Done = e in cc)), c.if-write_all.ensures.front)
+    (c.deref-3.result.now, (c.in-Ok.findings.items, c.in-Ok-unreachable_tables.tables.items, search rules, search rules, search rules, λ e. (let h : WriteFault ≡ Done = e in cc)), c.if-write_all.ensures.front)
