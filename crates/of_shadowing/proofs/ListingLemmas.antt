@@ -10,7 +10,7 @@ use Rattle.of_oxm.specs.declared.match_field.MatchField.{MatchField}
 use Rattle.of_ovs_words.specs.declared.why.Why.{Why}
 use Rattle.of_ovs_lines.specs.PartialFlows.{Refusal}
 use Rattle.of_shadowing.specs.declared.conditions.Need.{Need}
-use Rattle.of_shadowing.specs.Conditions.{need_of}
+use Rattle.of_shadowing.specs.Conditions.{need_of_word}
 use Rattle.of_text.specs.Lines.{before, behind, lines_of}
 use Rattle.of_text.proofs.TextLemmas.{first_line}
 use Rattle.of_values.specs.Origins.{view_words}
@@ -19,7 +19,7 @@ use Rattle.of_ovs_words.specs.Words.{word_name}
 use Rattle.of_shadowing.specs.declared.listed_flow.ListedFlow.{ListedFlow}
 use Rattle.of_shadowing.specs.Listings.{Listing, are_among_words, is_same_flow, is_word_met, listed_line, listing_from, unmet_fault, why_of, with_listed, with_flow_listed}
 use Rattle.of_shadowing.specs.ListingViews.{view_flow}
-use Rattle.of_shadowing.specs.LineWords.{with_word_named}
+use Rattle.of_shadowing.specs.LineWords.{is_field_of, with_word_named}
 
 -- ---- words
 
@@ -30,12 +30,12 @@ among (w ∷ words) others =
     ∙ ap (λ (b : Bool). list_any (λ (x : List ℕ). bytes_eq x w.items) (view_words others) && b) (among words others)
 
 -- words of another name, and one more
-pub replaced : (old kept new : List (Vec ℕ)) (copy : Vec ℕ) (word : List ℕ) → kept ≡ filter (λ (w : Vec ℕ). not (bytes_eq (word_name w.items) (word_name word))) old → new ≡ kept ++ copy ∷ [] → copy.items ≡ word → view_words new ≡ with_word_named word (view_words old)
+pub replaced : (old kept new : List (Vec ℕ)) (copy : Vec ℕ) (word : List ℕ) → kept ≡ filter (λ (w : Vec ℕ). not (is_field_of (word_name w.items) (word_name word))) old → new ≡ kept ++ copy ∷ [] → copy.items ≡ word → view_words new ≡ with_word_named word (view_words old)
 replaced old kept new copy word k n c =
     ap view_words n
     ∙ (map-append (λ (w : Vec ℕ). w.items) kept (copy ∷ [])
-    ∙ (ap (λ (xs : List (List ℕ)). xs ++ copy.items ∷ []) (ap view_words k ∙ filter_mapped (λ (w : Vec ℕ). w.items) (λ (w : List ℕ). not (bytes_eq (word_name w) (word_name word))) old)
-    ∙ ap (λ (x : List ℕ). filter (λ (w : List ℕ). not (bytes_eq (word_name w) (word_name word))) (view_words old) ++ x ∷ []) c))
+    ∙ (ap (λ (xs : List (List ℕ)). xs ++ copy.items ∷ []) (ap view_words k ∙ filter_mapped (λ (w : Vec ℕ). w.items) (λ (w : List ℕ). not (is_field_of (word_name w) (word_name word))) old)
+    ∙ ap (λ (x : List ℕ). filter (λ (w : List ℕ). not (is_field_of (word_name w) (word_name word))) (view_words old) ++ x ∷ []) c))
 
 find_step : (q : List ℕ → Bool) (w : Vec ℕ) (words : List (Vec ℕ)) → option_map (λ (v : Vec ℕ). v.items) (find (λ (v : Vec ℕ). q v.items) words) ≡ find q (view_words words) → (b : Bool) → q w.items ≡ b → option_map (λ (v : Vec ℕ). v.items) (cond (q w.items) (Some w) (find (λ (v : Vec ℕ). q v.items) words)) ≡ cond (q w.items) (Some w.items) (find q (view_words words))
 find_step q w words others true e = rw e refl
@@ -61,9 +61,9 @@ module _ (m : List MatchField) (conditions : List (Vec ℕ)) where
   word_why None word = refl
   word_why (Some need) word = refl
 
-  pub some_fault : (found : Option (Vec ℕ)) (w copy : Vec ℕ) (why : Why) → found ≡ find (λ (v : Vec ℕ). is_unmet v.items) conditions → found ≡ Some w → copy.items ≡ w.items → why ≡ (why_of (need_of (word_name w.items)) w.items).why → Some (record { word = copy.items; why = why }) ≡ unmet_fault (find is_unmet (view_words conditions))
+  pub some_fault : (found : Option (Vec ℕ)) (w copy : Vec ℕ) (why : Why) → found ≡ find (λ (v : Vec ℕ). is_unmet v.items) conditions → found ≡ Some w → copy.items ≡ w.items → why ≡ (why_of (need_of_word w.items) w.items).why → Some (record { word = copy.items; why = why }) ≡ unmet_fault (find is_unmet (view_words conditions))
   some_fault found w copy why f s c y =
-      let made : record { word = copy.items; why = why } ≡ why_of (need_of (word_name w.items)) w.items = rw (c, y) (word_why (need_of (word_name w.items)) w.items) in
+      let made : record { word = copy.items; why = why } ≡ why_of (need_of_word w.items) w.items = rw (c, y) (word_why (need_of_word w.items) w.items) in
       ap (λ (r : Refusal). Some r) made ∙ sym (ap unmet_fault (first_found found f ∙ ap (option_map (λ (v : Vec ℕ). v.items)) s))
 
 -- ---- flows

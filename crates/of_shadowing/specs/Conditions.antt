@@ -8,8 +8,7 @@ use Rattle.of_layers.specs.declared.field.Prerequisite.TheVariants as needs
 use Rattle.of_layers.specs.Fields.{number_of}
 use Rattle.of_oxm.specs.declared.match_field.MatchField.{MatchField}
 use Rattle.of_oxm.specs.Prerequisites.{is_met}
-use Rattle.of_text.specs.Lines.{lines_of}
-use Rattle.of_lines.specs.Lines.{behind}
+use Rattle.of_text.specs.Lines.{behind, lines_of}
 use Rattle.of_ovs_words.specs.Words.{word_name, word_value}
 use Rattle.of_ovs_words.specs.declared.why.Why.{Why}
 use Rattle.of_ovs_words.specs.declared.why.Why.TheVariants as whys

@@ -1,7 +1,6 @@
 use Rattle.std.proofs.Common.{◌∙◌, List, ℕ, ap}
 use Rattle.std.specs.Option.{option_copied}
-use Rattle.of_ovs_words.specs.Words.{word_name}
-use Rattle.of_shadowing.specs.Conditions.{need_of}
+use Rattle.of_shadowing.specs.Conditions.{need_of_word}
 use Rattle.of_shadowing.specs.Listings.{why_of}
 use Rattle.of_shadowing.proofs.ListingLemmas.{no_fault, some_fault}
 use Rattle.of_shadowing.proofs.listing.unmet_fault.Goals as goal
@@ -13,4 +12,4 @@ pub returns-in_ok-to_vec-in-Some : goal.returns-in_ok-to_vec-in-Some
 returns-in_ok-to_vec-in-Some c =
     some_fault c.args.fields.now c.args.conditions.now (option_copied c.first_unmet.result) c.in-Some.word.now c.in_ok-to_vec-in-Some.field-0 c.why_of.result c.first_unmet.ensures (ap option_copied c.in-Some.is)
     (c.in_ok-to_vec-in-Some.ensures.items_if_clones_equal (λ x y e. e) ∙ c.deref-in-Some.ensures.value)
-    (c.why_of.ensures ∙ ap (λ (x : List ℕ). (why_of (need_of (word_name x)) x).why) c.deref.ensures.value)
+    (c.why_of.ensures ∙ ap (λ (x : List ℕ). (why_of (need_of_word x) x).why) c.deref.ensures.value)
