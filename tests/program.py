@@ -1,0 +1,42 @@
+"""The program that the tests run: that of the environment variable OFSWITCH, or the one that was built; and what several tests need."""
+import os
+import pathlib
+import socket
+import subprocess
+from typing import NamedTuple
+
+TOP = pathlib.Path(__file__).resolve().parent.parent
+EXAMPLES = TOP / "examples"
+PROGRAM = os.path.abspath(os.environ.get("OFSWITCH") or TOP / "crates/ofswitch/out/ofswitch")
+if not os.access(PROGRAM, os.X_OK):
+    raise FileNotFoundError(f"{PROGRAM} is not built: run ./ofswitch --help, or name a program in OFSWITCH")
+
+
+class Run(NamedTuple):
+    status: int
+    out: str
+    err: str
+
+
+def text(data):
+    """Bytes as text, also those that are not UTF-8; line ends stay what they are."""
+    return (data or b"").decode("utf-8", "surrogateescape")
+
+
+def run(words, input=b"", timeout=300, **options):
+    """Runs a command to its end, with this standard input, which is text or bytes."""
+    given = input.encode("utf-8", "surrogateescape") if isinstance(input, str) else input
+    options = {"stdout": subprocess.PIPE, "stderr": subprocess.PIPE, **options}
+    done = subprocess.run([*map(os.fspath, words)], input=given, timeout=timeout, **options)
+    return Run(done.returncode, text(done.stdout), text(done.stderr))
+
+
+def ofswitch(*words, **options):
+    return run([PROGRAM, *map(str, words)], **options)
+
+
+def free_port(kind=socket.SOCK_STREAM):
+    """A port of 127.0.0.1 that nobody uses now."""
+    with socket.socket(socket.AF_INET, kind) as it:
+        it.bind(("127.0.0.1", 0))
+        return it.getsockname()[1]
