@@ -40,3 +40,8 @@ def free_port(kind=socket.SOCK_STREAM):
     with socket.socket(socket.AF_INET, kind) as it:
         it.bind(("127.0.0.1", 0))
         return it.getsockname()[1]
+
+
+def rows(table):
+    """The columns of each row of a table."""
+    return [line.split(" | ") for line in table.splitlines() if line]
