@@ -1,6 +1,8 @@
 """The program that the tests run: that of the environment variable OFSWITCH, or the one that was built; and what several tests need."""
 import os
 import pathlib
+import random
+import shutil
 import socket
 import subprocess
 from typing import NamedTuple
@@ -45,3 +47,16 @@ def free_port(kind=socket.SOCK_STREAM):
 def rows(table):
     """The columns of each row of a table."""
     return [line.split(" | ") for line in table.splitlines() if line]
+
+
+def random_cases(count, name=""):
+    """The numbers of random cases, each with what draws it: as many as OFSWITCH_CASES says, and others for each OFSWITCH_SEED."""
+    seed = os.environ.get("OFSWITCH_SEED", "1")
+    for number in range(int(os.environ.get("OFSWITCH_CASES", count))):
+        yield f"{name}{seed} {number}", random.Random(f"{name}{seed} {number}")
+
+
+def keep(folder, case):
+    """Keeps the files of a case that failed in the folder OFSWITCH_KEEP, if it is named."""
+    if "OFSWITCH_KEEP" in os.environ:
+        shutil.copytree(folder, os.path.join(os.environ["OFSWITCH_KEEP"], case.replace(" ", "-")), dirs_exist_ok=True)

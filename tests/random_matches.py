@@ -1,4 +1,4 @@
-"""Random matches of flow entries that look at few bits, for tools/check-verdicts and tools/check-differences."""
+"""Random matches of flow entries that look at few bits."""
 ETHER, ARP, IPV4, TCP, UDP = 0x88B5, 0x0806, 0x0800, 6, 17
 ADDRESS = 0x0A000000
 

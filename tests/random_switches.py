@@ -1,12 +1,9 @@
-"""Random switches, for tools/check-requirements, and pairs of them, for tools/check-differences and tools/try-differences: one to three tables,
-up to two groups, and a change.
-"""
-import os
+"""Random switches, and pairs of them: one to three tables, up to two groups, and a change."""
 import subprocess
 from typing import NamedTuple
 
-from random_matches import ADDRESS, ARP, IPV4, TCP, UDP, some_match, some_tagged_match
-from second_model import ALL, BYTES, CONTROLLER, FLOOD, IN_PORT, NONE, Flow, Group, Switch, flow_text
+from tests.random_matches import ADDRESS, ARP, IPV4, TCP, UDP, some_match, some_tagged_match
+from tests.second_model import ALL, BYTES, CONTROLLER, FLOOD, IN_PORT, NONE, Flow, Group, Switch, flow_text
 
 # the ports of our event files, and of the switch of a flow text, which also has those that buckets watch
 PORTS = dict.fromkeys(range(1, 5), True)
@@ -272,10 +269,6 @@ def some_pair(pick):
     return Pair(change, first, second, alike, plain, events, pick.random() < 0.7)
 
 
-def run(*words):
-    return subprocess.run(words, capture_output=True, text=True, timeout=300)
-
-
 def write_file(program, folder, name, switch, events):
     """The file of a switch: flow text, or the rows that make its ports and tables."""
     path = f"{folder}/{name}.flows"
@@ -284,14 +277,7 @@ def write_file(program, folder, name, switch, events):
     if not events:
         return path
     rows = [f"port add {it} 0200000000{it:02x} p{it} {'up' if switch.ports[it] else 'down'}\n" for it in switch.ports]
-    made = run(program, "asm", path)
+    made = subprocess.run([program, "asm", path], capture_output=True, text=True, timeout=300)
     with open(f"{folder}/{name}.events", "w", encoding="utf-8") as file:
         file.write("".join(rows) + made.stdout)
     return f"{folder}/{name}.events"
-
-
-def keep(kept, number, folder):
-    """Copies the files of a pair or of a switch."""
-    os.makedirs(kept, exist_ok=True)
-    for name in os.listdir(folder):
-        os.replace(f"{folder}/{name}", f"{kept}/{number}-{name}")

@@ -1,6 +1,6 @@
-"""A small world of frames, each with its port: those that the random matches of tools/random_matches.py tell apart, and a few others."""
-from random_matches import ADDRESS, ARP, ETHER, IPV4, TCP, UDP
-from second_model import IPV6, renewed
+"""A small world of frames, each with its port: those that the random matches of tests/random_matches.py tell apart, and a few others."""
+from tests.random_matches import ADDRESS, ARP, ETHER, IPV4, TCP, UDP
+from tests.second_model import IPV6, renewed
 
 
 def summed(data):

@@ -1,9 +1,9 @@
-"""Random requirements of a switch, and whether a frame decides one by the second model (tools/second_model.py), for tools/check-requirements."""
+"""Random requirements of a switch, and whether a frame decides one by the second model (tests/second_model.py)."""
 from typing import NamedTuple
 
-from ovs_syntax import match_text
-from random_matches import IPV4, some_match, some_tagged_match
-from second_model import fields, matches
+from tests.ovs_syntax import match_text
+from tests.random_matches import IPV4, some_match, some_tagged_match
+from tests.second_model import fields, matches
 
 PLACES = (1, 2, 3, 4, 5, "controller", "drop")
 
@@ -43,14 +43,13 @@ def is_about(requirement, port, frame, run):
 def does(requirement, port, run):
     """Whether a frame that came in by a port, with this run, does what the requirement demands."""
     places = {it[0] for it in run.items}
-    match requirement.demand:
-        case "leaving by":
-            having = [matches(requirement.fields, seen_at(port, it)) for it in gone(requirement, run)]
-            return all(having) if requirement.quantifier == "each" else any(having)
-        case "leaves by":
-            return bool(places & {*requirement.places}) or not places and "drop" in requirement.places
-        case "leaves only by":
-            return places <= {*requirement.places}
+    if requirement.demand == "leaving by":
+        having = [matches(requirement.fields, seen_at(port, it)) for it in gone(requirement, run)]
+        return all(having) if requirement.quantifier == "each" else any(having)
+    if requirement.demand == "leaves by":
+        return bool(places & {*requirement.places}) or not places and "drop" in requirement.places
+    if requirement.demand == "leaves only by":
+        return places <= {*requirement.places}
     return requirement.places[0] in run.tables
 
 

@@ -1,5 +1,5 @@
-"""Flows, groups and matches of the second model (tools/second_model.py) in the syntax of ovs-ofctl."""
-from second_model import ALL, CONTROLLER, FLOOD, IN_PORT, NONE
+"""Flows, groups and matches of the second model (tests/second_model.py) in the syntax of ovs-ofctl."""
+from tests.second_model import ALL, CONTROLLER, FLOOD, IN_PORT, NONE
 
 NAMES = {IN_PORT: "in_port", FLOOD: "flood", ALL: "all"}
 
@@ -21,20 +21,14 @@ def match_text(match):
 
 
 def action_text(action):
-    match action:
-        case ("output", port, max_len):
-            return f"controller(max_len={max_len})" if port == CONTROLLER else NAMES.get(port, f"output:{port}")
-        case ("to_group", number):
-            return f"group:{number}"
-        case ("set_nw_ttl", ttl):
-            return f"mod_nw_ttl:{ttl}"
-        case ("dec_nw_ttl",):
-            return "dec_ttl"
-        case ("push_vlan", kind):
-            return f"push_vlan:0x{kind:x}"
-        case ("set", field, value):
-            return f"set_field:{value_text(field, value)}->{field_name(field)}"
-    return "pop_vlan"
+    word, *values = action
+    if word == "output":
+        port, max_len = values
+        return f"controller(max_len={max_len})" if port == CONTROLLER else NAMES.get(port, f"output:{port}")
+    if word == "set":
+        return f"set_field:{value_text(*values)}->{field_name(values[0])}"
+    texts = {"to_group": "group:{}", "set_nw_ttl": "mod_nw_ttl:{}", "dec_nw_ttl": "dec_ttl", "push_vlan": "push_vlan:0x{:x}", "pop_vlan": "pop_vlan"}
+    return texts[word].format(*values)
 
 
 def actions_text(actions):
@@ -42,16 +36,11 @@ def actions_text(actions):
 
 
 def instruction_text(instruction):
-    match instruction:
-        case ("apply", actions):
-            return actions_text(actions)
-        case ("write", actions):
-            return f"write_actions({actions_text(actions)})"
-        case ("metadata", value, mask):
-            return f"write_metadata:0x{value:x}/0x{mask:x}"
-        case ("goto", table):
-            return f"goto_table:{table}"
-    return "clear_actions"
+    word, *values = instruction
+    if word in ("apply", "write"):
+        return ("{}" if word == "apply" else "write_actions({})").format(actions_text(*values))
+    texts = {"metadata": "write_metadata:0x{:x}/0x{:x}", "goto": "goto_table:{}", "clear": "clear_actions"}
+    return texts[word].format(*values)
 
 
 def flow_line(flow):

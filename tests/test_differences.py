@@ -1,38 +1,32 @@
-#!/usr/bin/env python3
-"""tools/check-differences PROGRAM [PAIRS [SEED [FOLDER]]]: compares `ofswitch diff` on random pairs of switches with a second model.
+"""Compares `diff` on random pairs of switches with a second model of the switch (tests/second_model.py).
 
 The second switch of a pair is another one, or the first one with a change: a flow is added, removed or changed, or its priority, or the
 state of a link. Some changes affect no frame: two disjoint flows are swapped, a match is divided in two halves, a flow is added that
 never wins, OUTPUTs become buckets of an ALL group. The switches have one to three tables and up to two groups.
 
-The model (tools/second_model.py) runs frames on both. These are failures:
-- `same`, while the model treats a frame of a small world otherwise (tools/small_world.py)
+The model runs frames on both. These are failures:
+- `same`, while the model treats a frame of a small world otherwise (tests/small_world.py)
 - a difference whose frame the model treats alike, whose items are not those of the model, or that has no set of frames
 - an entry that is marked as changed although the other switch has it, or the other way round; and a region that `paths --match` does not read
 - a difference of a change that affects no frame
 - undecided frames of switches that have no PUSH_VLAN, POP_VLAN and SET_FIELD, except for the reasons OPEN (docs/DIFF.md)
 - another exit status, or another answer on whether the ports differ
-
-If a FOLDER is given, the files of pairs that fail are kept there. The last line is `N passed, M failed`; the line before it counts the
-pairs with undecided frames, and their sets of frames by reason.
 """
 import collections
 import json
-import random
-import sys
 import tempfile
+import unittest
 
-sys.dont_write_bytecode = True
-from random_switches import keep, run, some_pair, write_file  # noqa: E402
-from second_model import by_place, leaving, reported  # noqa: E402
-from small_world import WORLD  # noqa: E402
+from tests.program import PROGRAM, keep, ofswitch, random_cases
+from tests.random_switches import some_pair, write_file
+from tests.second_model import by_place, leaving, reported
+from tests.small_world import WORLD
 
 PAIRS = 500
 # why frames may be undecided although nothing pushes, pops or sets a field: to be emptied as `diff` decides more
 OPEN = {"other actions"}
 
 
-# ---- what is wrong with a report
 def wrong_difference(pair, difference):
     """What is wrong with a difference."""
     port, frame = difference["in_port"], bytes.fromhex(difference["frame"])
@@ -61,13 +55,13 @@ def is_changed(own, other, entry):
     return [it for it in own.flows if it.table == entry["table"]][entry["entry"]] not in other.flows
 
 
-def unread_regions(program, differences, file):
+def unread_regions(differences, file):
     """The regions of differences that `paths --match` does not read."""
     for it in differences:
         words = it.get("region", "")
-        done = run(program, "paths", "--match", words, file)
-        if done.returncode not in (0, 5) or not done.stdout:
-            yield f"region {words}: status {done.returncode}: {done.stderr.strip()}"
+        done = ofswitch("paths", "--match", words, file)
+        if done.status not in (0, 5) or not done.out:
+            yield f"region {words}: status {done.status}: {done.err.strip()}"
 
 
 def treated_otherwise(pair):
@@ -97,41 +91,30 @@ def wrong_report(pair, report):
             yield f"{'same' if report['same'] else 'the change'}: the model treats in_port {frame[0]}, frame {frame[1].hex()} otherwise"
 
 
-def try_pair(program, pair, folder):
-    """What is wrong with the report on a pair, and its undecided sets of frames by reason."""
-    files = [write_file(program, folder, name, it, pair.events) for name, it in (("first", pair.first), ("second", pair.second))]
-    done = run(program, "diff", "--json", *["--frames"] * (not pair.controller), *files)
-    if done.returncode not in (0, 4, 5):
-        return [f"status {done.returncode}: {done.stderr.strip()}"], []
-    report = json.loads(done.stdout)
-    wrong = [*wrong_report(pair, report), *unread_regions(program, report["differences"][:1], files[0])]
-    if {0: True, 4: False, 5: None}[done.returncode] is not report["same"]:
-        wrong.append(f"status {done.returncode}, same is {report['same']}")
-    return wrong, report["undecided"]
+class Differences(unittest.TestCase):
+    slow = True
+    maxDiff = None
 
+    def compare(self, pair, folder):
+        """The undecided sets of frames of a pair, by reason."""
+        files = [write_file(PROGRAM, folder, name, it, pair.events) for name, it in (("first", pair.first), ("second", pair.second))]
+        done = ofswitch("diff", "--json", *["--frames"] * (not pair.controller), *files)
+        self.assertIn(done.status, (0, 4, 5), done.err)
+        report = json.loads(done.out)
+        self.assertEqual([*wrong_report(pair, report), *unread_regions(report["differences"][:1], files[0])], [])
+        self.assertIs({0: True, 4: False, 5: None}[done.status], report["same"])
+        return report["undecided"]
 
-def main(program, pairs=PAIRS, seed=1, kept=None):
-    failed, undecided, plain, reasons = 0, 0, 0, collections.Counter()
-    for number in range(int(pairs)):
-        pair = some_pair(random.Random(f"{seed} {number}"))
-        with tempfile.TemporaryDirectory() as folder:
-            wrong, sets = try_pair(program, pair, folder)
-            if wrong and kept:
-                keep(kept, number, folder)
-        failed += bool(wrong)
-        undecided += bool(sets)
-        plain += bool(sets) and pair.plain
-        reasons.update(sets)
-        for it in wrong:
-            print(f"seed {seed}, pair {number} ({pair.change}{'' if pair.controller else ', --frames'}): {it}")
-    told = "; sets of frames: " + ", ".join(f"{count} {it}" for it, count in sorted(reasons.items())) if reasons else ""
-    print(f"seed {seed}: {undecided} of {pairs} pairs have undecided frames, {plain} without PUSH_VLAN, POP_VLAN and SET_FIELD{told}")
-    print(f"{int(pairs) - failed} passed, {failed} failed")
-    return 1 if failed else 0
-
-
-if __name__ == "__main__":
-    if len(sys.argv) < 2 or sys.argv[1].startswith("-"):
-        print(__doc__.strip())
-    else:
-        sys.exit(main(*sys.argv[1:]))
+    def test_random_pairs(self):
+        reasons, pairs = collections.Counter(), 0
+        for case, pick in random_cases(PAIRS):
+            pair = some_pair(pick)
+            with self.subTest(case, change=pair.change, controller=pair.controller), tempfile.TemporaryDirectory() as folder:
+                try:
+                    undecided = self.compare(pair, folder)
+                except AssertionError:
+                    keep(folder, case)
+                    raise
+                reasons.update(undecided)
+                pairs += bool(undecided)
+        print(f"diff: {pairs} random pairs have undecided frames; sets of frames: {dict(reasons)}")

@@ -1,4 +1,4 @@
-"""The findings of `check --json` as one line each, for the tools that compare them: `flow T K wins in_port P metadata M HEX`,
+"""The findings of `check --json` as one line each, for the tests that compare them: `flow T K wins in_port P metadata M HEX`,
 `flow T K never: T J ..` (with ` (tie)` if one of these has the same priority), `flow T K undecided`, and a line for each remark."""
 
 REMARKS = {
@@ -13,14 +13,12 @@ REMARKS = {
 
 
 def verdict(flow):
-    match flow["verdict"]:
-        case "wins":
-            return f"wins in_port {flow['in_port']} metadata 0x{int(flow['metadata'], 16):016x} {flow['frame']}"
-        case "never wins":
-            places = " ".join(f"{it['table']} {it['entry']}" for it in flow["shadowed_by"])
-            return f"never: {places}{' (tie)' if flow['tie'] else ''}"
-        case other:
-            return other
+    if flow["verdict"] == "wins":
+        return f"wins in_port {flow['in_port']} metadata 0x{int(flow['metadata'], 16):016x} {flow['frame']}"
+    if flow["verdict"] == "never wins":
+        places = " ".join(f"{it['table']} {it['entry']}" for it in flow["shadowed_by"])
+        return f"never: {places}{' (tie)' if flow['tie'] else ''}"
+    return flow["verdict"]
 
 
 def lines(document):
