@@ -1,31 +1,25 @@
-#!/usr/bin/env python3
-"""tools/check-requirements PROGRAM [SWITCHES [SEED [FOLDER]]]: compares `ofswitch check --require` on random switches with a second model.
+"""Compares `check --require` on random switches with a second model of the switch (tests/second_model.py).
 
-Each switch has some requirements, half of which the frames of a small world nearly decide. The model (tools/second_model.py) runs the
-frames of the world (tools/small_world.py) by each port of the switch. These are failures:
+Each switch has some requirements, half of which the frames of a small world nearly decide. The model runs the frames of the world
+(tests/small_world.py) by each port of the switch. These are failures:
 - a requirement holds, or no frame that matches is received, while a frame of the world decides otherwise
 - `some` fails, while a frame of the world does it
 - the frame that is shown is not received, does not match, is left out, or does not decide it by the model; or other items leave
 - a requirement of a switch that has no PUSH_VLAN, POP_VLAN and SET_FIELD is undecided
 - another exit status, or other numbers in the file of --junit
-
-If a FOLDER is given, the files of switches that fail are kept there. The last line is `N passed, M failed`; the line before it counts
-the verdicts.
 """
 import collections
 import json
-import os
-import random
-import sys
 import tempfile
+import unittest
 import xml.etree.ElementTree as ElementTree
 from typing import NamedTuple
 
-sys.dont_write_bytecode = True
-from random_requirements import decides, is_about, named_ports, some_requirement  # noqa: E402
-from random_switches import PORTS, keep, run, some_switch, with_watched_ports, write_file  # noqa: E402
-from second_model import Run, Switch, reported  # noqa: E402
-from small_world import FRAMES  # noqa: E402
+from tests.program import PROGRAM, keep, ofswitch, random_cases
+from tests.random_requirements import decides, is_about, named_ports, some_requirement
+from tests.random_switches import PORTS, some_switch, with_watched_ports, write_file
+from tests.second_model import Run, Switch, reported
+from tests.small_world import FRAMES
 
 SWITCHES = 15
 REQUIREMENTS = 5
@@ -115,24 +109,6 @@ def wrong_junit(path, requirements, report):
         yield f"--junit: {names}"
 
 
-def try_case(program, case, folder):
-    """What is wrong with the report on a switch and its requirements, and what was found."""
-    requirements = case.requirements
-    file = write_file(program, folder, "switch", case.switch, case.events)
-    with open(f"{folder}/requirements.req", "w", encoding="utf-8") as lines:
-        lines.write("".join(f"{it}\n" for it in requirements))
-    done = run(program, "check", "--json", file, "--require", f"{folder}/requirements.req", "--junit", f"{folder}/results.xml")
-    if done.returncode not in (0, 4, 5):
-        return [f"status {done.returncode}: {done.stderr.strip()}"], []
-    report = json.loads(done.stdout)
-    wrong = [] if [it["requirement"] for it in report["requirements"]] == list(map(str, requirements)) else ["other requirements"]
-    for requirement, found in zip(requirements, report["requirements"]):
-        wrong += wrong_verdict(case, requirement, found)
-    missing = {port for it in requirements for port in named_ports(it)} - {*case.switch.ports}
-    wrong += [*wrong_status(done.returncode, report, missing), *wrong_junit(f"{folder}/results.xml", requirements, report)]
-    return wrong, zip(requirements, report["requirements"])
-
-
 def kind_of(requirement, found):
     """What a verdict is counted as."""
     about = "packets: " if requirement.demand == "leaving by" else ""
@@ -140,25 +116,32 @@ def kind_of(requirement, found):
     return f"{about}{requirement.quantifier} {found['verdict']}{'' if found['verdict'] == 'undecided' else ' ' + rests_on}"
 
 
-def main(program, switches=SWITCHES, seed=1, kept=None):
-    failed, counted = 0, collections.Counter()
-    for number in range(int(switches)):
-        case = some_case(random.Random(f"{seed} {number}"))
-        with tempfile.TemporaryDirectory() as folder:
-            wrong, found = try_case(program, case, folder)
-            if wrong and kept:
-                keep(kept, number, folder)
-        counted.update(kind_of(*it) for it in found)
-        failed += bool(wrong)
-        for it in wrong:
-            print(f"seed {seed}, switch {number}: {it}")
-    print(f"seed {seed}: {sum(counted.values())} requirements: " + ", ".join(f"{count} {it}" for it, count in sorted(counted.items())))
-    print(f"{int(switches) - failed} passed, {failed} failed")
-    return 1 if failed else 0
+class RandomRequirements(unittest.TestCase):
+    slow = True
+    maxDiff = None
 
+    def compare(self, case, folder):
+        """The requirements with what is found about them."""
+        requirements = case.requirements
+        file, required, results = write_file(PROGRAM, folder, "switch", case.switch, case.events), f"{folder}/requirements.req", f"{folder}/results.xml"
+        with open(required, "w", encoding="utf-8") as lines:
+            lines.write("".join(f"{it}\n" for it in requirements))
+        done = ofswitch("check", "--json", file, "--require", required, "--junit", results)
+        self.assertIn(done.status, (0, 4, 5), done.err)
+        report = json.loads(done.out)
+        self.assertEqual([it["requirement"] for it in report["requirements"]], [*map(str, requirements)])
+        wrong = [it for pair in zip(requirements, report["requirements"]) for it in wrong_verdict(case, *pair)]
+        missing = {port for it in requirements for port in named_ports(it)} - {*case.switch.ports}
+        self.assertEqual([*wrong, *wrong_status(done.status, report, missing), *wrong_junit(results, requirements, report)], [])
+        return zip(requirements, report["requirements"])
 
-if __name__ == "__main__":
-    if len(sys.argv) < 2 or sys.argv[1].startswith("-"):
-        print(__doc__.strip())
-    else:
-        sys.exit(main(*sys.argv[1:]))
+    def test_random_switches(self):
+        counted = collections.Counter()
+        for name, pick in random_cases(SWITCHES):
+            with self.subTest(name), tempfile.TemporaryDirectory() as folder:
+                try:
+                    counted.update(kind_of(*it) for it in self.compare(some_case(pick), folder))
+                except AssertionError:
+                    keep(folder, name)
+                    raise
+        print("random requirements: " + ", ".join(f"{count} {it}" for it, count in sorted(counted.items())))

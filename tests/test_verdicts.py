@@ -1,24 +1,21 @@
-#!/usr/bin/env python3
-"""tools/check-verdicts PROGRAM [TABLES [SEED]]: compares `ofswitch check` on random flow tables with all packets of a small world,
-and its lines about random configurations with a list that is made here.
+"""Compares `check` on random flow tables with all packets of a small world, and its lines about random configurations with a list
+that is made here.
 
 Matches look at few bits, and the world has a packet for each of their values, and packets that none of their fields sees. For
-each flow this tool compares fields, without the program, to find the packets of the world that it wins. A flow that never wins
+each flow these tests compare fields, without the program, to find the packets of the world that it wins. A flow that never wins
 must win none; a packet that `check` prints must win in `trace`; and a flow that wins a packet of the world must not be reported
 as `never`. `(tie)` must be there exactly if a flow that is named has the same priority. A second world has VLAN tags under masks.
 For access lists (prefixes that are halves of others, protocols, ports) the packets are those at the ends of the prefixes.
 
-No flow may be left open: each can be decided. The last line is `N passed, M failed`.
+No flow may be left open: each can be decided.
 """
 import json
-import random
-import subprocess
-import sys
+import unittest
 
-sys.dont_write_bytecode = True
-import findings  # noqa: E402
-from random_matches import ADDRESS, ARP, ETHER, IPV4, TCP, UDP, masked, some_match, some_tagged_match  # noqa: E402
-from second_model import match_lines, matches  # noqa: E402
+from tests import findings
+from tests.program import ofswitch, random_cases
+from tests.random_matches import ADDRESS, ARP, ETHER, IPV4, TCP, UDP, masked, some_match, some_tagged_match
+from tests.second_model import match_lines, matches
 
 TABLES = 200
 
@@ -120,56 +117,6 @@ def winner(flows, packet):
     return min(found)[1] if found else None
 
 
-def run(words, text):
-    return subprocess.run(words, input=text, capture_output=True, text=True, timeout=120)
-
-
-def check(program, text):
-    """A run of `check` on a flow text, and its findings, a line each."""
-    done = run([program, "check", "--json", "--flows", "-"], text)
-    return done, findings.lines(json.loads(done.stdout)) if done.stdout else []
-
-
-def try_table(program, flows, world=WORLD, traced=True):
-    """What is wrong with the verdicts on these flows."""
-    text = text_of(flows)
-    done, said = check(program, text)
-    lines = [it.split() for it in said]
-    wrong = []
-    missing = not any(priority == 0 and not fields for priority, fields in flows)
-    whole = lines[len(flows):]
-    if whole != ["table 0 no table-miss entry".split()] * missing:
-        wrong.append(f"on the whole: {whole}")
-    lines = lines[: len(flows)]
-    if [it[:3] for it in lines] != [["flow", "0", str(place)] for place in range(len(flows))]:
-        return [f"status {done.returncode}, {len(lines)} lines: {done.stderr.strip()}"]
-    won = {winner(flows, it) for it in world}
-    for place, words in enumerate(lines):
-        match words[3:]:
-            case ["never:", *by]:
-                tie = by[-1:] == ["(tie)"]
-                named = [int(it) for it in by[: len(by) - tie][1::2]]
-                before = [(-flows[j][0], j) < (-flows[place][0], place) for j in named]
-                # no packet has only this
-                empty = "vlan_vid" in flows[place][1] and not named
-                if place in won or not (named or empty) or not all(before):
-                    wrong.append(f"flow {place} wins, or what is named does not go before it: {' '.join(words)}")
-                if tie != any(flows[j][0] == flows[place][0] for j in named):
-                    wrong.append(f"a tie: {' '.join(words)}")
-            case ["wins", "in_port", port, "metadata", metadata, frame]:
-                if int(metadata, 16) != 0 or not traced:
-                    continue
-                first = run([program, "trace", "--flows", "-", "--port", port, frame], text).stdout.split("\n")[0]
-                if first != f"lookup 0 entry {place}":
-                    wrong.append(f"{' '.join(words)}: {first}")
-            case _:
-                # `undecided` too
-                wrong.append(" ".join(words))
-    if done.returncode != (4 if any(it[3] == "never:" for it in lines) else 0):
-        wrong.append(f"status {done.returncode}")
-    return wrong
-
-
 # ---- on the whole: a configuration is groups {number: (kind, buckets)} and flows [(table, port, applied, cleared, written, goto)];
 # a bucket is (actions, watched group), and an action is its line of flow text
 SENDS = ("output", "to_group", "dec_nw_ttl")
@@ -257,39 +204,73 @@ def remarks(groups, flows):
             yield f"group {number} no buckets"
 
 
-def try_configuration(program, pick):
-    """What is wrong with what is remarked of a configuration."""
-    groups, flows = some_configuration(pick)
-    done, said = check(program, "".join(f"{it}\n" for it in lines_of(groups, flows)))
-    if done.returncode not in (0, 4):
-        return [f"status {done.returncode}: {done.stderr.strip()}"]
-    wanted = list(remarks(groups, flows))
-    wrong = [] if said[len(flows) :] == wanted else [f"{said[len(flows):]}, not {wanted}"]
-    # a first table without a table-miss entry is no finding
-    found = [it for it in wanted if it != "table 0 no table-miss entry"] or any(it.split()[3] == "never:" for it in said[: len(flows)])
-    return wrong if done.returncode == (4 if found else 0) else [*wrong, f"status {done.returncode}"]
+def is_before(flows, place, other):
+    """Whether an entry goes before the one at a place."""
+    return (-flows[other][0], other) < (-flows[place][0], place)
 
 
-def main(program, tables=TABLES, seed=1):
-    passed = failed = 0
-    for number in range(int(tables)):
-        wrong = try_table(program, some_table(random.Random(f"{seed} {number}")))
-        table = some_table(random.Random(f"tags {seed} {number}"), some_tagged_match)
-        wrong += [f"tags: {it}" for it in try_table(program, table, TAGGED_WORLD, traced=number % 4 == 0)]
-        pick = random.Random(f"list {seed} {number}")
-        table = some_table(pick, some_rule, 24)
-        wrong += [f"list: {it}" for it in try_table(program, table, list(packets_of(pick, table)), traced=False)]
-        wrong += [f"configuration: {it}" for it in try_configuration(program, random.Random(f"whole {seed} {number}"))]
-        passed += not wrong
-        failed += bool(wrong)
-        for it in wrong:
-            print(f"seed {seed}, table {number}: {it}")
-    print(f"{passed} passed, {failed} failed")
-    return 1 if failed else 0
+class Verdicts(unittest.TestCase):
+    slow = True
+    maxDiff = None
 
+    def check(self, text):
+        """The status of `check` on a flow text, and its findings, a line each."""
+        done = ofswitch("check", "--json", "--flows", "-", input=text)
+        self.assertTrue(done.out, done.err)
+        return done.status, findings.lines(json.loads(done.out))
 
-if __name__ == "__main__":
-    if len(sys.argv) < 2 or sys.argv[1].startswith("-"):
-        print(__doc__.strip())
-    else:
-        sys.exit(main(*sys.argv[1:]))
+    def never(self, flows, place, by, won):
+        """That a flow never wins, and the flows that are named cover it."""
+        tie = by[-1:] == ["(tie)"]
+        named = [int(it) for it in by[: len(by) - tie][1::2]]
+        # no packet has only this
+        empty = "vlan_vid" in flows[place][1] and not named
+        self.assertNotIn(place, won)
+        self.assertTrue((named or empty) and all(is_before(flows, place, it) for it in named), by)
+        self.assertEqual(tie, any(flows[it][0] == flows[place][0] for it in named), by)
+
+    def compare(self, flows, world, traced=True):
+        text = text_of(flows)
+        status, found = self.check(text)
+        lines, whole = found[: len(flows)], found[len(flows) :]
+        missing = not any(priority == 0 and not fields for priority, fields in flows)
+        self.assertEqual(whole, ["table 0 no table-miss entry"] * missing)
+        won = {winner(flows, it) for it in world}
+        for place, line in enumerate(lines):
+            _, table, entry, verdict, *words = line.split()
+            self.assertEqual((table, entry), ("0", str(place)))
+            # `undecided` is no verdict here
+            self.assertIn(verdict, ("wins", "never:"), line)
+            if verdict == "never:":
+                self.never(flows, place, words, won)
+            elif traced and int(words[3], 16) == 0:
+                done = ofswitch("trace", "--flows", "-", "--port", words[1], words[4], input=text)
+                self.assertEqual(done.out.split("\n")[0], f"lookup 0 entry {place}", line)
+        self.assertEqual((status, len(lines)), (4 if any(" never: " in it for it in lines) else 0, len(flows)))
+
+    def test_tables(self):
+        for case, pick in random_cases(TABLES):
+            with self.subTest(case):
+                self.compare(some_table(pick), WORLD)
+
+    def test_tags(self):
+        for number, (case, pick) in enumerate(random_cases(TABLES, "tags ")):
+            with self.subTest(case):
+                self.compare(some_table(pick, some_tagged_match), TAGGED_WORLD, traced=number % 4 == 0)
+
+    def test_access_lists(self):
+        for case, pick in random_cases(TABLES, "list "):
+            with self.subTest(case):
+                table = some_table(pick, some_rule, 24)
+                self.compare(table, list(packets_of(pick, table)), traced=False)
+
+    def test_configurations(self):
+        for case, pick in random_cases(TABLES, "whole "):
+            with self.subTest(case):
+                groups, flows = some_configuration(pick)
+                status, found = self.check("".join(f"{it}\n" for it in lines_of(groups, flows)))
+                wanted = list(remarks(groups, flows))
+                self.assertEqual(found[len(flows) :], wanted)
+                # a first table without a table-miss entry is no finding
+                is_found = [it for it in wanted if it != "table 0 no table-miss entry"] or any(" never: " in it for it in found[: len(flows)])
+                self.assertEqual(status, 4 if is_found else 0)
