@@ -1,42 +1,27 @@
-#!/usr/bin/env python3
-"""tools/check-conditions PROGRAM [TABLES [PLACE..]]: compares `check` on tables with words that OpenFlow 1.3 does not have with
-`check` on tables of OpenFlow 1.3 that have a bit of METADATA in place of each such word.
+"""Compares `check` on tables with words that OpenFlow 1.3 does not have with `check` on tables of OpenFlow 1.3 that have a bit of
+METADATA in place of each such word.
 
 Each word, and each action `conjunction`, gets a random bit. A packet with this metadata is a world in which just these words hold, so both tables
-have the same flows that never win. The tables are random ones, and with PLACE (a file or a folder, as for tools/try-tables) those
-of other people, table by table.
-
-The last line is `N passed, M failed`.
+have the same flows that never win. The tables are random ones, and if OFSWITCH_TABLES names files or folders, as for tools/try-tables
+and with `:` between them, those of other people, table by table.
 """
 import importlib.machinery
 import importlib.util
 import os
 import random
 import re
-import subprocess
 import sys
+import unittest
 
-sys.dont_write_bytecode = True
+from tests.program import TOP, ofswitch, random_cases
+
+TABLES = 200
+PLACES = [it for it in os.environ.get("OFSWITCH_TABLES", "").split(":") if it]
 CONDITION = re.compile(r"(reg\d+|ct_\w+|tun_\w+|pkt_mark|conj_id|recirc_id|dp_hash|actset_output|nw_ttl|nw_frag|tcp_flags|sctp_\w+|mpls_\w+|nd_\w+)[=:]")
 NEVER = re.compile(r"^table \d+ (?:entry \d+ \()?line (\d+)[ ,].* never wins")
 WORDS = ("reg0=0x1", "reg0=0x2/0x2", "ct_state=+trk", "tun_id=5", "pkt_mark=1")
 MATCHES = ("ip,nw_dst=10.0.0.0/9", "ip,nw_dst=10.128.0.0/9", "ip,nw_dst=10.0.0.0/8", "ip", "tcp", "tcp,tp_dst=80", "udp", "arp", "in_port=1", "in_port=2",
            "in_port=1,ip", "dl_vlan=5", "dl_dst=00:00:00:00:00:01/00:00:00:00:00:01", "dl_dst=00:00:00:00:00:00/00:00:00:00:00:01", "")
-
-
-def tables_of_others():
-    """The functions of tools/try-tables."""
-    path = f"{os.path.dirname(os.path.realpath(__file__))}/try-tables"
-    loader = importlib.machinery.SourceFileLoader("try_tables", path)
-    module = importlib.util.module_from_spec(importlib.util.spec_from_loader("try_tables", loader))
-    loader.exec_module(module)
-    return module
-
-
-def check(program, lines):
-    """The exit status and the output."""
-    done = subprocess.run([program, "check", "--ovs", "-"], input="\n".join(lines) + "\n", capture_output=True, text=True, timeout=300)
-    return done.returncode, done.stdout
 
 
 def words_of(line):
@@ -82,28 +67,6 @@ def nevers(output):
     return {int(it[1]) for it in map(NEVER.match, output.splitlines()) if it}
 
 
-def try_table(program, pick, lines):
-    """What is wrong with the verdicts on these lines; None if they are not read or not compared."""
-    status, output = check(program, lines)
-    if status not in (0, 4) or not output.startswith("this switch cannot run these flows"):
-        return None
-    tables = encoded(pick, lines)
-    if tables is None:
-        return None
-    wrong = []
-    for table, rows in tables.items():
-        numbers = [number for number, _, _ in rows]
-        plain = [f"{text},actions=drop" for _, _, text in rows]
-        status, other = check(program, plain)
-        if status not in (0, 4):
-            return None
-        there = {numbers[it - 1] for it in nevers(other)}
-        here = nevers(output) & set(numbers)
-        if here != there:
-            wrong.append(f"table {table}: never {sorted(here)}, with metadata {sorted(there)}")
-    return wrong
-
-
 def some_table(pick):
     """Flows with words, no two of one table, one priority, one match and the same words."""
     flows = set()
@@ -120,31 +83,56 @@ def some_table(pick):
         yield ",".join([f"table={table}", f"priority={priority}", *words, *([match] if match else [])]) + f" actions={actions}"
 
 
-def main(words):
-    if not words or words[0].startswith("-"):
-        print(__doc__.strip())
-        return 1
-    program, count, places = words[0], int(words[1]) if len(words) > 1 else 200, words[2:]
-    pick = random.Random(20261130)
-    tables = [list(some_table(pick)) for _ in range(count)]
-    others = tables_of_others()
-    for place in places:
-        for path in others.files_in(place):
-            for table in others.tables_in(path):
-                lines = list(dict.fromkeys(it for it in table if not others.GROUP.match(it)))
-                if lines not in tables:
-                    tables.append(lines)
-    passed = failed = 0
-    for lines in tables:
-        wrong = try_table(program, pick, lines)
-        if wrong:
-            failed += 1
-            print("\n".join([*lines, *wrong]))
-        elif wrong is not None:
-            passed += 1
-    print(f"{passed} passed, {failed} failed")
-    return 1 if failed else 0
+def check(lines):
+    """The output of `check` on lines of ovs-ofctl; None if they are not read."""
+    done = ofswitch("check", "--ovs", "-", input="\n".join(lines) + "\n")
+    return done.out if done.status in (0, 4) else None
 
 
-if __name__ == "__main__":
-    sys.exit(main(sys.argv[1:]))
+def verdicts(pick, lines):
+    """The lines that never win, by tables, by the verdicts on these lines and on those with metadata; None if they are not read or not compared."""
+    output = check(lines)
+    tables = encoded(pick, lines) if output is not None and output.startswith("this switch cannot run these flows") else None
+    if tables is None:
+        return None
+    here, there = {}, {}
+    for table, rows in tables.items():
+        numbers = [number for number, _, _ in rows]
+        other = check([f"{text},actions=drop" for _, _, text in rows])
+        if other is None:
+            return None
+        here[table], there[table] = nevers(output) & set(numbers), {numbers[it - 1] for it in nevers(other)}
+    return here, there
+
+
+def others():
+    """The functions of tools/try-tables."""
+    loader = importlib.machinery.SourceFileLoader("try_tables", str(TOP / "tools/try-tables"))
+    module = importlib.util.module_from_spec(importlib.util.spec_from_loader("try_tables", loader))
+    sys.path.append(str(TOP / "tools"))
+    loader.exec_module(module)
+    return module
+
+
+class Conditions(unittest.TestCase):
+    slow = True
+    maxDiff = None
+
+    def compare(self, pick, lines):
+        found = verdicts(pick, lines)
+        if found is not None:
+            with self.subTest("\n".join(lines)):
+                self.assertEqual(*found)
+        return found is not None
+
+    def test_random_tables(self):
+        compared = [self.compare(pick, list(some_table(pick))) for _, pick in random_cases(TABLES, "conditions ")]
+        self.assertGreater(sum(compared), len(compared) // 2)
+
+    @unittest.skipUnless(PLACES, "OFSWITCH_TABLES names no tables of other people")
+    def test_tables_of_others(self):
+        tools = others()
+        paths = [path for place in PLACES for path in tools.files_in(place)]
+        tables = {tuple(dict.fromkeys(it for it in table if not tools.GROUP.match(it))): None for path in paths for table in tools.tables_in(path)}
+        for lines in tables:
+            self.compare(random.Random("others"), lines)

@@ -1,5 +1,4 @@
-#!/usr/bin/env python3
-"""tools/check-histories PROGRAM [LOGS [SEED [FOLDER]]]: compares `ofswitch history` of random logs with the switch at each of their lines.
+"""Compares `history` of random logs with the switch at each of their lines.
 
 A log has messages that add, modify and delete flows and groups, changes of ports, times, frames and messages that change nothing; some
 rows complete several messages. These are failures:
@@ -9,20 +8,15 @@ rows complete several messages. These are failures:
 - a reason that the flow entries before and after the line do not show: an entry that was added was there, one that was replaced or
   modified is not there in both, or one that was deleted or expired is still there
 - in all logs no flow expires, none is modified, none goes with its group, or one of the reasons is missing
-
-If a FOLDER is given, the logs that fail are kept there. The last line is `N passed, M failed`.
 """
 import json
 import os
-import random
 import re
 import struct
-import subprocess
-import sys
 import tempfile
+import unittest
 
-sys.dont_write_bytecode = True
-from random_switches import keep  # noqa: E402
+from tests.program import keep, ofswitch, random_cases
 
 LOGS, ROWS = 120, 25
 ANY = 0xFFFFFFFF
@@ -102,23 +96,23 @@ def some_log(pick):
 
 
 # ---- what the program prints
-def run(program, *words):
-    done = subprocess.run([program, *words], capture_output=True, text=True)
-    if done.returncode:
-        raise RuntimeError(f"{' '.join(words)}: status {done.returncode}: {done.stderr}")
-    return done.stdout
+def printed(*words, **options):
+    done = ofswitch(*words, **options)
+    if done.status:
+        raise AssertionError(f"{words}: status {done.status}: {done.err}")
+    return done.out
 
 
-def changes(program, file, *words):
-    return [json.loads(line) for line in run(program, "history", "--json", file, *words).splitlines()]
+def changes(file, *words):
+    return [json.loads(line) for line in printed("history", "--json", file, *words).splitlines()]
 
 
-def fate_by_trace(program, file, line, port, frame):
+def fate_by_trace(file, line, port, frame):
     """The fate of a frame before a line, in the words of `history`, without packets to the controller, whose messages a trace prints."""
-    done = subprocess.run([program, "trace", file, "--at", str(line), "--port", str(port), frame.hex()], capture_output=True, text=True)
-    if done.returncode == 1 and done.stderr.startswith("bad --port"):
+    done = ofswitch("trace", file, "--at", line, "--port", port, frame.hex())
+    if done.status == 1 and done.err.startswith("bad --port"):
         return ["not received: there is no such port"]
-    traced = done.stdout.splitlines()
+    traced = done.out.splitlines()
     if traced[0].endswith("so the frame is dropped"):
         return [f"not received: {re.search(r': (the port .*|there is no such port), so', traced[0])[1]}"]
     return [re.sub(r": entry \d+", "", it) for it in traced[1:] if not it.startswith(("to the controller", "nothing leaves"))]
@@ -141,11 +135,10 @@ def text_of(line):
     return f"flow {table} {priority} 0x{int(cookie, 16):016x} {idle} {hard} {flags}", match, re.sub(r"apply actions, |go to table", "goto", does)
 
 
-def entries_by_question(program, rows):
+def entries_by_question(rows):
     """The flow text after each line, as blocks."""
     asked = "".join(f"{it}\n#? mark\n#? flows\n" for it in rows)
-    done = subprocess.run([program, "replay", "--ask", "-"], input=asked, capture_output=True, text=True, check=True)
-    answers = done.stdout.split("?\n")[1::2]
+    answers = printed("replay", "--ask", "-", input=asked).split("?\n")[1::2]
     return [[f"flow{it}".splitlines() for it in text.partition("flow")[2].split("\nflow")] if "flow" in text else [] for text in answers]
 
 
@@ -211,9 +204,9 @@ def messages_of(row):
     return found
 
 
-def wrong_fates(program, file, rows, port, frame, seen):
-    found = changes(program, file, "--port", str(port), frame.hex())
-    yield from wrong_reasons(found, rows, entries_by_question(program, rows), seen)
+def wrong_fates(file, rows, port, frame, seen):
+    found = changes(file, "--port", str(port), frame.hex())
+    yield from wrong_reasons(found, rows, entries_by_question(rows), seen)
     told, told_last = iter([*found, None]), ["not received: there is no such port"]
     change = next(told)
     for line in range(2, len(rows) + 1):
@@ -221,14 +214,14 @@ def wrong_fates(program, file, rows, port, frame, seen):
             if change["before"] == change["after"]:
                 yield f"line {change['line']}: nothing changed"
             told_last, change = change["after"], next(told)
-        if (traced := fate_by_trace(program, file, line, port, frame)) != [*without_controller(told_last)]:
+        if (traced := fate_by_trace(file, line, port, frame)) != [*without_controller(told_last)]:
             yield f"before line {line}, port {port}, frame {frame.hex()}: {told_last}, the trace {traced}"
 
 
-def wrong_entries(program, file, rows, table, port, seen):
-    told, there = iter([*changes(program, file, "--flow", f"table={table},in_port={port}"), None]), []
+def wrong_entries(file, rows, table, port, seen):
+    told, there = iter([*changes(file, "--flow", f"table={table},in_port={port}"), None]), []
     change = next(told)
-    for line, blocks in enumerate(entries_by_question(program, rows), 1):
+    for line, blocks in enumerate(entries_by_question(rows), 1):
         while change and change["line"] == line:
             if not set(change["before"]) <= set(there) or set(change["before"]) & set(change["after"]):
                 yield f"line {line}: {change['before']} were not there, or are again"
@@ -244,28 +237,22 @@ def wrong_entries(program, file, rows, table, port, seen):
             yield f"line {line}, table {table}, port {port}: {there}, the switch {asked}"
 
 
-def main():
-    program, logs, seed, folder = os.path.abspath(sys.argv[1]), *(sys.argv[2:] + [LOGS, 1, ""][len(sys.argv) - 2:])
-    passed, failed, seen = 0, 0, set()
-    for number in range(int(logs)):
-        pick = random.Random(f"{seed} {number}")
-        rows = some_log(pick)
-        with tempfile.NamedTemporaryFile("w", suffix=".events") as file:
-            file.write("".join(f"{it}\n" for it in rows))
-            file.flush()
-            wrong = [*wrong_fates(program, file.name, rows, pick.choice((1, 2)), pick.choice(FRAMES), seen)]
-            wrong += wrong_entries(program, file.name, rows, pick.choice((0, 1)), pick.choice((1, 2)), seen)
-        passed, failed = passed + (not wrong), failed + bool(wrong)
-        for it in wrong[:3]:
-            print(f"log {number}: {it}")
-        if wrong and folder:
-            with open(os.path.join(folder, f"log-{number}.events"), "w", encoding="utf-8") as kept:
-                kept.write("".join(f"{it}\n" for it in rows))
-    if lacking := {"c", "t", "group", "modified", *REASONS} - seen:
-        print(f"no log has a change by {', '.join(sorted(lacking))}")
-        failed += 1
-    print(f"{passed} passed, {failed} failed")
-    sys.exit(failed > 0)
+class Histories(unittest.TestCase):
+    slow = True
+    maxDiff = None
 
-
-main()
+    def test_random_logs(self):
+        seen = set()
+        for case, pick in random_cases(LOGS):
+            rows = some_log(pick)
+            with self.subTest(case), tempfile.TemporaryDirectory() as folder:
+                file = os.path.join(folder, "log.events")
+                with open(file, "w", encoding="utf-8") as text:
+                    text.write("".join(f"{it}\n" for it in rows))
+                wrong = [*wrong_fates(file, rows, pick.choice((1, 2)), pick.choice(FRAMES), seen)]
+                wrong += wrong_entries(file, rows, pick.choice((0, 1)), pick.choice((1, 2)), seen)
+                if wrong:
+                    keep(folder, case)
+                self.assertEqual(wrong[:3], [])
+        with self.subTest("each kind of change is in some log"):
+            self.assertEqual({"c", "t", "group", "modified", *REASONS} - seen, set())
