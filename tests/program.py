@@ -5,6 +5,7 @@ import random
 import shutil
 import socket
 import subprocess
+import unittest
 from typing import NamedTuple
 
 TOP = pathlib.Path(__file__).resolve().parent.parent
@@ -35,6 +36,30 @@ def run(words, input=b"", timeout=300, **options):
 
 def ofswitch(*words, **options):
     return run([PROGRAM, *map(str, words)], **options)
+
+
+def fed(text, *words):
+    """A run with this standard input."""
+    return ofswitch(*words, input=text)
+
+
+def read(path):
+    """A file of the repository."""
+    return (TOP / path).read_text(encoding="utf-8")
+
+
+class Case(unittest.TestCase):
+    """A test whose comparisons are counted one by one, each with its name."""
+
+    maxDiff = None
+
+    def same(self, name, found, wanted):
+        with self.subTest(name):
+            self.assertEqual(found, wanted)
+
+    def holds(self, name, good, found=""):
+        with self.subTest(name):
+            self.assertTrue(good, found)
 
 
 def free_port(kind=socket.SOCK_STREAM):
