@@ -1,23 +1,22 @@
-#!/usr/bin/env python3
-"""tools/check-examples PROGRAM: runs the command lines of the documents, and compares the output below them.
+"""The command lines of the documents, and the output below them.
 
 Each line `./ofswitch ..` that names no placeholder (FILE, LOG, N) and is no `serve` or `live` has to end with status 0, and print nothing
 to standard error. The fenced block that follows it in its section is its output. If the text between it and a later block names
 options, such as `--why all`, that block is the beginning of the output of the same line with these options. If ovs-ofctl is
 installed, its lines below a `serve` that waits are run on another port, with the lines that read a file which they make, and have to
-end with status 0. The last line is `N passed, M failed`. tools/check-program runs it.
+end with status 0.
 """
-import glob
 import os
 import re
 import shutil
-import socket
 import subprocess
-import sys
 import tempfile
 import time
+import unittest
 
-TOP = os.path.dirname(os.path.dirname(os.path.realpath(__file__)))
+from tests.program import EXAMPLES, PROGRAM, TOP, Case, free_port, read, run
+
+DOCUMENTS = ["README.md", *sorted(f"docs/{it.name}" for it in (TOP / "docs").glob("*.md"))]
 OPTIONS = re.compile(r"`(--[^`]+)`")
 
 
@@ -54,10 +53,10 @@ def is_run(command):
 
 def wrong(command, block, is_whole, room):
     """What is wrong with a command and its block, or None."""
-    ran = subprocess.run(command, shell=True, cwd=room, stdin=subprocess.DEVNULL, capture_output=True, encoding="utf-8", timeout=60)
-    if ran.returncode or ran.stderr:
-        return f"status {ran.returncode}, standard error {ran.stderr[:100]!r}"
-    lines = ran.stdout.splitlines()
+    done = run(["sh", "-c", command], cwd=room)
+    if done.status or done.err:
+        return f"status {done.status}, standard error {done.err[:100]!r}"
+    lines = done.out.splitlines()
     if block is not None and (lines if is_whole else lines[: len(block)]) != block:
         differing = next((pair for pair in zip(lines, block) if pair[0] != pair[1]), (f"{len(lines)} lines", f"{len(block)} lines"))
         return "it prints `{}`, and the document says `{}`".format(*differing)
@@ -78,12 +77,6 @@ def served(text):
             command, number, clients = line.strip() if is_served else None, here, []
 
 
-def free_port():
-    with socket.socket() as it:
-        it.bind(("127.0.0.1", 0))
-        return it.getsockname()[1]
-
-
 def wrong_clients(command, clients, room):
     """The first line of ovs-ofctl that fails against the switch that the command serves, or None."""
     port = free_port()
@@ -93,9 +86,9 @@ def wrong_clients(command, clients, room):
         time.sleep(1)
         try:
             for it in clients:
-                ran = subprocess.run(it.replace(":6653", f":{port}"), shell=True, cwd=room, stdin=subprocess.DEVNULL, capture_output=True, encoding="utf-8", timeout=20)
-                if ran.returncode:
-                    return f"{it[:60]}: status {ran.returncode}, {ran.stderr[:100]!r}"
+                done = run(["sh", "-c", it.replace(":6653", f":{port}")], cwd=room, timeout=20)
+                if done.status:
+                    return f"{it[:60]}: status {done.status}, {done.err[:100]!r}"
         except subprocess.TimeoutExpired:
             return f"{it[:60]}: no answer within 20 seconds"
         finally:
@@ -103,31 +96,26 @@ def wrong_clients(command, clients, room):
     return None
 
 
-def main(program):
-    passed = failed = 0
-    with tempfile.TemporaryDirectory() as room:
-        os.symlink(os.path.realpath(program), f"{room}/ofswitch")
-        os.symlink(f"{TOP}/examples", f"{room}/examples")
-        for path in ["README.md", *sorted(os.path.relpath(it, TOP) for it in glob.glob(f"{TOP}/docs/*.md"))]:
-            with open(f"{TOP}/{path}", encoding="utf-8") as file:
-                text = file.read()
+class Examples(Case):
+    slow = True
+
+    def setUp(self):
+        folder = tempfile.TemporaryDirectory()
+        self.addCleanup(folder.cleanup)
+        self.room = folder.name
+        os.symlink(PROGRAM, f"{self.room}/ofswitch")
+        os.symlink(EXAMPLES, f"{self.room}/examples")
+
+    def test_commands(self):
+        for path in DOCUMENTS:
+            text = read(path)
             clients = {it for *_, lines in served(text) for it in lines}
-            alone = [it for it in examples(text) if is_run(it[1]) and it[1] not in clients]
-            tried = [(number, command, wrong(command, block, is_whole, room)) for number, command, block, is_whole in alone]
-            if shutil.which("ovs-ofctl"):
-                tried += [(number, command, wrong_clients(command, clients, room)) for number, command, clients in served(text)]
-            for number, command, problem in tried:
-                passed, failed = passed + (not problem), failed + bool(problem)
-                if problem:
-                    print(f"{path}:{number}: {command[:70]}: {problem}")
-    if not shutil.which("ovs-ofctl"):
-        print("the lines of ovs-ofctl: not tried, it is not installed")
-    print(f"{passed} passed, {failed} failed")
-    return 1 if failed else 0
+            for number, command, block, is_whole in examples(text):
+                if is_run(command) and command not in clients:
+                    self.same(f"{path}:{number}: {command}", wrong(command, block, is_whole, self.room), None)
 
-
-if __name__ == "__main__":
-    if len(sys.argv) != 2 or sys.argv[1].startswith("-"):
-        print(__doc__.strip())
-        sys.exit(0 if sys.argv[1:] == ["--help"] else 1)
-    sys.exit(main(sys.argv[1]))
+    @unittest.skipUnless(shutil.which("ovs-ofctl"), "there is no ovs-ofctl")
+    def test_clients(self):
+        for path in DOCUMENTS:
+            for number, command, clients in served(read(path)):
+                self.same(f"{path}:{number}: {command}", wrong_clients(command, clients, self.room), None)
