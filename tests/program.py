@@ -1,4 +1,5 @@
 """The program that the tests run: that of the environment variable OFSWITCH, or the one that was built; and what several tests need."""
+import contextlib
 import os
 import pathlib
 import random
@@ -62,11 +63,14 @@ class Case(unittest.TestCase):
             self.assertTrue(good, found)
 
 
-def free_port(kind=socket.SOCK_STREAM):
-    """A port of 127.0.0.1 that nobody uses now."""
-    with socket.socket(socket.AF_INET, kind) as it:
-        it.bind(("127.0.0.1", 0))
-        return it.getsockname()[1]
+def free_port():
+    """A port of 127.0.0.1 that nobody uses, of TCP and of UDP, below those that who connects is given, lest one connect to itself."""
+    while True:
+        port = random.SystemRandom().randrange(20000, 32000)
+        with socket.socket() as tcp, socket.socket(socket.AF_INET, socket.SOCK_DGRAM) as udp, contextlib.suppress(OSError):
+            for it in tcp, udp:
+                it.bind(("127.0.0.1", port))
+            return port
 
 
 def rows(table):
