@@ -1,6 +1,6 @@
 """The sessions of tests/sessions: commands, each with what it has to print. A file is a test of its own, in a new folder.
 
-`  $ COMMAND` is run by sh, and `  > TEXT` is a line of its standard input. The lines behind them are its standard output, and from
+`  $ COMMAND` is run by sh, in which TOP is the folder of the repository and OFSWITCH the program, and `  > TEXT` is a line of its standard input. The lines behind them are its standard output, and from
 `  [STATUS] TEXT` on its standard error; without such a line the status is 0 and standard error is empty. `...` is for any text.
 Lines that are not indented are for readers.
 """
@@ -11,7 +11,7 @@ import re
 import tempfile
 import unittest
 
-from tests.program import EXAMPLES, PROGRAM, run
+from tests.program import EXAMPLES, PROGRAM, TOP, run
 
 SESSIONS = pathlib.Path(__file__).parent / "sessions"
 COMMAND = re.compile(r"^  \$ (.*)\n((?:  >.*\n)*)((?:  (?!\$ ).*\n)*)", re.M)
@@ -45,7 +45,7 @@ class Sessions(unittest.TestCase):
         with tempfile.TemporaryDirectory() as folder:
             os.symlink(PROGRAM, f"{folder}/ofswitch")
             os.symlink(EXAMPLES, f"{folder}/examples")
-            surroundings = {**os.environ, "PATH": f"{folder}:{os.environ['PATH']}", "LC_ALL": "C"}
+            surroundings = {**os.environ, "PATH": f"{folder}:{os.environ['PATH']}", "LC_ALL": "C", "TOP": str(TOP), "OFSWITCH": PROGRAM, "PYTHONDONTWRITEBYTECODE": "1"}
             for line, command, given, out, status, err in steps(path):
                 with self.subTest(f"{path.name}:{line}: {command}"):
                     done = run(["sh", "-c", command], input=given, cwd=folder, env=surroundings)
