@@ -106,7 +106,8 @@ class OwnTests(unittest.TestCase):
         is_installed = run([python("pytest"), "-c", "import importlib.metadata as it; it.version('ofswitch')"]).status == 0
         plugin = [] if is_installed else ["-p", "ofswitch.pytest_plugin"]
         words = ["-m", "pytest", "-q", "-rpfEs", "--no-header", "-p", "no:cacheprovider", *plugin, "--rootdir", TOP / "python", TOP / "python/tests"]
-        done = run([python("pytest"), *words], env={**ENVIRONMENT, "PYTHONPATH": str(TOP / "python")}, timeout=3600)
+        with tempfile.TemporaryDirectory() as folder:
+            done = run([python("pytest"), *words], env={**ENVIRONMENT, "PYTHONPATH": str(TOP / "python")}, cwd=folder, timeout=3600)
         found = re.findall(r"^(PASSED|FAILED|ERROR|SKIPPED) (.*)", done.out, re.M)
         self.assertTrue(found, done.out[-2000:] + done.err[-2000:])
         for outcome, name in found:
