@@ -38,7 +38,7 @@ def units(suite):
     """The names of what runs by itself, those that take long first: each test, or a class that prepares something for all its tests."""
     names = {}
     for test in tests_of(suite):
-        prepares = "setUpClass" in vars(type(test))
+        prepares = getattr(test, "setUpClass", unittest.TestCase.setUpClass).__func__ is not unittest.TestCase.setUpClass.__func__
         names.setdefault(test.id().rpartition(".")[0] if prepares else test.id(), getattr(test, "slow", False))
     return sorted(names, key=lambda it: not names[it])
 
@@ -53,7 +53,7 @@ def run(name, patterns):
 
 def main():
     parser = argparse.ArgumentParser(prog="python3 -m tests", description=__doc__.partition("\n\n")[0])
-    parser.add_argument("-j", metavar="JOBS", type=int, default=(os.cpu_count() or 1) + 2, help="how many run at a time")
+    parser.add_argument("-j", metavar="JOBS", type=int, default=os.cpu_count(), help="how many run at a time")
     parser.add_argument("-k", metavar="PART", action="append", help="a part of the name of a file, a class or a test")
     words = parser.parse_args()
     patterns = words.k and [f"*{it}*" for it in words.k]
