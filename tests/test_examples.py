@@ -7,6 +7,7 @@ installed, its lines below a `serve` that waits are run on another port, with th
 end with status 0.
 """
 import os
+import pathlib
 import re
 import shutil
 import subprocess
@@ -77,13 +78,20 @@ def served(text):
             command, number, clients = line.strip() if is_served else None, here, []
 
 
+def listens(port):
+    """Whether a process listens at a port, as the system says."""
+    return re.search(rf": \w+:{port:04X} \w+:0000 0A ", pathlib.Path("/proc/net/tcp").read_text())
+
+
 def wrong_clients(command, clients, room):
     """The first line of ovs-ofctl that fails against the switch that the command serves, or None."""
     port = free_port()
     words = ["./ofswitch", *command.split()[1:], "--quiet", "--listen", f"127.0.0.1:{port}"]
     with subprocess.Popen(words, cwd=room, stdin=subprocess.DEVNULL, stdout=subprocess.DEVNULL, stderr=subprocess.DEVNULL) as server:
-        # until it listens; a connection to see that would be the one controller
-        time.sleep(1)
+        # a connection to see whether it listens would be the one controller
+        end = time.monotonic() + 30
+        while not listens(port) and time.monotonic() < end:
+            time.sleep(0.05)
         try:
             for it in clients:
                 done = run(["sh", "-c", it.replace(":6653", f":{port}")], cwd=room, timeout=20)
