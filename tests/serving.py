@@ -23,12 +23,15 @@ PATIENCE = 30
 
 
 def reach(port):
-    for _ in range(200):
+    """A connection to a switch that is just being started."""
+    end = time.monotonic() + PATIENCE
+    while True:
         try:
             return socket.create_connection(("127.0.0.1", port), timeout=PATIENCE)
         except OSError:
+            if time.monotonic() > end:
+                raise
             time.sleep(0.02)
-    raise ConnectionError("nobody listens")
 
 
 @contextlib.contextmanager
