@@ -1,6 +1,6 @@
 """The documents, and where their links lead, for tools/check-documents, tools/install and tools/site.
 
-By itself, `tools/documents.py FOLDER` prints the links in the documents of a folder that lead nowhere, as for tools/check-install.
+By itself, `tools/documents.py FOLDER` prints the links in the documents of a folder that lead nowhere, as for tests/sessions/install.txt.
 """
 import glob
 import os
