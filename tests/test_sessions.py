@@ -5,6 +5,7 @@ standard input. The lines behind them are its standard output, and from `  [STAT
 without a status it is 0, and without a text standard error is empty. `  = COMMAND` has to do what the last of these lines say, too.
 `...` is for any text. Lines that are not indented are for readers.
 """
+import contextlib
 import doctest
 import os
 import pathlib
@@ -49,7 +50,9 @@ class Sessions(unittest.TestCase):
             os.symlink(EXAMPLES, f"{folder}/examples")
             surroundings = {**os.environ, "PATH": f"{folder}:{os.environ['PATH']}", "LC_ALL": "C", "TOP": str(TOP), "OFSWITCH": PROGRAM, "PYTHONDONTWRITEBYTECODE": "1"}
             for line, command, given, out, status, err in steps(path):
-                with self.subTest(f"{path.name}:{line}: {command}"):
+                # what only makes a file is not counted
+                counted = "ofswitch" in command or "TOP" in command or out or err
+                with self.subTest(f"{path.name}:{line}: {command}") if counted else contextlib.nullcontext():
                     done = run(["sh", "-c", command], input=given, cwd=folder, env=surroundings)
                     self.same(done.out, out)
                     # more lines may follow
