@@ -1,6 +1,6 @@
 //! Tests of what is read and written: actions, action sets, messages, and requests of a controller as bytes; flow text (docs/FLOWTEXT.md) and the
 //! names of errors; the import of tables of Open vSwitch (docs/IMPORT.md); configurations as messages; frames in words. Each public call with ample
-//! memory, and vectors from outside. Texts that the program prints are in tools/check-texts.
+//! memory, and vectors from outside. Texts that the program prints are in tests/test_texts.py.
 //!
 //! They are in a separate crate, since a crate that has tests is proved twice.
 #![tactic(auto)]
