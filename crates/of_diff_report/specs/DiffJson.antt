@@ -22,7 +22,7 @@ use Rattle.of_diff_report.specs.declared.telling.Told.{Told}
 use Rattle.of_diff_report.specs.declared.telling.ToldUndecided.{ToldUndecided}
 use Rattle.of_diff_report.specs.EntryHits.{changed_member, hit_entries_member}
 use Rattle.of_diff_report.specs.DiffWords.{are_same_with}
-use Rattle.of_diff_report.specs.RegionWords.{count_of_entries, set_words}
+use Rattle.of_diff_report.specs.RegionWords.{count_of_entries, region_words}
 
 -- ---- a difference
 
@@ -82,7 +82,7 @@ undecided_member undecided = array_member (codes "undecided") (listed undecided_
 -- as it is printed in words, or null
 abbrev pub region_or_null : Option DescribedSet → List ℕ
 region_or_null None = codes "null"
-region_or_null (Some d) = string (set_words d)
+region_or_null (Some d) = string (region_words d)
 
 abbrev pub region_string : ToldUndecided → List ℕ
 region_string u = region_or_null u.region

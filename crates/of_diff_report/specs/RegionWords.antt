@@ -52,10 +52,10 @@ count_of_entries lacks = length (filter is_of_entry lacks)
 abbrev pub lacks_part : ℕ → List ℕ
 lacks_part n = if n == 0 then [] else filled (if n == 1 then line.LACKS_ONE else line.LACKS) (decimal n ∷ [])
 
-unfoldable pub set_words : DescribedSet → List ℕ
-set_words d =
+unfoldable pub region_words : DescribedSet → List ℕ
+region_words d =
     words_said d.words.items ++ ttl_range_part d.frames.now.ttl_from d.frames.now.ttl_to ++ lacks_part (count_of_entries d.frames.now.part.lacks.items)
 
 abbrev pub region_line : Option DescribedSet → List ℕ
 region_line None = []
-region_line (Some d) = line.REGION ++ set_words d ++ 10 ∷ []
+region_line (Some d) = line.REGION ++ region_words d ++ 10 ∷ []

@@ -5,7 +5,7 @@ ghost use Rattle.of_oxm.specs.Relations.{matches_map};
 ghost use Rattle.of_regions.specs.declared.meeting.Meeting.TheVariants.{Whole};
 ghost use Rattle.of_regions.specs.Meeting.{Meets};
 ghost use Rattle.of_regions.specs.Searching.{InSome};
-ghost use Rattle.of_diff_report.specs.RegionWords.{IsRegion, IsRegionOf, IsTrueOf, count_of_entries, is_of_entry as is_of_entry_by, is_port_block as is_port_block_by, lacks_part, region_line, set_words, ttl_range_part, words_said};
+ghost use Rattle.of_diff_report.specs.RegionWords.{IsRegion, IsRegionOf, IsTrueOf, count_of_entries, is_of_entry as is_of_entry_by, is_port_block as is_port_block_by, lacks_part, region_line, region_words, ttl_range_part, words_said};
 
 use of_frame_words::{NoFrame, read_conditions};
 use of_layers::Field;
@@ -275,9 +275,9 @@ fn push_lacks(out: &mut Vec<u8>, count: usize) -> Result<(), AllocError>
 }
 
 /// Appends the region of a set: its words, the range of its TTL, and how many matches match none of its frames.
-#[tactic(auto, unfolding(crate::specs::RegionWords::set_words))]
+#[tactic(auto, unfolding(crate::specs::RegionWords::region_words))]
 pub fn push_set(out: &mut Vec<u8>, set: &DescribedSet<'_>) -> Result<(), AllocError>
-    ensures { OnOk result (out.new.items ≡ out.old.items ++ set_words set.now) }
+    ensures { OnOk result (out.new.items ≡ out.old.items ++ region_words set.now) }
 {
     out.extend_from_slice(said(&set.words))?;
     push_ttl(out, set.frames.ttl_from, set.frames.ttl_to)?;

@@ -27,8 +27,8 @@ abbrev pub is_nsh : List ℕ → Bool
 is_nsh name = is_row_of (lines_of OF_NSH) name
 
 -- fields of ARP, which Open vSwitch has for RARP, too
-abbrev pub is_arp : List ℕ → Bool
-is_arp name = is_row_of (lines_of OF_ARP) name
+abbrev pub is_arp_field : List ℕ → Bool
+is_arp_field name = is_row_of (lines_of OF_ARP) name
 
 -- what has to be beside the field of a name, if it is one of these fields; those that need nothing are the rows of a table in the code
 unfoldable pub need_of : List ℕ → Option Need
@@ -69,16 +69,16 @@ is_condition word = is_some (need_of_word word)
 abbrev pub has_one_of : List MatchField → Field → ℕ → ℕ → Bool
 has_one_of m f first second = list_any (λ e. number_of e.field == number_of f && (e.value == first || e.value == second)) m
 
-abbrev pub has_field : List MatchField → Field → Bool
-has_field m f = list_any (λ e. number_of e.field == number_of f) m
+abbrev pub matches_field : List MatchField → Field → Bool
+matches_field m f = list_any (λ e. number_of e.field == number_of f) m
 
 -- a protocol with ports, and none of its ports in these fields
 abbrev pub has_other_ports : List MatchField → Field → Field → Bool
-has_other_ports m f other = (has_one_of m IpProto 6 17 || has_one_of m IpProto 132 132) && not (has_field m f || has_field m other)
+has_other_ports m f other = (has_one_of m IpProto 6 17 || has_one_of m IpProto 132 132) && not (matches_field m f || matches_field m other)
 
 abbrev pub is_need_met : List MatchField → Need → Bool
 is_need_met m Nothing = true
-is_need_met m NoPort = not (has_field m InPort)
+is_need_met m NoPort = not (matches_field m InPort)
 is_need_met m NoSource = has_other_ports m TcpSrc UdpSrc
 is_need_met m NoDestination = has_other_ports m TcpDst UdpDst
 is_need_met m Ip = is_met m needs.Ip

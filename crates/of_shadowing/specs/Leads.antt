@@ -30,11 +30,11 @@ led_to s None = record s { anywhere = true; next = Name }
 led_to s (Some n) = record s { tables = s.tables ++ n ∷ []; next = Name }
 
 -- a number is that of a table, and a name may be that of any
-abbrev pub with_table : Scan → List ℕ → Scan
-with_table s digits = led_to s (number_in 255 digits)
+abbrev pub with_table_led : Scan → List ℕ → Scan
+with_table_led s digits = led_to s (number_in 255 digits)
 
 abbrev pub with_table_if : Scan → List ℕ → Scan
-with_table_if s digits = if length digits == 0 then record s { next = Table } else with_table s digits
+with_table_if s digits = if length digits == 0 then record s { next = Table } else with_table_led s digits
 
 -- the buckets of a group may lead anywhere
 abbrev pub with_name : Scan → List ℕ → List ℕ → Scan
@@ -44,17 +44,17 @@ with_name s name value =
     else if is_called name (codes "goto_table") || is_called name (codes "table") then with_table_if s value
     else s
 
-abbrev pub with_piece : Scan → Next → List ℕ → Scan
-with_piece s Name piece = with_name s (word_name piece) (word_value piece)
-with_piece s Port piece = record s { next = Table }
-with_piece s Table piece = with_table s piece
+abbrev pub with_next_piece : Scan → Next → List ℕ → Scan
+with_next_piece s Name piece = with_name s (word_name piece) (word_value piece)
+with_next_piece s Port piece = record s { next = Table }
+with_next_piece s Table piece = with_table_led s piece
 
 -- parentheses, a comma, white space
 abbrev pub ends_piece : ℕ → Bool
 ends_piece b = is_gap b || b == 40 || b == 41
 
 abbrev pub piece_ended : Scan → Scan
-piece_ended s = with_piece (record s { piece = [] }) s.next s.piece
+piece_ended s = with_next_piece (record s { piece = [] }) s.next s.piece
 
 abbrev pub with_byte : Scan → ℕ → Scan
 with_byte s b = if ends_piece b then piece_ended s else record s { piece = s.piece ++ b ∷ [] }

@@ -3,7 +3,7 @@ use Rattle.std.specs.Prelude.{ℕ, ◌&&◌, ◌||◌, not, Bool, true, false, L
 use Rattle.std.specs.Str.{bytes_eq, str_eq_ignore_ascii_case}
 use Rattle.of_ovs_words.specs.Words.{word_name, word_value}
 use Rattle.of_ovs_lines.specs.PartialFlows.{begins_actions}
-use Rattle.of_shadowing.specs.Conditions.{is_arp, is_condition, is_fragments}
+use Rattle.of_shadowing.specs.Conditions.{is_arp_field, is_condition, is_fragments}
 use Rattle.of_shadowing.specs.Leads.{Scan, no_scan, with_action_led}
 
 pub record LineWords : Type 0 where
@@ -50,5 +50,5 @@ abbrev pub with_line_word : LineWords → List ℕ → LineWords
 with_line_word s word =
     if s.in_actions then with_action_passed s word
     else if begins_actions (word_name word) then with_actions_begun s word
-    else if is_condition word || (s.is_rarp && is_arp (word_name word)) then with_condition s word
+    else if is_condition word || (s.is_rarp && is_arp_field (word_name word)) then with_condition s word
     else with_plain s word

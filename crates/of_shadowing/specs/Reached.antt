@@ -3,20 +3,20 @@ use Rattle.std.specs.Prelude.{◌≡◌, ◌↔◌, ℕ, ◌==◌, ◌&&◌, ◌
 use Rattle.std.specs.List.{fold, list_any}
 use Rattle.of_shadowing.specs.declared.listed_flow.ListedFlow.{ListedFlow}
 
-abbrev pub is_among : List ℕ → ℕ → Bool
-is_among tables table = list_any (λ t. t == table) tables
+abbrev pub is_table_among : List ℕ → ℕ → Bool
+is_table_among tables table = list_any (λ t. t == table) tables
 
 -- some flow of the table
 abbrev pub has_flow : List ListedFlow → ℕ → Bool
 has_flow flows table = list_any (λ f. f.table == table) flows
 
 -- some flow of one table leads to the other
-abbrev pub leads_to : List ListedFlow → ℕ → ℕ → Bool
-leads_to flows from to = list_any (λ f. f.table == from && is_among f.leads.tables.items to) flows
+abbrev pub leads_from_to : List ListedFlow → ℕ → ℕ → Bool
+leads_from_to flows from to = list_any (λ f. f.table == from && is_table_among f.leads.tables.items to) flows
 
 pub data IsReached (flows : List ListedFlow) : ℕ → Type 0 where
   First : IsReached flows 0
-  Later : (from to : ℕ) → IsReached flows from → leads_to flows from to ≡ true → IsReached flows to
+  Later : (from to : ℕ) → IsReached flows from → leads_from_to flows from to ≡ true → IsReached flows to
 
 -- some actions may lead anywhere; or the file is a part of the tables, without table 0
 abbrev pub leaves_open : List ListedFlow → Bool
@@ -24,18 +24,18 @@ leaves_open flows = list_any (λ f. f.leads.anywhere) flows || not (has_flow flo
 
 -- THE UNREACHABLE TABLES: they have flows, and no actions lead there; none where that is open
 abbrev pub AreUnreachable : List ListedFlow → List ℕ → Type 0
-AreUnreachable flows tables = (t : ℕ) → (is_among tables t ≡ true) ↔ ((leaves_open flows ≡ false) × (has_flow flows t ≡ true) × ¬ (IsReached flows t))
+AreUnreachable flows tables = (t : ℕ) → (is_table_among tables t ≡ true) ↔ ((leaves_open flows ≡ false) × (has_flow flows t ≡ true) × ¬ (IsReached flows t))
 
 -- ---- the same, as it is computed: of the tables behind table 0, one after the other is reached from those that are not among the rest
 
 abbrev pub with_table_of : List ℕ → ListedFlow → List ℕ
-with_table_of tables f = if f.table == 0 || is_among tables f.table then tables else tables ++ f.table ∷ []
+with_table_of tables f = if f.table == 0 || is_table_among tables f.table then tables else tables ++ f.table ∷ []
 
 abbrev pub later_tables : List ListedFlow → List ℕ
 later_tables flows = fold with_table_of [] flows
 
 unfoldable pub leads_from_others : List ℕ → ℕ → ListedFlow → Bool
-leads_from_others tables to f = not (is_among tables f.table) && is_among f.leads.tables.items to
+leads_from_others tables to f = not (is_table_among tables f.table) && is_table_among f.leads.tables.items to
 
 abbrev pub is_led_to : List ListedFlow → List ℕ → ℕ → Bool
 is_led_to flows tables to = list_any (leads_from_others tables to) flows

@@ -4,7 +4,7 @@ ghost use Rattle.std.specs.List.{list_any};
 ghost use Rattle.std.specs.Str.{bytes_eq};
 ghost use Rattle.of_layers.specs.Fields.{number_of};
 ghost use Rattle.of_text.specs.Lines.{lines_of};
-ghost use Rattle.of_shadowing.specs.Conditions.{has_one_of as has_one_of_so, is_condition as is_condition_so, is_need_met as is_need_met_so, is_row_of, need_of as need_of_so, need_of_value as need_of_value_so, need_of_word, begins_with_digit as begins_with_digit_so, has_field as has_field_so, has_other_ports as has_other_ports_so, is_arp as is_arp_so, is_fragments as is_fragments_so, is_masked as is_masked_so, why_unmet as why_unmet_so};
+ghost use Rattle.of_shadowing.specs.Conditions.{has_one_of as has_one_of_so, is_condition as is_condition_so, is_need_met as is_need_met_so, is_row_of, need_of as need_of_so, need_of_value as need_of_value_so, need_of_word, begins_with_digit as begins_with_digit_so, matches_field as has_field_so, has_other_ports as has_other_ports_so, is_arp_field as is_arp_so, is_fragments as is_fragments_so, is_masked as is_masked_so, why_unmet as why_unmet_so};
 
 use of_layers::{Field, Prerequisite};
 use of_ovs_words::{Why, name_of, value_of};
@@ -69,7 +69,7 @@ fn is_row(rows: &[u8], name: &[u8]) -> bool
 }
 
 /// Whether it is the name of a field of ARP.
-pub fn is_arp(name: &[u8]) -> bool
+pub fn is_arp_field(name: &[u8]) -> bool
     ensures { result ≡ is_arp_so name.now }
 {
     is_row(&OF_ARP, name)
@@ -167,7 +167,7 @@ fn has_one_of(fields: &[MatchField], field: Field, first: u128, second: u128) ->
     fields.iter().any(|e| e.field.number() == number && (e.value == first || e.value == second))
 }
 
-fn has_field(fields: &[MatchField], field: Field) -> bool
+fn matches_field(fields: &[MatchField], field: Field) -> bool
     ensures { result ≡ has_field_so fields.now field }
 {
     let number = field.number();
@@ -180,7 +180,7 @@ fn has_other_ports(fields: &[MatchField], field: Field, other: Field) -> bool
 {
     let has_ports = has_one_of(fields, Field::IpProto, 6, 17)
         || has_one_of(fields, Field::IpProto, 132, 132);
-    has_ports && !(has_field(fields, field) || has_field(fields, other))
+    has_ports && !(matches_field(fields, field) || matches_field(fields, other))
 }
 
 /// Whether a match has what a field needs.
@@ -189,7 +189,7 @@ pub fn is_need_met(fields: &[MatchField], need: Need) -> bool
 {
     match need {
         Need::Nothing => true,
-        Need::NoPort => !has_field(fields, Field::InPort),
+        Need::NoPort => !matches_field(fields, Field::InPort),
         Need::NoSource => has_other_ports(fields, Field::TcpSrc, Field::UdpSrc),
         Need::NoDestination => has_other_ports(fields, Field::TcpDst, Field::UdpDst),
         Need::Ip => is_met(fields, Prerequisite::Ip),

@@ -1,7 +1,7 @@
 //! The tables to which actions lead.
 ghost use Rattle.std.specs.Prelude.{◌≡◌, ◌||◌, ◌==◌, OnOk};
 ghost use Rattle.std.specs.Str.{str_eq_ignore_ascii_case};
-ghost use Rattle.of_shadowing.specs.Leads.{ends_piece as ends_piece_so, no_scan, piece_ended, view_scan, with_action_led, with_byte, with_name, with_piece, with_table, with_table_if};
+ghost use Rattle.of_shadowing.specs.Leads.{ends_piece as ends_piece_so, no_scan, piece_ended, view_scan, with_action_led, with_byte, with_name, with_next_piece, with_table_led, with_table_if};
 
 use of_ovs_words::{is_gap, name_of, numbered, value_of};
 use std::alloc::{AllocError, Global};
@@ -62,7 +62,7 @@ impl Scan {
     }
 
     fn add_table(&mut self, digits: &[u8]) -> Result<(), AllocError>
-        ensures { OnOk result (view_scan self.new ≡ with_table (view_scan self.old) digits.now) }
+        ensures { OnOk result (view_scan self.new ≡ with_table_led (view_scan self.old) digits.now) }
     {
         self.next = Next::Name;
         match numbered(255, digits) {
@@ -96,7 +96,7 @@ impl Scan {
     }
 
     fn add_piece(&mut self, piece: &[u8]) -> Result<(), AllocError>
-        ensures { OnOk result (view_scan self.new ≡ with_piece (view_scan self.old) self.old.next piece.now) }
+        ensures { OnOk result (view_scan self.new ≡ with_next_piece (view_scan self.old) self.old.next piece.now) }
     {
         match self.next {
             Next::Name => self.add_name(name_of(piece), value_of(piece)),

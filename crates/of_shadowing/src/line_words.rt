@@ -7,7 +7,7 @@ ghost use Rattle.of_values.specs.Origins.{view_words};
 ghost use Rattle.of_shadowing.specs.LineWords.{with_actions_begun, is_conjunction as is_conjunction_so, is_field_of as is_field_of_so, no_line_words, with_action_passed, with_line_word, with_plain, with_word_named};
 ghost use Rattle.of_shadowing.specs.LineWordViews.{view_line_words};
 
-use crate::conditions::{is_arp, is_condition, is_fragments};
+use crate::conditions::{is_arp_field, is_condition, is_fragments};
 use crate::leads::Scan;
 use of_ovs_lines::begins_actions;
 use of_ovs_words::{cut_word, name_of, value_of};
@@ -111,7 +111,7 @@ impl LineWords {
             self.add_action(alloc, word)
         } else if begins_actions(name_of(word)) {
             self.begin_actions(alloc, word)
-        } else if is_condition(word) || self.is_rarp && is_arp(name_of(word)) {
+        } else if is_condition(word) || self.is_rarp && is_arp_field(name_of(word)) {
             replace_named(alloc, &mut self.conditions, word)
         } else {
             self.add_plain(word)

@@ -1,12 +1,12 @@
 //! The tables to which no actions lead.
 ghost use Rattle.std.specs.Prelude.{◌≡◌, ◌==◌, not, filter, find, IfOk, OnOk};
 ghost use Rattle.std.specs.List.{list_any};
-ghost use Rattle.of_shadowing.specs.Reached.{AreUnreachable, is_among as is_one_of, is_led_to as is_led_so, later_tables as later_tables_of, has_flow as has_flow_of, leaves_open as leaves_open_so, leads_from_others as leads_so, with_table_of};
+ghost use Rattle.of_shadowing.specs.Reached.{AreUnreachable, is_table_among as is_one_of, is_led_to as is_led_so, later_tables as later_tables_of, has_flow as has_flow_of, leaves_open as leaves_open_so, leads_from_others as leads_so, with_table_of};
 
 use crate::listed_flow::ListedFlow;
 use std::alloc::{AllocError, Global};
 
-fn is_among(tables: &[u8], table: u8) -> bool
+fn is_table_among(tables: &[u8], table: u8) -> bool
     ensures { result ≡ is_one_of tables.now table }
 {
     tables.iter().any(|other| *other == table)
@@ -17,7 +17,7 @@ fn is_among(tables: &[u8], table: u8) -> bool
 fn leads_from_others(flow: &ListedFlow, tables: &[u8], to: u8) -> bool
     ensures { result ≡ leads_so tables.now to flow.now }
 {
-    !is_among(tables, flow.table) && is_among(&flow.leads.tables, to)
+    !is_table_among(tables, flow.table) && is_table_among(&flow.leads.tables, to)
 }
 
 fn is_led_to(flows: &[ListedFlow], tables: &[u8], to: u8) -> bool
@@ -41,7 +41,7 @@ fn next_reached(flows: &[ListedFlow], tables: &[u8]) -> Option<u8>
 fn add_table(tables: &mut Vec<u8>, flow: &ListedFlow) -> Result<(), AllocError>
     ensures { OnOk result (tables.new.items ≡ with_table_of tables.old.items flow.now) }
 {
-    if flow.table != 0 && !is_among(tables, flow.table) {
+    if flow.table != 0 && !is_table_among(tables, flow.table) {
         tables.push(flow.table)?;
     }
     Ok(())

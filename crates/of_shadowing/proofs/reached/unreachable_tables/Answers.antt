@@ -1,6 +1,6 @@
 use Rattle.std.proofs.Common.{◌≡◌, ◌∙◌, [], Some, None, true, sym}
 use Rattle.std.specs.Prelude.{find}
-use Rattle.of_shadowing.specs.Reached.{is_among, is_led_to, leaves_open}
+use Rattle.of_shadowing.specs.Reached.{is_table_among, is_led_to, leaves_open}
 use Rattle.of_shadowing.proofs.ReachedLemmas.{begun, done, found, shorter, went_on}
 use Rattle.of_shadowing.proofs.reached.unreachable_tables.Goals as goal
 
@@ -20,7 +20,7 @@ loop-table-smaller c =
 pub returns-then-leaves_open : goal.returns-then-leaves_open
 returns-then-leaves_open c =
     let anywhere : leaves_open c.args.flows.now ≡ true = sym c.leaves_open.ensures ∙ c.if-leaves_open.true in
-    λ t. (λ e. let none : is_among [] t ≡ true = rw c.new.ensures.items at e in absurd cc, λ h. let not_so = h.0 in absurd cc)
+    λ t. (λ e. let none : is_table_among [] t ≡ true = rw c.new.ensures.items at e in absurd cc, λ h. let not_so = h.0 in absurd cc)
 
 pub returns : goal.returns
 returns c =
