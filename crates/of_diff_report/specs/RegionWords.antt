@@ -20,13 +20,13 @@ IsTrueOf s words =
     (m : List MatchField) × (conditions_in_words words ≡ Ok m) × ((frame : List ℕ) (port : ℕ) → InFrames s frame port → matches_map m (received_fields frame port) ≡ true)
 
 -- words for a set, and for the first of some sets, if there are such
-abbrev pub IsRegion : FrameSet → Option DescribedSet → Type 0
-IsRegion s None = Unit {0}
-IsRegion s (Some d) = (d.frames.now ≡ s) × IsTrueOf s d.words.items
+abbrev pub IsRegionOfSet : FrameSet → Option DescribedSet → Type 0
+IsRegionOfSet s None = Unit {0}
+IsRegionOfSet s (Some d) = (d.frames.now ≡ s) × IsTrueOf s d.words.items
 
 abbrev pub IsRegionOf : List FrameSet → Option DescribedSet → Type 0
 IsRegionOf [] region = region ≡ None
-IsRegionOf (s ∷ sets) region = IsRegion s region
+IsRegionOf (s ∷ sets) region = IsRegionOfSet s region
 
 -- ---- `ip,nw_dst=10.2.0.0/16 with nw_ttl 2 to 255 without 1 match`
 

@@ -8,7 +8,7 @@ use Rattle.of_diff.specs.declared.difference.Undecided.{Undecided}
 use Rattle.of_diff_report.specs.declared.telling.Told.{Told}
 use Rattle.of_diff_report.specs.declared.telling.ToldUndecided.{ToldUndecided}
 use Rattle.of_diff_report.specs.Changed.{AreSideHits, are_same_hits}
-use Rattle.of_diff_report.specs.RegionWords.{IsRegion, IsRegionOf}
+use Rattle.of_diff_report.specs.RegionWords.{IsRegionOfSet, IsRegionOf}
 
 -- ---- one difference
 
@@ -56,7 +56,7 @@ abbrev pub set_of : ToldUndecided → Undecided
 set_of u = u.undecided.now
 
 abbrev pub HasRegion : ToldUndecided → Type 0
-HasRegion u = IsRegion u.undecided.now.frames u.region
+HasRegion u = IsRegionOfSet u.undecided.now.frames u.region
 
 abbrev pub AreToldUndecided : List Undecided → List ToldUndecided → Type 0
 AreToldUndecided undecided told = (map set_of told ≡ undecided) × AllByRecursion HasRegion told

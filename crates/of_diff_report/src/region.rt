@@ -5,7 +5,7 @@ ghost use Rattle.of_oxm.specs.Relations.{matches_map};
 ghost use Rattle.of_regions.specs.declared.meeting.Meeting.TheVariants.{Whole};
 ghost use Rattle.of_regions.specs.Meeting.{Meets};
 ghost use Rattle.of_regions.specs.Searching.{InSome};
-ghost use Rattle.of_diff_report.specs.RegionWords.{IsRegion, IsRegionOf, IsTrueOf, count_of_entries, is_of_entry as is_of_entry_by, is_port_block as is_port_block_by, lacks_part, region_line, region_words, ttl_range_part, words_said};
+ghost use Rattle.of_diff_report.specs.RegionWords.{IsRegionOfSet, IsRegionOf, IsTrueOf, count_of_entries, is_of_entry as is_of_entry_by, is_port_block as is_port_block_by, lacks_part, region_line, region_words, ttl_range_part, words_said};
 
 use of_frame_words::{NoFrame, read_conditions};
 use of_layers::Field;
@@ -195,7 +195,7 @@ fn are_true_of(alloc: Global, words: &[u8], frames: &FrameSet) -> Result<bool, A
 
 /// What all frames of a set have in common, if there are words for it that are read as such.
 pub fn describe(alloc: Global, frames: &FrameSet) -> Result<Option<DescribedSet<'_>>, AllocError>
-    ensures { IfOk result (IsRegion frames.now) }
+    ensures { IfOk result (IsRegionOfSet frames.now) }
 {
     let conditions = common_conditions(alloc, &frames.part.regions)?;
     let words = words_for(alloc, &conditions)?;

@@ -4,7 +4,7 @@ use Rattle.std.specs.Prelude.{◌⊎◌, ◌↔◌, ◌&&◌, ◌||◌, ◌==◌
 use Rattle.std.specs.List.{fold, list_any}
 use Rattle.std.proofs.lemmas.Grind.{common_steps}
 use Rattle.of_shadowing.specs.declared.listed_flow.ListedFlow.{ListedFlow}
-use Rattle.of_shadowing.specs.Reached.{First, IsReached, Later, has_flow, is_table_among, is_led_to, later_tables, leads_from_others, leads_from_to, with_table_of}
+use Rattle.of_shadowing.specs.Reached.{First, IsTableReached, Later, has_flow, is_table_among, is_led_from_others, later_tables, leads_from_others, leads_from_to, with_table_of}
 
 or_split : (a b : Bool) → (a || b) ≡ true → (a ≡ true) ⊎ (b ≡ true)
 or_split true b e = inl refl
@@ -45,10 +45,10 @@ pub record LedFrom (flows : List ListedFlow) (tables : List ℕ) (to : ℕ) : Ty
   pub leads : leads_from_to flows from to ≡ true
 
 module _ (tables : List ℕ) (to : ℕ) where
-  pub led_from : (flows : List ListedFlow) → is_led_to flows tables to ≡ true → LedFrom flows tables to
+  pub led_from : (flows : List ListedFlow) → is_led_from_others flows tables to ≡ true → LedFrom flows tables to
   unfolding leads_from_others
   led_from [] e = absurd cc
-  led_from (f ∷ flows) e = elim (or_split (leads_from_others tables to f) (is_led_to flows tables to) e) as (λ w. LedFrom (f ∷ flows) tables to) [
+  led_from (f ∷ flows) e = elim (or_split (leads_from_others tables to f) (is_led_from_others flows tables to) e) as (λ w. LedFrom (f ∷ flows) tables to) [
     | inl here ↦ let h = and_split (not (is_table_among tables f.table)) (is_table_among f.leads.tables.items to) here in record {
       from = f.table;
       other = not_so (is_table_among tables f.table) h.0;
@@ -63,14 +63,14 @@ module _ (tables : List ℕ) (to : ℕ) where
     }
   ]
 
-  pub led_so : (from : ℕ) (flows : List ListedFlow) → is_table_among tables from ≡ false → leads_from_to flows from to ≡ true → is_led_to flows tables to ≡ true
+  pub led_so : (from : ℕ) (flows : List ListedFlow) → is_table_among tables from ≡ false → leads_from_to flows from to ≡ true → is_led_from_others flows tables to ≡ true
   unfolding leads_from_others
   led_so from [] o e = absurd cc
-  led_so from (f ∷ flows) o e = elim (or_split (f.table == from && is_table_among f.leads.tables.items to) (leads_from_to flows from to) e) as (λ w. is_led_to (f ∷ flows) tables to ≡ true) [
+  led_so from (f ∷ flows) o e = elim (or_split (f.table == from && is_table_among f.leads.tables.items to) (leads_from_to flows from to) e) as (λ w. is_led_from_others (f ∷ flows) tables to ≡ true) [
     | inl here ↦ let h = and_split (f.table == from) (is_table_among f.leads.tables.items to) here in
         let same : f.table ≡ from = eqb-true f.table from h.0 in
-        or_here (leads_from_others tables to f) (is_led_to flows tables to) (and_both (not (is_table_among tables f.table)) (is_table_among f.leads.tables.items to) (so_not (is_table_among tables f.table) (ap (is_table_among tables) same ∙ o)) h.1)
-    | inr there ↦ or_there (leads_from_others tables to f) (is_led_to flows tables to) (led_so from flows o there)
+        or_here (leads_from_others tables to f) (is_led_from_others flows tables to) (and_both (not (is_table_among tables f.table)) (is_table_among f.leads.tables.items to) (so_not (is_table_among tables f.table) (ap (is_table_among tables) same ∙ o)) h.1)
+    | inr there ↦ or_there (leads_from_others tables to f) (is_led_from_others flows tables to) (led_so from flows o there)
   ]
 
 -- ---- what is found
@@ -217,7 +217,7 @@ only_those (f ∷ flows) tables t e = elim (only_those flows (with_table_of tabl
 
 pub record IsRest (flows : List ListedFlow) (tables : List ℕ) : Type 0 where
   pub has : (t : ℕ) → is_table_among tables t ≡ true → (has_flow flows t ≡ true) × ((t == 0) ≡ false)
-  pub reached : (t : ℕ) → has_flow flows t ≡ true → is_table_among tables t ≡ false → IsReached flows t
+  pub reached : (t : ℕ) → has_flow flows t ≡ true → is_table_among tables t ≡ false → IsTableReached flows t
 
 pub begun : (flows : List ListedFlow) → IsRest flows (later_tables flows)
 begun flows = record {
@@ -225,19 +225,19 @@ begun flows = record {
   reached = λ t h o. by_test t h o (t == 0) refl;
 }
   where
-    by_test : (t : ℕ) → has_flow flows t ≡ true → is_table_among (later_tables flows) t ≡ false → (b : Bool) → (t == 0) ≡ b → IsReached flows t
-    by_test t h o true z = subst (λ n. IsReached flows n) (sym (eqb-true t 0 z)) First
+    by_test : (t : ℕ) → has_flow flows t ≡ true → is_table_among (later_tables flows) t ≡ false → (b : Bool) → (t == 0) ≡ b → IsTableReached flows t
+    by_test t h o true z = subst (λ n. IsTableReached flows n) (sym (eqb-true t 0 z)) First
     by_test t h o false z = let k = all_have flows [] t h z in absurd cc
 
-pub went_on : (flows : List ListedFlow) (tables : List ℕ) (x : ℕ) → IsRest flows tables → find (is_led_to flows tables) tables ≡ Some x → IsRest flows (without x tables)
+pub went_on : (flows : List ListedFlow) (tables : List ℕ) (x : ℕ) → IsRest flows tables → find (is_led_from_others flows tables) tables ≡ Some x → IsRest flows (without x tables)
 went_on flows tables x r e =
-    let led = led_from tables x flows (found (is_led_to flows tables) tables x e).1 in
-    let x_reached : IsReached flows x = Later led.from x (r.reached led.from led.has led.other) led.leads in
+    let led = led_from tables x flows (found (is_led_from_others flows tables) tables x e).1 in
+    let x_reached : IsTableReached flows x = Later led.from x (r.reached led.from led.has led.other) led.leads in
     record {
       has = λ t h. r.has t (stayed x tables t h);
-      reached = λ t h o. elim (removed x tables t o) as (λ w. IsReached flows t) [
+      reached = λ t h o. elim (removed x tables t o) as (λ w. IsTableReached flows t) [
         | inl old ↦ r.reached t h old
-        | inr same ↦ subst (λ n. IsReached flows n) (sym same) x_reached
+        | inr same ↦ subst (λ n. IsTableReached flows n) (sym same) x_reached
       ];
     }
 
@@ -245,16 +245,16 @@ not_among : (b : Bool) → (b ≡ true → ⊥) → b ≡ false
 not_among true h = absurd (h refl)
 not_among false h = refl
 
-module _ (flows : List ListedFlow) (tables : List ℕ) (r : IsRest flows tables) (none : find (is_led_to flows tables) tables ≡ None) where
-  pub are_others : (t : ℕ) → IsReached flows t → is_table_among tables t ≡ false
+module _ (flows : List ListedFlow) (tables : List ℕ) (r : IsRest flows tables) (none : find (is_led_from_others flows tables) tables ≡ None) where
+  pub are_others : (t : ℕ) → IsTableReached flows t → is_table_among tables t ≡ false
   are_others t First = not_among (is_table_among tables 0) (λ e. let z = (r.has 0 e).1 in cc)
   are_others t (Later from to so l) = not_among (is_table_among tables to) (λ e.
-      let no = not_found (is_led_to flows tables) tables none to e in
+      let no = not_found (is_led_from_others flows tables) tables none to e in
       let yes = led_so tables to from flows (are_others from so) l in cc)
 
-  pub done : (t : ℕ) → (is_table_among tables t ≡ true) ↔ ((has_flow flows t ≡ true) × ¬ (IsReached flows t))
+  pub done : (t : ℕ) → (is_table_among tables t ≡ true) ↔ ((has_flow flows t ≡ true) × ¬ (IsTableReached flows t))
   done t = (λ e. ((r.has t e).0, λ so. let o = are_others t so in cc), λ h. by_test (is_table_among tables t) refl h)
     where
-      by_test : (b : Bool) → is_table_among tables t ≡ b → (has_flow flows t ≡ true) × ¬ (IsReached flows t) → is_table_among tables t ≡ true
+      by_test : (b : Bool) → is_table_among tables t ≡ b → (has_flow flows t ≡ true) × ¬ (IsTableReached flows t) → is_table_among tables t ≡ true
       by_test true e h = e
       by_test false e h = absurd (h.1 (r.reached t h.0 e))

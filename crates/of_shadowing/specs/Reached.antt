@@ -14,9 +14,9 @@ has_flow flows table = list_any (λ f. f.table == table) flows
 abbrev pub leads_from_to : List ListedFlow → ℕ → ℕ → Bool
 leads_from_to flows from to = list_any (λ f. f.table == from && is_table_among f.leads.tables.items to) flows
 
-pub data IsReached (flows : List ListedFlow) : ℕ → Type 0 where
-  First : IsReached flows 0
-  Later : (from to : ℕ) → IsReached flows from → leads_from_to flows from to ≡ true → IsReached flows to
+pub data IsTableReached (flows : List ListedFlow) : ℕ → Type 0 where
+  First : IsTableReached flows 0
+  Later : (from to : ℕ) → IsTableReached flows from → leads_from_to flows from to ≡ true → IsTableReached flows to
 
 -- some actions may lead anywhere; or the file is a part of the tables, without table 0
 abbrev pub leaves_open : List ListedFlow → Bool
@@ -24,7 +24,7 @@ leaves_open flows = list_any (λ f. f.leads.anywhere) flows || not (has_flow flo
 
 -- THE UNREACHABLE TABLES: they have flows, and no actions lead there; none where that is open
 abbrev pub AreUnreachable : List ListedFlow → List ℕ → Type 0
-AreUnreachable flows tables = (t : ℕ) → (is_table_among tables t ≡ true) ↔ ((leaves_open flows ≡ false) × (has_flow flows t ≡ true) × ¬ (IsReached flows t))
+AreUnreachable flows tables = (t : ℕ) → (is_table_among tables t ≡ true) ↔ ((leaves_open flows ≡ false) × (has_flow flows t ≡ true) × ¬ (IsTableReached flows t))
 
 -- ---- the same, as it is computed: of the tables behind table 0, one after the other is reached from those that are not among the rest
 
@@ -37,5 +37,5 @@ later_tables flows = fold with_table_of [] flows
 unfoldable pub leads_from_others : List ℕ → ℕ → ListedFlow → Bool
 leads_from_others tables to f = not (is_table_among tables f.table) && is_table_among f.leads.tables.items to
 
-abbrev pub is_led_to : List ListedFlow → List ℕ → ℕ → Bool
-is_led_to flows tables to = list_any (leads_from_others tables to) flows
+abbrev pub is_led_from_others : List ListedFlow → List ℕ → ℕ → Bool
+is_led_from_others flows tables to = list_any (leads_from_others tables to) flows

@@ -1,7 +1,7 @@
 //! The tables to which no actions lead.
 ghost use Rattle.std.specs.Prelude.{◌≡◌, ◌==◌, not, filter, find, IfOk, OnOk};
 ghost use Rattle.std.specs.List.{list_any};
-ghost use Rattle.of_shadowing.specs.Reached.{AreUnreachable, is_table_among as is_one_of, is_led_to as is_led_so, later_tables as later_tables_of, has_flow as has_flow_of, leaves_open as leaves_open_so, leads_from_others as leads_so, with_table_of};
+ghost use Rattle.of_shadowing.specs.Reached.{AreUnreachable, is_table_among as is_one_of, is_led_from_others as is_led_so, later_tables as later_tables_of, has_flow as has_flow_of, leaves_open as leaves_open_so, leads_from_others as leads_so, with_table_of};
 
 use crate::listed_flow::ListedFlow;
 use std::alloc::{AllocError, Global};
@@ -20,7 +20,7 @@ fn leads_from_others(flow: &ListedFlow, tables: &[u8], to: u8) -> bool
     !is_table_among(tables, flow.table) && is_table_among(&flow.leads.tables, to)
 }
 
-fn is_led_to(flows: &[ListedFlow], tables: &[u8], to: u8) -> bool
+fn is_led_from_others(flows: &[ListedFlow], tables: &[u8], to: u8) -> bool
     ensures { result ≡ is_led_so flows.now tables.now to }
 {
     flows.iter().any(|flow| leads_from_others(flow, tables, to))
@@ -31,7 +31,7 @@ fn next_reached(flows: &[ListedFlow], tables: &[u8]) -> Option<u8>
     ensures { result ≡ find (is_led_so flows.now tables.now) tables.now }
 {
     for table in tables {
-        if is_led_to(flows, tables, *table) {
+        if is_led_from_others(flows, tables, *table) {
             return Some(*table);
         }
     }
