@@ -98,11 +98,16 @@ difference_head f t =
     where_words t.difference.now.at ++ ended (heading f t.difference.now.in_port t.difference.now.frame.items)
     ++ frame_lines t.difference.now.in_port t.difference.now.frame.items ++ region_line t.region
 
-unfoldable pub difference_words : FileFlows → FileFlows → Forwarding → Told → List ℕ
-difference_words a b f t =
-    difference_head f t ++ switch_words (codes "    first: ") a t.first.all.items t.difference.now.frame.items t.difference.now.first.items
+unfoldable pub both_switches_words : FileFlows → FileFlows → Told → List ℕ
+both_switches_words a b t =
+    switch_words (codes "    first: ") a t.first.all.items t.difference.now.frame.items t.difference.now.first.items
     ++ switch_words (codes "    second: ") b t.second.all.items t.difference.now.frame.items t.difference.now.second.items
-    ++ sets_line (length t.difference.now.sets.items) ++ also_line t.also.items
+
+unfoldable pub sets_and_also_words : Told → List ℕ
+sets_and_also_words t = sets_line (length t.difference.now.sets.items) ++ also_line t.also.items
+
+unfoldable pub difference_words : FileFlows → FileFlows → Forwarding → Told → List ℕ
+difference_words a b f t = difference_head f t ++ both_switches_words a b t ++ sets_and_also_words t
 
 -- ---- differences of frames whose TTL expires: `of frames whose TTL expires: 2 differences, such as --port 1 HEX`
 
@@ -168,10 +173,14 @@ regions_of why n [] = []
 regions_of why n (u ∷ us) =
     if nat_lt 0 n && is_why why u.undecided.now.why then region_line u.region ++ regions_of why (n - 1) us else regions_of why n us
 
+-- and how many more there are
+abbrev pub more_regions : ℕ → List ℕ
+more_regions n = if nat_lt line.REGIONS n then filled line.MORE_REGIONS (decimal (n - line.REGIONS) ∷ []) else []
+
 unfoldable pub lines_of_reason : ℕ → List ToldUndecided → Why → List ℕ
 lines_of_reason n undecided why =
     if n == 0 then []
-    else undecided_sets n ++ undecided_why why ++ regions_of why line.REGIONS undecided ++ (if nat_lt line.REGIONS n then filled line.MORE_REGIONS (decimal (n - line.REGIONS) ∷ []) else [])
+    else undecided_sets n ++ undecided_why why ++ regions_of why line.REGIONS undecided ++ more_regions n
 
 abbrev pub reason_lines : List ToldUndecided → Why → List ℕ
 reason_lines undecided why = lines_of_reason (count_why why undecided) undecided why

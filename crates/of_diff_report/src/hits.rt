@@ -129,12 +129,19 @@ pub fn side_hits<L: Lookup>(
 pub fn are_same_hits(a: &[Hit], b: &[Hit]) -> bool
     ensures { result ≡ are_same_hits_by a.now b.now }
 {
-    match (a, b) {
-        ([], []) => true,
-        ([hit, hits @ ..], [other, others @ ..]) => {
-            hit.table == other.table && hit.number == other.number && are_same_hits(hits, others)
-        }
-        _ => false,
+    match a {
+        [] => match b {
+            [] => true,
+            [_, ..] => false,
+        },
+        [hit, hits @ ..] => match b {
+            [] => false,
+            [other, others @ ..] => {
+                hit.table == other.table
+                    && hit.number == other.number
+                    && are_same_hits(hits, others)
+            }
+        },
     }
 }
 

@@ -1,6 +1,8 @@
 //! What is found about two switches, as JSON.
 ghost use Rattle.std.specs.Prelude.{◌≡◌, ◌++◌, codes, IfOk, OnOk};
 ghost use Rattle.of_json.specs.ChangesInJson.{changes_member};
+ghost use Rattle.of_json.specs.Parts.{listed};
+ghost use Rattle.of_json.specs.Strings.{array_member};
 ghost use Rattle.of_diff_report.specs.DiffJson.{also_member, also_object, begin_at, both_hits_members, diff_head, diff_json, difference_members, difference_object, differences_member, limits_member, other_ports_json, region_members, region_string, regions_member, same_in_json, side_hits_members, undecided_member, undecided_string, why_name};
 
 use crate::hits::{DiffSide, FileFlows, SideHits, push_changed_member, push_hits_member};
@@ -12,9 +14,9 @@ use of_alike::Where;
 use of_classifier::Lookup;
 use of_diff::{Difference, Differences, Why};
 use of_json::{
-    push_array_member, push_bytes_member, push_changes_member, push_document_head,
-    push_items_member, push_number_member, push_quoted, push_string, push_string_member,
-    push_truth,
+    begin_array, push_array_member, push_bytes_member, push_changes_member, push_document_head,
+    push_items_member, push_listed, push_number_member, push_quoted, push_string,
+    push_string_member, push_truth,
 };
 use of_machine::Item;
 use of_values::Part::{Number, Text};
@@ -172,6 +174,31 @@ fn push_difference_object<L: Lookup>(
     Ok(())
 }
 
+fn difference_objects<L: Lookup>(
+    alloc: Global,
+    first: &DiffSide<'_, L>,
+    second: &DiffSide<'_, L>,
+    told: &[Told<'_>],
+) -> Result<Vec<u8>, AllocError>
+    ensures { IfOk result (λ text. text.items ≡ listed (difference_object first.now.flows second.now.flows) told.now) }
+{
+    let mut out = Vec::new(alloc);
+    push_listed(&mut out, told, |out, one| {
+        push_difference_object(alloc, out, first, second, one)
+    })?;
+    Ok(out)
+}
+
+#[tactic(auto, unfolding(of_json::specs::Strings::array_member))]
+fn push_texts_member(out: &mut Vec<u8>, name: &[u8], texts: &[u8]) -> Result<(), AllocError>
+    ensures { OnOk result (out.new.items ≡ out.old.items ++ array_member name.now texts.now) }
+{
+    begin_array(out, name)?;
+    out.extend_from_slice(texts)?;
+    out.push(b']')?;
+    Ok(())
+}
+
 #[tactic(auto, unfolding(crate::specs::DiffJson::differences_member))]
 fn push_differences_member<L: Lookup>(
     alloc: Global,
@@ -182,9 +209,8 @@ fn push_differences_member<L: Lookup>(
 ) -> Result<(), AllocError>
     ensures { OnOk result (out.new.items ≡ out.old.items ++ differences_member first.now.flows second.now.flows told.now) }
 {
-    push_array_member(out, b"differences", told, |out, one| {
-        push_difference_object(alloc, out, first, second, one)
-    })
+    let objects = difference_objects(alloc, first, second, told)?;
+    push_texts_member(out, b"differences", &objects)
 }
 
 // ---- why frames are undecided
@@ -229,6 +255,16 @@ fn push_region(alloc: Global, out: &mut Vec<u8>, told: &ToldUndecided<'_>) -> Re
     push_string(out, &text)
 }
 
+fn region_strings(alloc: Global, undecided: &[ToldUndecided<'_>]) -> Result<Vec<u8>, AllocError>
+    ensures { IfOk result (λ text. text.items ≡ listed region_string undecided.now) }
+{
+    let mut out = Vec::new(alloc);
+    push_listed(&mut out, undecided, |out, told| {
+        push_region(alloc, out, told)
+    })?;
+    Ok(out)
+}
+
 #[tactic(auto, unfolding(crate::specs::DiffJson::regions_member))]
 fn push_regions_member(
     alloc: Global,
@@ -237,12 +273,8 @@ fn push_regions_member(
 ) -> Result<(), AllocError>
     ensures { OnOk result (out.new.items ≡ out.old.items ++ regions_member undecided.now) }
 {
-    push_array_member(
-        out,
-        b"undecided_regions",
-        undecided,
-        |out, told| push_region(alloc, out, told),
-    )
+    let strings = region_strings(alloc, undecided)?;
+    push_texts_member(out, b"undecided_regions", &strings)
 }
 
 // ---- the document

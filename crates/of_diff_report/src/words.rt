@@ -1,7 +1,7 @@
 //! What is found about two switches, in words.
 ghost use Rattle.std.specs.Prelude.{◌≡◌, ◌++◌, [], IfOk, OnOk};
 ghost use Rattle.std.specs.List.{flat_map, list_all, list_any};
-ghost use Rattle.of_diff_report.specs.DiffWords.{also_line, are_of_expired, are_same, are_same_with, count_why, diff_summary, diff_words, difference_count, difference_head, difference_words, expired_count, expired_words, first_expired_words, further_place, is_expired_difference, is_expired_item, is_of_expired, is_same_place, limits_line, missing_line, missing_lines, other_ports_words, reason_lines, regions_of, same_words, sets_line, switch_words, told_words, undecided_why, undecided_words, where_words, wheres_after, with_where};
+ghost use Rattle.of_diff_report.specs.DiffWords.{also_line, are_of_expired, are_same, both_switches_words, lines_of_reason, more_regions, sets_and_also_words, are_same_with, count_why, diff_summary, diff_words, difference_count, difference_head, difference_words, expired_count, expired_words, first_expired_words, further_place, is_expired_difference, is_expired_item, is_of_expired, is_same_place, limits_line, missing_line, missing_lines, other_ports_words, reason_lines, regions_of, same_words, sets_line, switch_words, told_words, undecided_why, undecided_words, where_words, wheres_after, with_where};
 
 use crate::hits::{DiffSide, FileFlows, MarkedHit, push_hit_lines};
 use crate::region::push_region_line;
@@ -221,6 +221,47 @@ fn push_difference_head<L: Lookup>(
     push_region_line(out, &told.region)
 }
 
+// Appends what both switches do with a frame.
+#[tactic(auto, unfolding(crate::specs::DiffWords::both_switches_words))]
+fn push_both_switches(
+    alloc: Global,
+    out: &mut Vec<u8>,
+    first: &FileFlows<'_>,
+    second: &FileFlows<'_>,
+    told: &Told<'_>,
+) -> Result<(), AllocError>
+    ensures { OnOk result (out.new.items ≡ out.old.items ++ both_switches_words first.now second.now told.now) }
+{
+    let difference = told.difference;
+    push_switch(
+        alloc,
+        out,
+        b"    first: ",
+        first,
+        &told.first.all,
+        &difference.frame,
+        &difference.first,
+    )?;
+    push_switch(
+        alloc,
+        out,
+        b"    second: ",
+        second,
+        &told.second.all,
+        &difference.frame,
+        &difference.second,
+    )
+}
+
+// Appends how many sets of frames a difference has, and what is told with it.
+#[tactic(auto, unfolding(crate::specs::DiffWords::sets_and_also_words))]
+fn push_further(alloc: Global, out: &mut Vec<u8>, told: &Told<'_>) -> Result<(), AllocError>
+    ensures { OnOk result (out.new.items ≡ out.old.items ++ sets_and_also_words told.now) }
+{
+    push_sets_line(out, told.difference.sets.len())?;
+    push_also(alloc, out, &told.also)
+}
+
 // Appends a difference: where, the frame, what both switches do with it, and what is told with it.
 #[tactic(auto, unfolding(crate::specs::DiffWords::difference_words))]
 fn push_difference<L: Lookup>(
@@ -233,29 +274,9 @@ fn push_difference<L: Lookup>(
     ensures { OnOk result (out.new.items ≡ out.old.items ++
         difference_words first.now.flows second.now.flows first.now.switch.now.core.forwarding told.now) }
 {
-    let difference = told.difference;
-    let (frame, one, other) = (&difference.frame, &told.first.all, &told.second.all);
     push_difference_head(alloc, out, first.switch, told)?;
-    push_switch(
-        alloc,
-        out,
-        b"    first: ",
-        &first.flows,
-        one,
-        frame,
-        &difference.first,
-    )?;
-    push_switch(
-        alloc,
-        out,
-        b"    second: ",
-        &second.flows,
-        other,
-        frame,
-        &difference.second,
-    )?;
-    push_sets_line(out, difference.sets.len())?;
-    push_also(alloc, out, &told.also)
+    push_both_switches(alloc, out, &first.flows, &second.flows, told)?;
+    push_further(alloc, out, told)
 }
 
 // ---- differences of frames whose TTL expires
@@ -283,12 +304,18 @@ fn expires(difference: &Difference) -> bool
     some_expire(&difference.first) || some_expire(&difference.second)
 }
 
+fn all_of_expired(also: &[&Difference]) -> bool
+    ensures { result ≡ list_all is_expired_difference also.now }
+{
+    also.iter().all(|difference| expires(difference))
+}
+
 // Whether the TTL expires of each frame of those that are told together.
 #[tactic(auto, unfolding(crate::specs::DiffWords::are_of_expired))]
 fn all_expire(told: &Told<'_>) -> bool
     ensures { result ≡ are_of_expired told.now }
 {
-    expires(told.difference) && told.also.iter().all(|difference| expires(difference))
+    expires(told.difference) && all_of_expired(&told.also)
 }
 
 // Appends differences, except those that are only counted.
@@ -392,8 +419,36 @@ fn push_regions(
     Ok(())
 }
 
+// Appends of how many sets no region is printed, if there are such.
+fn push_more_regions(out: &mut Vec<u8>, count: usize) -> Result<(), AllocError>
+    ensures { OnOk result (out.new.items ≡ out.old.items ++ more_regions count) }
+{
+    if count > REGIONS {
+        put(out, &MORE_REGIONS, &[Number((count - REGIONS) as u128)])
+    } else {
+        Ok(())
+    }
+}
+
+#[tactic(auto, unfolding(crate::specs::DiffWords::lines_of_reason))]
+fn push_lines_of_reason(
+    out: &mut Vec<u8>,
+    count: usize,
+    undecided: &[ToldUndecided<'_>],
+    why: Why,
+) -> Result<(), AllocError>
+    ensures { OnOk result (out.new.items ≡ out.old.items ++ lines_of_reason count undecided.now why) }
+{
+    if count == 0 {
+        return Ok(());
+    }
+    push_undecided_sets(out, count)?;
+    out.extend_from_slice(sentence(why))?;
+    push_regions(out, undecided, why)?;
+    push_more_regions(out, count)
+}
+
 // Appends how many sets of frames are undecided for a reason, and regions of them, if there are such.
-#[tactic(auto, unfolding(crate::specs::DiffWords::reason_lines))]
 fn push_reason(
     out: &mut Vec<u8>,
     undecided: &[ToldUndecided<'_>],
@@ -401,17 +456,7 @@ fn push_reason(
 ) -> Result<(), AllocError>
     ensures { OnOk result (out.new.items ≡ out.old.items ++ reason_lines undecided.now why) }
 {
-    let count = count_undecided(undecided, why);
-    if count == 0 {
-        return Ok(());
-    }
-    push_undecided_sets(out, count)?;
-    out.extend_from_slice(sentence(why))?;
-    push_regions(out, undecided, why)?;
-    if count > REGIONS {
-        put(out, &MORE_REGIONS, &[Number((count - REGIONS) as u128)])?;
-    }
-    Ok(())
+    push_lines_of_reason(out, count_undecided(undecided, why), undecided, why)
 }
 
 #[tactic(auto, unfolding(crate::specs::DiffWords::undecided_words))]
