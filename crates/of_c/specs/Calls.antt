@@ -2,7 +2,7 @@
 use Rattle.std.specs.Prelude.{◌≡◌, ◌⊎◌, ℕ, ◌==◌, ◌&&◌, not, Bool, true, false, List, [], length, Option, Some, None, Result, Ok, Err, if◌then◌else◌}
 use Rattle.of_text.specs.Lines.{lines_of}
 use Rattle.of_values.specs.Origins.{view_origins}
-use Rattle.of_import.specs.declared.mode.Mode.{Mode}
+use Rattle.of_ovs_lines.specs.declared.mode.Mode.{Mode}
 use Rattle.of_import_report.specs.Answers.{IsAnswer}
 use Rattle.of_switch.specs.State.{State}
 use Rattle.of_replay.specs.declared.event_file.Ended.{Ended}

@@ -4,8 +4,8 @@ ghost use Rattle.of_c.specs.Answers.{Gives};
 ghost use Rattle.of_c.specs.Calls.{IsImported, status_of_left_out as status_for};
 
 use crate::answer::{Answer, NO_MEMORY, Outcome, give};
-use of_import::Mode;
 use of_import_report::import_as_json;
+use of_ovs_lines::Mode;
 use std::alloc::Global;
 
 fn status_of_left_out(left_out: Option<u128>) -> u8

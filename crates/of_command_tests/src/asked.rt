@@ -2,8 +2,8 @@
 use crate::checks::same;
 use of_cache::Cached;
 use of_explain::say_messages;
+use of_live::{RunningRow, read_running_row};
 use of_mask_groups::MaskGroups;
-use of_network::{RunningRow, read_running_row};
 use of_replay::memory::{MemorySink, MemorySource};
 use of_replay::{Ended, Plain, print_file};
 use of_switch::{Event, PortChange};

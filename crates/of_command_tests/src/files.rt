@@ -4,7 +4,7 @@ use of_classifier::Scan;
 use of_files::{
     Content, content_of, missing_ports, named_ports, play_file, ports_for, read_table, read_text,
 };
-use of_import::Mode;
+use of_ovs_lines::Mode;
 use of_replay::{Ended, switch_of_config};
 use of_values::Origin;
 use std::alloc::Global;

@@ -1,9 +1,8 @@
 //! A switch on a network in memory: what passes, against the text that RFC 7348 and the rows of event files give.
 use crate::checks::same;
 use of_cache::Cached;
-use of_live::{Live, live};
+use of_live::{Endpoint, Live, live};
 use of_mask_groups::MaskGroups;
-use of_network::Endpoint;
 use of_replay::Ended;
 use of_replay::memory::MemorySource;
 use of_sockets::read_rows;

@@ -2,7 +2,7 @@
 use Rattle.std.proofs.Common.{◌≡◌, ◌∙◌, ◌++◌, ℕ, List, Result, Ok, Err, ap, append_assoc}
 use Rattle.std.specs.Prelude.{OnOk}
 use Rattle.of_machine.specs.declared.data.Item.{Item}
-use Rattle.of_changes.specs.ChangesInJson.{changes_member}
+use Rattle.of_json.specs.ChangesInJson.{changes_member}
 
 pub both_changes : (name name' out x y frame f f' : List ℕ) (first second i j : List Item) → x ≡ out ++ changes_member name f i → y ≡ x ++ changes_member name' f' j
     → f ≡ frame → f' ≡ frame → i ≡ first → j ≡ second → y ≡ out ++ changes_member name frame first ++ changes_member name' frame second

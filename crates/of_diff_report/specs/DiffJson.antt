@@ -14,7 +14,7 @@ use Rattle.of_diff.specs.declared.difference.Undecided.{Undecided}
 use Rattle.of_diff.specs.declared.difference.Why.{Why}
 use Rattle.of_diff.specs.declared.difference.Why.TheVariants.{OtherActions, Search, Steps, UnknownTag}
 use Rattle.of_json.specs.LeavingJson.{controller_place, items_member, port_place}
-use Rattle.of_changes.specs.ChangesInJson.{changes_member}
+use Rattle.of_json.specs.ChangesInJson.{changes_member}
 use Rattle.of_diff_report.specs.declared.hits.FileFlows.{FileFlows}
 use Rattle.of_diff_report.specs.declared.hits.SideHits.{SideHits}
 use Rattle.of_diff_report.specs.declared.reserved.Limits.{Limits}

@@ -13,7 +13,7 @@ use Rattle.of_datapath.specs.Datapath.{Forwarding}
 use Rattle.of_trace.specs.Words.{heading}
 use Rattle.of_json.specs.LeavingWords.{frame_lines}
 use Rattle.of_json.specs.UndecidedWords.{undecided_count, undecided_sets}
-use Rattle.of_changes.specs.ChangesInWords.{changed_side_words}
+use Rattle.of_json.specs.ChangesInWords.{changed_side_words}
 use Rattle.of_alike.specs.declared.alike.Compared.{Compared}
 use Rattle.of_alike.specs.declared.alike.Compared.TheVariants.{All, Frames}
 use Rattle.of_alike.specs.declared.alike.Where.{Where}

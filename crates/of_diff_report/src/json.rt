@@ -1,7 +1,7 @@
 //! What is found about two switches, as JSON.
 ghost use Rattle.std.specs.Prelude.{◌≡◌, ◌++◌, codes, decimal, IfOk, OnOk};
 ghost use Rattle.of_json.specs.Strings.{array_member};
-ghost use Rattle.of_changes.specs.ChangesInJson.{changes_member};
+ghost use Rattle.of_json.specs.ChangesInJson.{changes_member};
 ghost use Rattle.of_diff_report.specs.DiffJson.{also_member, also_object, at_member, both_hits_members, diff_document, diff_head, diff_json, difference_members, difference_object, differences_listed, limits_in_json, limits_member as limits_member_of, missing_member, other_ports_json, region_members, same_in_json, set_members, side_hits_members, ttl_members, undecided_member, undecided_string, why_name};
 
 use crate::hits::{DiffSide, FileFlows, SideHits, push_changed_member, push_hits_member};
@@ -10,14 +10,9 @@ use crate::reserved::{Limits, Reserved};
 use crate::telling::Told;
 use crate::words::is_same_with;
 use of_alike::Where;
-use of_changes::push_changes_member;
+use of_json::{begin_array, push_array_member, push_bytes_member, push_changes_member, push_controller_place, push_document_head, push_items_member, push_key, push_listed, push_number_member, push_port_place, push_quoted, push_string_member, push_truth};
 use of_classifier::Lookup;
 use of_diff::{Difference, Differences, Undecided, Why};
-use of_json::{
-    begin_array, push_array_member, push_bytes_member, push_controller_place, push_document_head,
-    push_items_member, push_key, push_listed, push_number_member, push_port_place, push_quoted,
-    push_string_member, push_truth,
-};
 use of_symbolic_run::FrameSet;
 use of_values::push_decimal;
 use std::alloc::{AllocError, Global};

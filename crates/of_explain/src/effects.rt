@@ -57,23 +57,21 @@ pub fn push_effects(alloc: Global, out: &mut Vec<u8>, effects: &[Effect]) -> Res
     Ok(())
 }
 
-fn refusal_words(refusal: SwitchError) -> &'static [u8]
-    ensures { result.now ≡ words_of_refusal refusal }
-{
-    match refusal {
-        SwitchError::NoMemory => b"refused: no memory",
-        SwitchError::NotConnected => b"refused: there is no connection",
-        SwitchError::Connected => b"refused: there is a connection already",
-        SwitchError::PortExists => b"refused: there is a port of that number already",
-        SwitchError::NoSuchPort => b"refused: there is no port of that number",
-        SwitchError::TooManyPorts => b"refused: there are 64 ports already",
-        SwitchError::BadPortNumber => b"refused: a port's number is 1 to 4294967040",
-    }
-}
-
 /// Appends why an event is refused.
 pub fn push_refusal(out: &mut Vec<u8>, refusal: SwitchError) -> Result<(), AllocError>
     ensures { OnOk result (out.new.items ≡ out.old.items ++ note (words_of_refusal refusal)) }
 {
-    push_note(out, refusal_words(refusal))
+    match refusal {
+        SwitchError::NoMemory => push_note(out, b"refused: no memory"),
+        SwitchError::NotConnected => push_note(out, b"refused: there is no connection"),
+        SwitchError::Connected => push_note(out, b"refused: there is a connection already"),
+        SwitchError::PortExists => {
+            push_note(out, b"refused: there is a port of that number already")
+        }
+        SwitchError::NoSuchPort => push_note(out, b"refused: there is no port of that number"),
+        SwitchError::TooManyPorts => push_note(out, b"refused: there are 64 ports already"),
+        SwitchError::BadPortNumber => {
+            push_note(out, b"refused: a port's number is 1 to 4294967040")
+        }
+    }
 }

@@ -9,7 +9,7 @@ use Rattle.of_switch.specs.Loading.{config_of}
 use Rattle.of_replay.specs.declared.event_file.Ended.TheVariants.{NoMemory}
 use Rattle.of_replay.specs.FileRuns.{IsRead, IsValue}
 use Rattle.of_replay.specs.Loaded.{switch_with}
-use Rattle.of_import.specs.declared.mode.Mode.{Mode}
+use Rattle.of_ovs_lines.specs.declared.mode.Mode.{Mode}
 use Rattle.of_import.specs.Imports.{NoImport}
 use Rattle.of_files.specs.declared.contents.Content.{Content}
 use Rattle.of_files.specs.declared.contents.Content.TheVariants.{FlowText, EventFile, OvsTable}

@@ -6,10 +6,9 @@ ghost use Rattle.of_replay.specs.FileRuns.{IsRead};
 ghost use Rattle.of_files.specs.FileTables.{IsNothingLeftOut, IsTableRead, tables_of_text};
 
 use crate::flow_lines::text_origins;
-use of_import::{
-    ImportConfig, ImportError, KeptLines, LineFaults, LineRefusal, Mode, import_config,
-};
+use of_import::{ImportConfig, ImportError, KeptLines, LineFaults, LineRefusal, import_config};
 use of_import_report::table_origins;
+use of_ovs_lines::Mode;
 use of_replay::{Ended, config_of_text};
 use of_text::Config;
 use of_values::Origin;

@@ -1,4 +1,5 @@
-use of_import::{Mode, import_tables};
+use of_import::import_tables;
+use of_ovs_lines::Mode;
 use std::test::Fail;
 
 /// Lines as ovs-ofctl 3.1 prints them of a dump, and one for add-flows.

@@ -1,5 +1,6 @@
-use of_import::{Mode, Why};
+use of_import::Why;
 use of_import_report::{import_as_json, why_words};
+use of_ovs_lines::Mode;
 use std::test::Fail;
 
 /// A line that is left out, and a flow that loses an action.

@@ -17,7 +17,7 @@ use Rattle.of_text.proofs.DigestLemmas.{digest_same, equal_fields}
 use Rattle.of_import.specs.declared.parsed_lines.FlowLine.{FlowLine}
 use Rattle.of_import.specs.Digests.{digests_of, HasDigests, PutsDigest}
 use Rattle.of_import.specs.Kept.{replaces}
-use Rattle.of_import.proofs.SoundLemmas.{and_parts}
+use Rattle.of_ovs_lines.proofs.SoundLemmas.{and_parts}
 
 same_digest : (a b : Flow) → replaces a b ≡ true → flow_digest a ≡ flow_digest b
 same_digest a b h =

@@ -12,7 +12,7 @@ use Rattle.of_import.specs.declared.parsed_lines.FlowLine.{FlowLine}
 use Rattle.of_import.specs.declared.parsed_lines.GroupLine.{GroupLine}
 use Rattle.of_import.specs.ParsedLinesViews.{view_flow_line, view_group_line}
 use Rattle.of_import.specs.declared.kept.LineRefusal.{LineRefusal}
-use Rattle.of_import.specs.declared.mode.Mode.{Mode}
+use Rattle.of_ovs_lines.specs.declared.mode.Mode.{Mode}
 use Rattle.of_import.specs.declared.kept.KeptLines.{KeptLines}
 use Rattle.of_import.specs.declared.parsed_lines.LineFaults.{LineFaults}
 use Rattle.of_import.specs.declared.import.ImportError.{ImportError}

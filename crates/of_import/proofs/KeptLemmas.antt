@@ -25,7 +25,7 @@ use Rattle.of_import.specs.KeptViews.{view_refusal}
 use Rattle.of_import.specs.ParsedLines.{FlowAt}
 use Rattle.of_import.specs.ParsedLinesViews.{AreSoundGroups, FlowIsSound, GroupFits, id_of, view_flow_line, view_group_line}
 use Rattle.of_import.proofs.ParsedLinesLemmas.{all_filtered, all_more, any_mapped, filter_mapped}
-use Rattle.of_import.proofs.SoundLemmas.{all_back, all_front}
+use Rattle.of_ovs_lines.proofs.SoundLemmas.{all_back, all_front}
 
 -- the groups of lines
 pub group_texts : (gs : List GroupLine) → map (λ g. view_group g.group) gs ≡ groups_in (map view_group_line gs)

@@ -1,5 +1,3 @@
-pub mod LineLemmas
-pub mod SoundLemmas
 pub mod ParsedLinesLemmas
 pub mod RowLemmas
 pub mod NumberLemmas
@@ -8,4 +6,3 @@ pub mod KeptLemmas
 pub mod ImportLemmas
 pub mod NoteLemmas
 pub mod CounterLemmas
-pub mod PortNameLemmas

@@ -13,7 +13,7 @@ use Rattle.of_import.specs.Kept.{Kept}
 use Rattle.of_values.specs.Origins.{printable}
 use Rattle.of_import.specs.Notes.{left_out_action_words, comment, fault_words, mark_notes, notes_of, part_words, refusal_words, resubmit_note, resubmit_words, renumbered_table_words}
 use Rattle.of_import.specs.ParsedLines.{FlowAt}
-use Rattle.of_import.specs.PartialFlows.{Refusal}
+use Rattle.of_ovs_lines.specs.PartialFlows.{Refusal}
 
 -- whatever follows these bytes, it has the same lines that count
 abbrev pub Passes : List ℕ → Type 0

@@ -19,8 +19,8 @@ use Rattle.of_text.proofs.ConfigLemmas.{IsWhole, rows_from}
 use Rattle.of_import.specs.declared.parsed_lines.FlowLine.{FlowLine}
 use Rattle.of_import.specs.declared.parsed_lines.GroupLine.{GroupLine}
 use Rattle.of_import.specs.ParsedLinesViews.{id_of, view_group_line, view_flow_line, AreSoundGroups, FlowIsSound}
-use Rattle.of_import.specs.Sound.{IsSoundFlow}
-use Rattle.of_import.proofs.SoundLemmas.{and_parts}
+use Rattle.of_ovs_lines.specs.Sound.{IsSoundFlow}
+use Rattle.of_ovs_lines.proofs.SoundLemmas.{and_parts}
 
 -- a place in the group of that number
 abbrev pub IsIn : ℕ → Place → Type 0

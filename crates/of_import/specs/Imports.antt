@@ -6,7 +6,7 @@ use Rattle.of_text.specs.Configs.{Configuration, EncodeConfig, tables_of_flows, 
 use Rattle.of_text.specs.Groups.{TextGroup}
 use Rattle.of_text.specs.Lines.{lines_of}
 use Rattle.of_text.specs.First.{first_refusal}
-use Rattle.of_import.specs.declared.mode.Mode.{Mode}
+use Rattle.of_ovs_lines.specs.declared.mode.Mode.{Mode}
 use Rattle.of_import.specs.declared.parsed_lines.LineFaults.{LineFaults}
 use Rattle.of_import.specs.declared.kept.KeptLines.{KeptLines}
 use Rattle.of_import.specs.declared.kept.LineRefusal.{LineRefusal}

@@ -1,11 +1,3 @@
-pub mod PartialFlows
-pub mod PartialFlowViews
-pub mod PartialGroups
-pub mod PartialGroupViews
-pub mod Finished
-pub mod LineContents
-pub mod LineContentViews
-pub mod Sound
 pub mod ParsedLines
 pub mod ParsedLinesViews
 pub mod Kept
@@ -17,4 +9,3 @@ pub mod Notes
 pub mod Counters
 pub mod CounterViews
 pub mod Imports
-pub mod PortNames

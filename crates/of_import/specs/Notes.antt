@@ -3,7 +3,7 @@ use Rattle.std.specs.Prelude.{ℕ, ◌+◌, ◌==◌, not, Bool, List, [], ◌�
 use Rattle.std.specs.List.{flat_map}
 use Rattle.of_wire.specs.declared.code.Code.{Code}
 use Rattle.of_values.specs.Origins.{printable}
-use Rattle.of_import.specs.PartialFlows.{Refusal}
+use Rattle.of_ovs_lines.specs.PartialFlows.{Refusal}
 use Rattle.of_import.specs.ParsedLines.{FlowAt}
 use Rattle.of_import.specs.Kept.{Kept}
 

@@ -4,9 +4,9 @@ use Rattle.std.specs.List.{list_any}
 use Rattle.of_text.specs.Flows.{Flow as TextFlow}
 use Rattle.of_text.specs.Groups.{TextGroup}
 use Rattle.of_ovs_words.specs.declared.why.Why.TheVariants.{Again}
-use Rattle.of_import.specs.declared.mode.Mode.{Mode}
-use Rattle.of_import.specs.PartialFlows.{Refusal}
-use Rattle.of_import.specs.LineContents.{LineContent, Marks, Nothing, Group, Flow, Refused, parsed_line}
+use Rattle.of_ovs_lines.specs.declared.mode.Mode.{Mode}
+use Rattle.of_ovs_lines.specs.PartialFlows.{Refusal}
+use Rattle.of_ovs_lines.specs.LineContents.{LineContent, Marks, Nothing, Group, Flow, Refused, parsed_line}
 
 -- a flow with its line, counted from 1
 pub record FlowAt : Type 0 where

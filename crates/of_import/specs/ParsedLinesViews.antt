@@ -9,10 +9,10 @@ use Rattle.of_import.specs.declared.parsed_lines.GroupLine.{GroupLine}
 use Rattle.of_import.specs.declared.parsed_lines.FlowLine.{FlowLine}
 use Rattle.of_import.specs.declared.parsed_lines.LineFaults.{LineFaults}
 use Rattle.of_import.specs.declared.parsed_lines.ParsedLines.{ParsedLines as Declared}
-use Rattle.of_import.specs.PartialFlows.{Refusal}
-use Rattle.of_import.specs.PartialFlowViews.{view_word_fault}
-use Rattle.of_import.specs.LineContentViews.{view_marks}
-use Rattle.of_import.specs.Sound.{IsSoundFlow}
+use Rattle.of_ovs_lines.specs.PartialFlows.{Refusal}
+use Rattle.of_ovs_lines.specs.PartialFlowViews.{view_word_fault}
+use Rattle.of_ovs_lines.specs.LineContentViews.{view_marks}
+use Rattle.of_ovs_lines.specs.Sound.{IsSoundFlow}
 use Rattle.of_import.specs.ParsedLines.{FlowAt, ParsedLines}
 
 abbrev pub view_group_line : GroupLine → ℕ × TextGroup

@@ -18,10 +18,10 @@ ghost use Rattle.of_import.specs.declared.import.ImportError.TheVariants.{NoMemo
 use crate::copies::{copy_flow, copy_group};
 use crate::counters::{counter_notes, push_with_notes};
 use crate::kept::{KeptLines, LineRefusal, keep};
-use crate::mode::Mode;
 use crate::notes::{count_changed, notes_for};
 use crate::parsed_lines::{FlowLine, GroupLine, LineFaults, ParsedLines, read_tables};
 use crate::table_numbers::TableNumbers;
+use of_ovs_lines::Mode;
 use of_oxm::Code;
 use of_text::{Config, FillError, FlowText, GroupText, disassemble, texts_are_of_configs};
 use of_wire::number_at;

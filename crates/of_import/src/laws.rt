@@ -6,7 +6,7 @@ ghost use Rattle.of_import.specs.Counters.{with_counters};
 ghost use Rattle.of_import.specs.Kept.{Kept};
 ghost use Rattle.of_import.specs.Notes.{notes_of};
 ghost use Rattle.of_import.specs.ParsedLines.{FlowAt};
-ghost use Rattle.of_import.specs.PartialFlows.{Refusal};
+ghost use Rattle.of_ovs_lines.specs.PartialFlows.{Refusal};
 
 /// The comments before a text and behind its flows change nothing of what the text encodes: with them it is read back as the same configuration.
 pub fn comments_change_nothing()

@@ -4,11 +4,11 @@ ghost use Rattle.std.specs.List.{flat_map};
 ghost use Rattle.of_import.specs.KeptViews.{loses_action, view_kept, view_refusal};
 ghost use Rattle.of_import.specs.Notes.{left_out_action_words, comment, counter_note as counter_note_of, fault_words, is_changed as is_changed_line, mark_notes, notes_of, part_note, part_words, refusal_words, resubmit_note, renumbered_table_words, word_after_space};
 ghost use Rattle.of_import.specs.ParsedLinesViews.{view_faults, view_flow_line};
-ghost use Rattle.of_import.specs.PartialFlowViews.{view_word_fault};
+ghost use Rattle.of_ovs_lines.specs.PartialFlowViews.{view_word_fault};
 
 use crate::kept::{KeptLines, LineRefusal};
 use crate::parsed_lines::{FlowLine, LineFaults};
-use crate::word_fault::WordFault;
+use of_ovs_lines::WordFault;
 use of_text::push_number;
 use of_values::push_printable;
 use std::alloc::{AllocError, Global};

@@ -1,7 +1,7 @@
 -- The answer about a table.
 use Rattle.std.proofs.Common.{◌≡◌, ℕ, false, List, Result, Ok, Err, inl, inr}
 use Rattle.std.specs.Prelude.{IfOk, Some, None}
-use Rattle.of_import.specs.declared.mode.Mode.{Mode}
+use Rattle.of_ovs_lines.specs.declared.mode.Mode.{Mode}
 use Rattle.of_import.specs.declared.import.Import.{Import}
 use Rattle.of_import.specs.declared.import.ImportError.{ImportError}
 use Rattle.of_import.specs.Imports.{IsImport, NoImport}

@@ -4,7 +4,7 @@ use Rattle.std.specs.Prelude.{◌||◌}
 use Rattle.std.specs.List.{list_any}
 use Rattle.std.specs.Str.{bytes_eq}
 use Rattle.std.specs.Global.{Vec}
-use Rattle.of_import.specs.declared.word_fault.WordFault.{WordFault}
+use Rattle.of_ovs_lines.specs.declared.word_fault.WordFault.{WordFault}
 use Rattle.of_import_report.specs.Keywords.{keyword_of_fault, with_keyword}
 use Rattle.of_import_report.specs.Views.{view_names}
 

@@ -1,6 +1,6 @@
 -- WHAT `import --json` ANSWERS ABOUT A TABLE of Open vSwitch: the document on its import, or on why there is none.
 use Rattle.std.specs.Prelude.{◌≡◌, ◌⊎◌, ℕ, false, List, Option, Some, None}
-use Rattle.of_import.specs.declared.mode.Mode.{Mode}
+use Rattle.of_ovs_lines.specs.declared.mode.Mode.{Mode}
 use Rattle.of_import.specs.declared.parsed_lines.LineFaults.{LineFaults}
 use Rattle.of_import.specs.declared.kept.KeptLines.{KeptLines}
 use Rattle.of_import.specs.declared.import.ImportError.{ImportError}

@@ -6,7 +6,7 @@ use Rattle.of_ovs_words.specs.declared.why.Why.TheVariants as whys
 use Rattle.of_ovs_words.specs.Words.{word_name}
 use Rattle.of_values.specs.Origins.{printable}
 use Rattle.of_import.specs.declared.parsed_lines.LineFaults.{LineFaults}
-use Rattle.of_import.specs.declared.word_fault.WordFault.{WordFault}
+use Rattle.of_ovs_lines.specs.declared.word_fault.WordFault.{WordFault}
 use Rattle.of_import_report.specs.Help.{help_of, word_reason}
 
 -- `: 0 to 7`

@@ -5,11 +5,11 @@ use Rattle.of_text.specs.Lines.{lines_of}
 use Rattle.of_values.specs.Origins.{view_words}
 use Rattle.of_json.specs.Parts.{document_head, key, listed, match_object, number_member, text_member, truth_member}
 use Rattle.of_json.specs.Strings.{array_member, counters_member, string, string_member, string_of}
-use Rattle.of_import.specs.declared.word_fault.WordFault.{WordFault}
+use Rattle.of_ovs_lines.specs.declared.word_fault.WordFault.{WordFault}
 use Rattle.of_import.specs.declared.parsed_lines.LineFaults.{LineFaults}
 use Rattle.of_import.specs.declared.parsed_lines.FlowLine.{FlowLine}
 use Rattle.of_import.specs.declared.parsed_lines.GroupLine.{GroupLine}
-use Rattle.of_import.specs.declared.line.FlowMarks.{FlowMarks}
+use Rattle.of_ovs_lines.specs.declared.line.FlowMarks.{FlowMarks}
 use Rattle.of_import.specs.declared.kept.KeptLines.{KeptLines}
 use Rattle.of_import.specs.declared.kept.LineRefusal.{LineRefusal}
 use Rattle.of_import.specs.declared.import.ImportError.{ImportError}

@@ -4,7 +4,7 @@ use Rattle.std.specs.List.{fold, list_any}
 use Rattle.std.specs.Str.{bytes_eq}
 use Rattle.of_ovs_words.specs.Words.{word_name}
 use Rattle.of_import.specs.declared.parsed_lines.LineFaults.{LineFaults}
-use Rattle.of_import.specs.declared.word_fault.WordFault.{WordFault}
+use Rattle.of_ovs_lines.specs.declared.word_fault.WordFault.{WordFault}
 
 -- the name of a word that is refused
 abbrev pub keyword_of_fault : WordFault → List ℕ

@@ -6,7 +6,8 @@ ghost use Rattle.of_import_report.specs.Answers.{IsAnswer};
 ghost use Rattle.of_import_report.specs.Json.{import_json, is_memory, lines_left_out as left_out_of, no_import_json, refused_json};
 
 use crate::document::{import_document, left_out, refused_document};
-use of_import::{Import, ImportError, LineFaults, LineRefusal, Mode, import_tables};
+use of_import::{Import, ImportError, LineFaults, LineRefusal, import_tables};
+use of_ovs_lines::Mode;
 use std::alloc::Global;
 
 /// What is answered about a table.

@@ -3,11 +3,12 @@ ghost use Rattle.std.specs.Prelude.{◌≡◌, ◌++◌, OnOk};
 ghost use Rattle.of_import_report.specs.Json.{flow_object, group_object, import_entry_members, item_members, marks_members, move_object};
 
 use crate::refusals::push_line_member;
-use of_import::{FlowLine, FlowMarks, GroupLine, KeptLines};
+use of_import::{FlowLine, GroupLine, KeptLines};
 use of_json::{
     push_array_member, push_counters_member, push_key, push_match_object, push_number_member,
     push_string, push_truth_member,
 };
+use of_ovs_lines::FlowMarks;
 use of_values::push_decimal;
 use std::alloc::AllocError;
 

@@ -5,7 +5,8 @@ ghost use Rattle.std.specs.Str.{bytes_eq};
 ghost use Rattle.of_import_report.specs.Keywords.{has_keyword, keyword_of_fault as keyword_of, keywords_in, lines_with, with_keyword, keywords_with_line};
 ghost use Rattle.of_import_report.specs.Views.{view_names};
 
-use of_import::{LineFaults, WordFault, name_of};
+use of_import::{LineFaults, name_of};
+use of_ovs_lines::WordFault;
 use std::alloc::{AllocError, Global};
 
 fn keyword(fault: &WordFault) -> &[u8]

@@ -4,7 +4,8 @@ ghost use Rattle.std.specs.List.{flat_map};
 ghost use Rattle.of_import_report.specs.FaultLines.{behind_colon, refused_word_line, first_words, words_of_refused_line};
 
 use crate::help::{help_of, reason_of};
-use of_import::{LineFaults, WordFault};
+use of_import::LineFaults;
+use of_ovs_lines::WordFault;
 use of_values::{push_decimal, push_printable};
 use std::alloc::{AllocError, Global};
 

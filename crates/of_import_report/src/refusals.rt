@@ -10,11 +10,12 @@ ghost use Rattle.of_import_report.specs.Views.{view_names};
 
 use crate::help::{help_of, reason_of};
 use crate::keywords::{count_lines_with, keywords};
-use of_import::{LineFaults, LineRefusal, WordFault};
+use of_import::{LineFaults, LineRefusal};
 use of_json::{
     begin_array, push_array_member, push_key, push_listed, push_number_member, push_string,
     push_string_member, push_text_member,
 };
+use of_ovs_lines::WordFault;
 use of_values::push_decimal;
 use of_wire::Code;
 use std::alloc::{AllocError, Global};

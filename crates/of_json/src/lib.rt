@@ -2,6 +2,9 @@
 //! ASCII other than quotation marks and backslashes. Strings of other words may have any bytes.
 #![tactic(auto)]
 
+mod altered;
+mod changes_json;
+mod changes_words;
 mod counters;
 mod hits;
 mod items;
@@ -13,6 +16,9 @@ mod parts;
 mod strings;
 mod undecided;
 
+pub use altered::{Change, Property, changes};
+pub use changes_json::push_changes_member;
+pub use changes_words::{item_frame, push_changed_side};
 pub use counters::push_counters_member;
 pub use hits::{Hit, hits_among};
 pub use items::{push_frame_lines, push_side};

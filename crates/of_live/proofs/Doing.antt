@@ -13,8 +13,8 @@ use Rattle.of_switch.specs.Runs.{Report, Gives, IsRefused, Run, run, happened, e
 use Rattle.of_serve.specs.Turns.{answer_in, report_effects}
 use Rattle.of_replay.specs.WrittenRows.{row_text}
 use Rattle.std.proofs.Common.{Option}
-use Rattle.of_network.specs.declared.peers.Peer.{Peer}
-use Rattle.of_network.specs.Acts.{Act, Records}
+use Rattle.of_live.specs.declared.peers.Peer.{Peer}
+use Rattle.of_live.specs.Acts.{Act, Records}
 use Rattle.of_live.specs.Turns.{sent_in}
 use Rattle.of_live.proofs.Passing.{records_as, records_more}
 use Rattle.of_live.specs.Working.{Does, LiveWork, logged_text}

@@ -5,7 +5,7 @@ use Rattle.of_replay.specs.declared.halt.Halt.{Halt}
 use Rattle.of_replay.specs.declared.halt.Halt.TheVariants.{Bad, Memory, Read, Write}
 use Rattle.of_replay.specs.Stepping.{ended_so}
 use Rattle.of_live.specs.Live.{Live}
-use Rattle.of_network.specs.Acts.{Act, Records}
+use Rattle.of_live.specs.Acts.{Act, Records}
 use Rattle.of_live.specs.Turns.{LiveTurns, None, Then, AreLiveTurns, live_turn_count, passed, after_live_turns}
 use Rattle.of_live.specs.Working.{GoesOn, LiveHalts}
 use Rattle.of_live.specs.Ends.{Lives}

@@ -4,3 +4,4 @@ pub mod Messages
 mod Recording
 mod Turning
 pub mod Ending
+mod HeaderLemmas

@@ -10,7 +10,7 @@ use Rattle.of_switch.specs.Steps.{lost}
 use Rattle.of_switch.specs.Runs.{Report, Run, run, happened, effects_in}
 use Rattle.of_serve.specs.Turns.{answer_in, report_effects}
 use Rattle.of_live.specs.declared.state.Asks.{Asks}
-use Rattle.of_network.specs.Inputs.{Came, is_opened}
+use Rattle.of_live.specs.Inputs.{Came, is_opened}
 use Rattle.of_live.specs.Live.{Live, begun, coming_events, is_connected, is_lost_first, loss, peers_of, rows_after, time_of, unheard_of}
 use Rattle.of_live.specs.Hearing.{Hearing, AreHandled, after_coming, after_message, after_messages, after_hearing, heard_events, most_handled, next_message}
 use Rattle.of_live.specs.Working.{Does, HandlesMessages, Hears, LiveWork, asks_by, logged_text}

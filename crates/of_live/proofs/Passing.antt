@@ -4,7 +4,7 @@ use Rattle.std.specs.List.{flat_map}
 use Rattle.std.proofs.lemmas.List.{append-nil}
 use Rattle.std.proofs.lemmas.List.Concat.{flat_map-append}
 use Rattle.std.proofs.Math.Seq.{take-suc}
-use Rattle.of_network.specs.Acts.{Act, Records}
+use Rattle.of_live.specs.Acts.{Act, Records}
 
 pub records_none : (known : Option (List Act)) → Records known [] known
 records_none None = refl

@@ -4,17 +4,17 @@ use Rattle.std.specs.Prelude.{◌==◌, if◌then◌else◌}
 use Rattle.std.proofs.lemmas.Bool.Decides.{nat_tests}
 use Rattle.std.specs.List.{flat_map}
 use Rattle.of_switch.specs.Runs.{effects_in}
-use Rattle.of_network.specs.declared.peers.Peer.{Peer}
+use Rattle.of_live.specs.declared.peers.Peer.{Peer}
 use Rattle.of_replay.specs.declared.halt.Halt.{Halt}
 use Rattle.of_replay.specs.declared.halt.Halt.TheVariants.{Bad, Memory, Read, Write}
 use Rattle.of_switch.specs.declared.event.Event.{Event}
 use Rattle.of_replay.specs.WrittenRows.{row_text}
 use Rattle.of_live.specs.declared.state.Asks.{Asks}
-use Rattle.of_network.specs.Inputs.{Came, Fault, Time, is_fault}
-use Rattle.of_network.specs.declared.network.Wanted.{Wanted}
+use Rattle.of_live.specs.Inputs.{Came, Fault, Time, is_fault}
+use Rattle.of_live.specs.declared.network.Wanted.{Wanted}
 use Rattle.of_live.specs.Live.{Live, begun, peers_of}
 use Rattle.of_live.specs.Hearing.{Hearing, after_coming, events_of, after_hearing, wanted_of}
-use Rattle.of_network.specs.Acts.{Act, Records, Told, Logs}
+use Rattle.of_live.specs.Acts.{Act, Records, Told, Logs}
 use Rattle.of_live.specs.Turns.{LiveTurn, closes, drops, is_closed, logs, rows_text, sent_acts, sent_in, writes}
 use Rattle.of_live.specs.Working.{Goes, Hears, Passes, Settles, LiveWork, asks_of, hearing_of, logged, logged_text, live_turn_of}
 use Rattle.of_live.proofs.Messages.{others_kept}

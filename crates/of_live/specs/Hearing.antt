@@ -7,8 +7,8 @@ use Rattle.of_switch.specs.declared.event.Event.{Event}
 use Rattle.of_switch.specs.declared.event.Event.TheVariants.{Chunk}
 use Rattle.of_switch.specs.Runs.{happened, run, effects_in}
 use Rattle.of_serve.specs.Turns.{answer_in, report_effects}
-use Rattle.of_network.specs.declared.network.Wanted.{Wanted}
-use Rattle.of_network.specs.Inputs.{Came, Datagram, Row}
+use Rattle.of_live.specs.declared.network.Wanted.{Wanted}
+use Rattle.of_live.specs.Inputs.{Came, Datagram, Row}
 use Rattle.of_live.specs.Live.{Live, begun, coming_events, is_connected, is_lost_first, loss, peers_of, rows_after, time_of, unheard_of}
 
 -- what came, and the messages that were handled

@@ -4,3 +4,8 @@ pub mod Turns
 pub mod Ends
 pub mod Recorded
 pub mod Working
+pub mod Acts
+pub mod Header
+pub mod Inputs
+pub mod Peers
+pub mod RunningRows

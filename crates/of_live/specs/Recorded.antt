@@ -5,7 +5,7 @@ use Rattle.of_datapath.specs.declared.effect.Effect.{Effect}
 use Rattle.of_switch.specs.declared.event.Event.{Event}
 use Rattle.of_live.specs.Live.{Live}
 use Rattle.of_live.specs.Hearing.{events_of}
-use Rattle.of_network.specs.Acts.{Act, Logs}
+use Rattle.of_live.specs.Acts.{Act, Logs}
 use Rattle.of_live.specs.Turns.{LiveTurns, None, Then, live_effects, after_live_turns}
 
 -- all events of turns, in order

@@ -7,10 +7,10 @@ use Rattle.of_switch.specs.declared.event.Event.TheVariants.{Chunk}
 use Rattle.of_switch.specs.State.{State}
 use Rattle.of_switch.specs.Runs.{Report, run, effects_in}
 use Rattle.of_live.specs.declared.state.Asks.{Asks}
-use Rattle.of_network.specs.Inputs.{Came, Fault, is_ready}
+use Rattle.of_live.specs.Inputs.{Came, Fault, is_ready}
 use Rattle.of_live.specs.Live.{Live, is_connected, begun}
 use Rattle.of_live.specs.Hearing.{Hearing, AreHandled, IsHearing, after_messages, events_of, after_hearing, wanted_of}
-use Rattle.of_network.specs.Acts.{Act, Records, Told, Logs, Writes}
+use Rattle.of_live.specs.Acts.{Act, Records, Told, Logs, Writes}
 use Rattle.of_live.specs.Turns.{LiveTurn, IsLiveTurn, turn_acts, after_live_turn, closes, drops, live_effects, has_no_bytes, is_flooded, is_stuck, may_write, offered, results, rows_text}
 
 -- what events gave, and their rows

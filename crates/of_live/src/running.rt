@@ -3,10 +3,10 @@ ghost use Rattle.std.specs.Prelude.{◌≡◌, length};
 ghost use Rattle.of_replay.specs.Stepping.{ended_so};
 ghost use Rattle.of_live.specs.Ends.{Lives};
 
+use crate::Network;
 use crate::state::Live;
 use crate::work::Work;
 use of_classifier::Lookup;
-use of_network::Network;
 use of_replay::{Ended, Halt, READ_SIZE, ended_by, zeros};
 use std::alloc::Global;
 

@@ -1,2 +1,5 @@
 pub mod PushLemmas
 pub mod ReadingLemmas
+mod InstructionLemmas
+mod MatchLemmas
+mod WordLemmas

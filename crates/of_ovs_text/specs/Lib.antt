@@ -5,3 +5,11 @@ pub mod Flows
 pub mod Groups
 pub mod Lengths
 pub mod Lines
+pub mod Reasons
+pub mod Cutting
+pub mod Short
+pub mod MessageFlows
+pub mod MessageGroups
+pub mod PacketOuts
+pub mod PacketViews
+pub mod Messages

@@ -4,7 +4,7 @@ use Rattle.std.specs.List.{flat_map}
 use Rattle.std.specs.Global.{Vec}
 use Rattle.of_text.specs.Configs.{Configuration, config_text}
 use Rattle.of_text.specs.Lines.{lines_of}
-use Rattle.of_import.specs.declared.mode.Mode.{Mode}
+use Rattle.of_ovs_lines.specs.declared.mode.Mode.{Mode}
 use Rattle.of_import.specs.Imports.{IsImportText}
 use Rattle.of_ovs_text.specs.Flows.{flow_line}
 use Rattle.of_ovs_text.specs.Groups.{group_line}

@@ -8,7 +8,8 @@ ghost use Rattle.of_ovs_text.specs.Lines.{IsOvsText, IsReadAgain, flow_lines_bel
 use crate::flows::push_flow_lines;
 use crate::groups::push_group_lines;
 use crate::lengths::with_used_lengths;
-use of_import::{ImportError, ImportText, Mode, import_text};
+use of_import::{ImportError, ImportText, import_text};
+use of_ovs_lines::Mode;
 use of_text::{Config, disassemble};
 use of_wire::limits::TABLES;
 use std::alloc::{AllocError, Global};

@@ -50,8 +50,11 @@ with_field_setting settings word value = do
   e ← setting_in word.form f value
   with_field_value settings f e
 
+-- both bytes of a tag, in place of what was said of it before
 abbrev pub with_tci : List MatchField → List ℕ → Result (List MatchField) Why
-with_tci settings value = tci_settings value >>= λ es. Ok (settings ++ one es.0 ++ one es.1)
+with_tci settings value = do
+  es ← tci_settings value
+  Ok (without_settings fields.VlanPcp (without_settings fields.VlanVid settings) ++ one es.0 ++ one es.1)
 
 abbrev pub is_tci : Form → Bool
 is_tci Tci = true

@@ -132,6 +132,8 @@ fn set_tci(settings: &mut Vec<MatchField>, value: &[u8]) -> Result<(), Stop>
     ensures same { IfErr result (IfRefused (settings.new.items ≡ settings.old.items)) }
 {
     let (vid, pcp) = tci_settings(value)?;
+    forget(settings, Field::VlanVid)?;
+    forget(settings, Field::VlanPcp)?;
     push_one(settings, vid)?;
     push_one(settings, pcp)?;
     Ok(())

@@ -11,7 +11,7 @@ use Rattle.of_json.specs.Hits.{hits_at}
 use Rattle.of_json.specs.Parts.{document_head, key, listed, number_member, quoted, text_member}
 use Rattle.of_json.specs.Strings.{array_member}
 use Rattle.of_json.specs.LeavingJson.{items_member}
-use Rattle.of_changes.specs.ChangesInJson.{changes_member}
+use Rattle.of_json.specs.ChangesInJson.{changes_member}
 use Rattle.of_paths.specs.declared.path.Path.{Path}
 use Rattle.of_paths.specs.declared.path.PathClass.{PathClass}
 use Rattle.of_paths.specs.declared.path.Paths.{Paths}

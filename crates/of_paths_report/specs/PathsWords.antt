@@ -11,7 +11,7 @@ use Rattle.of_trace.specs.Text.{step_line}
 use Rattle.of_trace.specs.Words.{heading}
 use Rattle.of_json.specs.LeavingWords.{frame_lines}
 use Rattle.of_json.specs.UndecidedWords.{undecided_count, undecided_sets}
-use Rattle.of_changes.specs.ChangesInWords.{changed_side_words}
+use Rattle.of_json.specs.ChangesInWords.{changed_side_words}
 use Rattle.of_paths.specs.declared.path.Path.{Path}
 use Rattle.of_paths.specs.declared.path.PathClass.{PathClass}
 use Rattle.of_paths.specs.declared.path.Paths.{Paths}

@@ -7,9 +7,8 @@ ghost use Rattle.of_paths_report.specs.PathsWords.{class_words, indented_line, s
 
 use crate::destination::is_shown;
 use crate::hits::push_further;
-use of_changes::push_changed_side;
+use of_json::{push_changed_side, push_frame_lines};
 use of_classifier::Lookup;
-use of_json::push_frame_lines;
 use of_machine::Step;
 use of_paths::{Destination, PathClass};
 use of_switch::{Switch, SwitchError};

@@ -9,12 +9,8 @@ ghost use Rattle.of_paths_report.specs.PathsJson.{class_members, class_object, c
 use crate::classes::traced;
 use crate::destination::is_shown;
 use crate::json_hits::push_hits_member;
-use of_changes::push_changes_member;
+use of_json::{begin_array, push_array_member, push_bytes_member, push_changes_member, push_document_head, push_items_member, push_key, push_number_member, push_quoted};
 use of_classifier::Lookup;
-use of_json::{
-    begin_array, push_array_member, push_bytes_member, push_document_head, push_items_member,
-    push_key, push_number_member, push_quoted,
-};
 use of_machine::Step;
 use of_paths::{Destination, PathClass, Paths, UndecidedFrames, WhyUndecided};
 use of_switch::Switch;

@@ -19,7 +19,7 @@ use Rattle.of_paths.specs.declared.destination.Destination.{Destination}
 use Rattle.of_require.specs.declared.requirement.Quantifier.{Quantifier}
 use Rattle.of_require.specs.declared.requirement.Quantifier.TheVariants.{AtLeastOne, Each, No}
 use Rattle.of_require.specs.Packets.{packet_actions}
-use Rattle.of_changes.specs.ChangesInWords.{item_frame}
+use Rattle.of_json.specs.ChangesInWords.{item_frame}
 use Rattle.of_require.specs.Requirements.{frame_has, goes_among, has_fields, have}
 use Rattle.of_require.proofs.BareLemmas.{bare, bare_one, goes_bare}
 

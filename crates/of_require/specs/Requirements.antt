@@ -9,7 +9,7 @@ use Rattle.of_machine.specs.declared.data.Step.TheVariants.{Entry, Miss, TtlExpi
 use Rattle.of_machine.specs.TheWorld.{TheWorld}
 use Rattle.of_symbolic.specs.Parts.{received_fields}
 use Rattle.of_symbolic_run.specs.Received.{IsReceivedAt, items_at}
-use Rattle.of_changes.specs.ChangesInWords.{item_frame}
+use Rattle.of_json.specs.ChangesInWords.{item_frame}
 use Rattle.of_paths.specs.Ways.{lines_at}
 use Rattle.of_paths.specs.declared.destination.Destination.{Destination}
 use Rattle.of_paths.specs.declared.destination.Destination.TheVariants.{Nothing}

@@ -2,7 +2,7 @@
 use Rattle.std.specs.Prelude.{ℕ, Bool, true, false, List, [], ◌∷◌, ◌++◌, codes, decimal}
 use Rattle.hex.specs.Hex.{encode_lower}
 use Rattle.of_json.specs.LeavingJson.{items_member}
-use Rattle.of_changes.specs.ChangesInJson.{changes_member}
+use Rattle.of_json.specs.ChangesInJson.{changes_member}
 use Rattle.of_json.specs.Parts.{key, listed, number_member, text_member, truth_member}
 use Rattle.of_json.specs.Strings.{array_member, string_member}
 use Rattle.of_require.specs.declared.answers.Answer.{Answer}

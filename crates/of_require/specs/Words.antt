@@ -3,7 +3,7 @@ use Rattle.std.specs.Prelude.{ℕ, ◌==◌, Bool, true, false, List, [], ◌∷
 use Rattle.std.specs.List.{flat_map}
 use Rattle.of_json.specs.LeavingWords.{frame_lines}
 use Rattle.of_values.specs.Origins.{printable}
-use Rattle.of_changes.specs.ChangesInWords.{changed_side_words}
+use Rattle.of_json.specs.ChangesInWords.{changed_side_words}
 use Rattle.of_require.specs.declared.answers.Answer.{Answer}
 use Rattle.of_require.specs.declared.deciding.Decision.{Decision}
 use Rattle.of_require.specs.declared.deciding.Decision.TheVariants.{Frame, NoFrame, NoneMatches, Undecided}

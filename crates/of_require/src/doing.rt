@@ -5,7 +5,7 @@ ghost use Rattle.of_require.specs.Decisions.{decides as decides_by};
 ghost use Rattle.of_require.specs.Requirements.{is_done as does_by, frame_has as frame_has_fields, goes_among, has_fields as has_fields_by, have as have_by, is_counted as is_counted_by, is_dropped as is_dropped_by, is_expiry, is_leaving as is_leaving_by, is_lookup_in, is_nothing};
 
 use crate::requirement::{Demand, Quantifier, Requirement};
-use of_changes::item_frame;
+use of_json::item_frame;
 use of_headers::read_inside;
 use of_machine::{Item, Step};
 use of_oxm::{Match, matches};

@@ -4,11 +4,7 @@ ghost use Rattle.of_require.specs.RequirementsJson.{answer_object, frame_members
 
 use crate::answers::Answer;
 use crate::deciding::{Decision, Shown, Verdict};
-use of_changes::push_changes_member;
-use of_json::{
-    push_array_member, push_bytes_member, push_items_member, push_key, push_number_member,
-    push_string_member, push_text_member, push_truth_member,
-};
+use of_json::{push_array_member, push_bytes_member, push_changes_member, push_items_member, push_key, push_number_member, push_string_member, push_text_member, push_truth_member};
 use of_values::push_decimal;
 use std::alloc::{AllocError, Global};
 

@@ -5,8 +5,7 @@ ghost use Rattle.of_require.specs.Words.{answer_words, counted_noun, decision_wo
 
 use crate::answers::{Answer, count};
 use crate::deciding::{Decision, Shown, Verdict};
-use of_changes::push_changed_side;
-use of_json::push_frame_lines;
+use of_json::{push_changed_side, push_frame_lines};
 use of_values::{push_decimal, push_printable};
 use std::alloc::{AllocError, Global};
 

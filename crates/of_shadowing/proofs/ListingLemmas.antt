@@ -8,7 +8,7 @@ use Rattle.std.specs.Global.{Vec}
 use Rattle.std.proofs.lemmas.List.{map-append}
 use Rattle.of_oxm.specs.declared.match_field.MatchField.{MatchField}
 use Rattle.of_ovs_words.specs.declared.why.Why.{Why}
-use Rattle.of_import.specs.PartialFlows.{Refusal}
+use Rattle.of_ovs_lines.specs.PartialFlows.{Refusal}
 use Rattle.of_shadowing.specs.declared.conditions.Need.{Need}
 use Rattle.of_shadowing.specs.Conditions.{need_of}
 use Rattle.of_text.specs.Lines.{before, behind, lines_of}

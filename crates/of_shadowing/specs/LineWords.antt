@@ -2,7 +2,7 @@
 use Rattle.std.specs.Prelude.{ℕ, ◌||◌, not, Bool, true, false, List, [], ◌∷◌, ◌++◌, codes, filter, if◌then◌else◌}
 use Rattle.std.specs.Str.{bytes_eq}
 use Rattle.of_ovs_words.specs.Words.{word_name, word_value}
-use Rattle.of_import.specs.PartialFlows.{begins_actions}
+use Rattle.of_ovs_lines.specs.PartialFlows.{begins_actions}
 use Rattle.of_shadowing.specs.Conditions.{is_condition}
 
 pub record LineWords : Type 0 where

@@ -1,7 +1,7 @@
 -- Flows of a file, apart from their layout in memory.
 use Rattle.std.specs.Prelude.{map}
 use Rattle.of_values.specs.Origins.{view_words}
-use Rattle.of_import.specs.PartialFlowViews.{view_word_fault}
+use Rattle.of_ovs_lines.specs.PartialFlowViews.{view_word_fault}
 use Rattle.of_import.specs.ParsedLinesViews.{view_faults}
 use Rattle.of_shadowing.specs.declared.listed_flow.ListedFlow.{ListedFlow}
 use Rattle.of_shadowing.specs.declared.listing.ListedLine.{ListedLine}

@@ -9,9 +9,9 @@ use Rattle.of_text.specs.Flows.{Flow as TextFlow}
 use Rattle.of_text.specs.Lines.{before}
 use Rattle.of_ovs_words.specs.declared.why.Why.TheVariants as whys
 use Rattle.of_ovs_words.specs.Words.{word_name, words_from}
-use Rattle.of_import.specs.PartialFlows.{Refusal}
-use Rattle.of_import.specs.LineContents as lines
-use Rattle.of_import.specs.LineContents.{begins_group, parsed_line, trimmed, with_words}
+use Rattle.of_ovs_lines.specs.PartialFlows.{Refusal}
+use Rattle.of_ovs_lines.specs.LineContents as lines
+use Rattle.of_ovs_lines.specs.LineContents.{begins_group, parsed_line, trimmed, with_words}
 use Rattle.of_shadowing.specs.declared.conditions.Need.{Need}
 use Rattle.of_shadowing.specs.declared.listing.TheConstants.{ANY_TABLE, NO_TABLE}
 use Rattle.of_shadowing.specs.Conditions.{is_need_met, need_of, why_unmet}

@@ -2,13 +2,13 @@
 ghost use Rattle.std.specs.Prelude.{◌≡◌, ◌∷◌, [], ◌++◌, ◌||◌, not, filter, IfOk, OnOk};
 ghost use Rattle.std.specs.Str.{bytes_eq};
 ghost use Rattle.of_ovs_words.specs.Words.{word_name, words_from};
-ghost use Rattle.of_import.specs.LineContents.{with_words};
+ghost use Rattle.of_ovs_lines.specs.LineContents.{with_words};
 ghost use Rattle.of_values.specs.Origins.{view_words};
 ghost use Rattle.of_shadowing.specs.LineWords.{with_actions_begun, is_conjunction as is_conjunction_so, no_line_words, with_action_passed, with_line_word, with_plain, with_word_named};
 ghost use Rattle.of_shadowing.specs.LineWordViews.{view_line_words};
 
 use crate::conditions::is_condition;
-use of_import::begins_actions;
+use of_ovs_lines::begins_actions;
 use of_ovs_words::{cut_word, name_of, value_of};
 use of_text::is;
 use std::alloc::{AllocError, Global};

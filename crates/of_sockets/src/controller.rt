@@ -1,6 +1,6 @@
 //! One controller at a time, over TCP, without waiting for it.
 ghost use Rattle.std.specs.Prelude.{◌≡◌, ◌<◌, ◌≤◌, length, IfSome};
-ghost use Rattle.of_network.specs.Inputs.{IsInput};
+ghost use Rattle.of_live.specs.Inputs.{IsInput};
 
 use crate::silence::{Heard, begins_whole};
 use crate::teller::Teller;
@@ -9,7 +9,7 @@ use mio::event::Event;
 use mio::net::{TcpListener, TcpStream};
 use mio::{Interest, Registry, Token};
 use of_command_line::Meeting;
-use of_network::{Input, Written};
+use of_live::{Input, Written};
 use of_replay::Reading;
 use of_wire::front_of;
 use std::alloc::AllocError;

@@ -2,7 +2,7 @@
 
 use crate::event_log::EventLog;
 use crate::teller::Teller;
-use of_network::{push_chunk_row, push_row};
+use of_live::{push_chunk_row, push_row};
 use of_serve::{Rows, waits};
 use of_switch::Event;
 use std::alloc::AllocError;

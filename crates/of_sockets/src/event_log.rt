@@ -2,7 +2,7 @@
 
 use crate::opening::{Unopened, opened};
 use crate::teller::Teller;
-use of_network::push_row;
+use of_live::push_row;
 use of_switch::Event;
 use std::alloc::{AllocError, Global};
 use std::fs::{File, OpenOptions};

@@ -10,7 +10,7 @@ use crate::opening::{Unopened, opened};
 use crate::teller::Teller;
 use mio::{Events, Poll};
 use of_command_line::{Meeting, Serve};
-use of_network::Input;
+use of_live::Input;
 use of_replay::{Reading, Writing};
 use of_serve::{Accepted, Peers};
 use of_switch::Event;

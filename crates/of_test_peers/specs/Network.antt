@@ -6,8 +6,8 @@ use Rattle.of_test_peers.specs.declared.network.Line.TheVariants as line
 use Rattle.of_test_peers.specs.declared.network.Passed.{Passed}
 use Rattle.of_test_peers.specs.declared.network.Passed.TheVariants as passed
 use Rattle.of_test_peers.specs.declared.network.MemoryNetwork.{MemoryNetwork}
-use Rattle.of_network.specs.Inputs.{Came, Time, Datagram, Opened, Heard, Ended, Ready, Row, Nothing, Fault}
-use Rattle.of_network.specs.Acts.{Act, Told, Drops, Logs, Sends, Writes, Closes}
+use Rattle.of_live.specs.Inputs.{Came, Time, Datagram, Opened, Heard, Ended, Ready, Row, Nothing, Fault}
+use Rattle.of_live.specs.Acts.{Act, Told, Drops, Logs, Sends, Writes, Closes}
 
 abbrev pub came_of_line : Line → Came
 came_of_line (line.Time now) = Time now

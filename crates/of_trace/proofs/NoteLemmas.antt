@@ -4,14 +4,11 @@ use Rattle.std.specs.Prelude.{codes, decimal, nat_lt}
 use Rattle.std.specs.List.{flat_map}
 use Rattle.std.proofs.lemmas.List.{append_assoc, append-nil}
 use Rattle.std.proofs.lemmas.List.Concat.{flat_map-append}
-use Rattle.of_wire.specs.declared.limits.TheConstants.{OFPP_IN_PORT}
 use Rattle.of_layers.specs.declared.field.Field.{Field}
 use Rattle.of_layers.specs.declared.field.TheConstants.Field as constants
 use Rattle.of_actions.specs.declared.action.Action.{Action}
-use Rattle.of_actions.specs.declared.action.Action.TheVariants.{Output, Group}
+use Rattle.of_actions.specs.declared.action.Action.TheVariants.{Group}
 use Rattle.of_oxm.specs.declared.match_field.MatchField.{MatchField}
-use Rattle.of_ports.specs.declared.port.Port.{Port}
-use Rattle.of_ports.specs.Ports.{may_send, port_at}
 use Rattle.of_table.specs.declared.flow.Flow.{Flow}
 use Rattle.of_table.specs.Table.{FlowEntry}
 use Rattle.of_table.specs.Tables.{table_at}
@@ -35,7 +32,9 @@ use Rattle.of_trace.specs.declared.sight.Sight.{Sight}
 use Rattle.of_trace.specs.Sights.{key_seen, sight_after, stepped}
 use Rattle.of_tracing.specs.Why.{reason_in}
 use Rattle.of_trace.specs.OnlyNotes.{NotedLine, OnlyNotesAdded}
-use Rattle.of_trace.specs.Notes.{step_changes, entry_notes, explained_trace, explained_from, first_notes, found_notes, group_notes, head_in, is_asked, is_many, is_set, is_unsent, step_line_in, look_notes, looks_at, match_notes, miss_notes, notes, output_note, plain_trace, port_note, port_words, reason_note, reasons_from, same_value, seen_notes, sending_notes, set_notes, styled, ttl_seen, ttl_words, reason_words, value_or_absent}
+use Rattle.of_trace.specs.Notes.{step_changes, entry_notes, explained_trace, explained_from, first_notes, found_notes, group_notes, head_in, is_asked, is_set, is_unsent, step_line_in, look_notes, looks_at, match_notes, miss_notes, notes, plain_trace, reason_note, running_notes, reasons_from, same_value, seen_notes, set_notes, styled, ttl_seen, ttl_words, unsent_note, reason_words, value_or_absent}
+use Rattle.of_trace.specs.declared.unsent.Unsent.{Unsent}
+use Rattle.of_trace.specs.Unsent.{unsent_action, unsent_words}
 use Rattle.of_trace.specs.Words.{entering_sights, flow_there, heading, leaving_text, words_text}
 
 pub record AreNotes (text : List ℕ) : Type 0 where
@@ -102,24 +101,18 @@ of_changes style step s =
     (each _ constants.ALL (λ f. either (same_value (key_seen s f) (key_seen (sight_after step s) f)) _ _ none (one (name_of f ++ value_or_absent style f (key_seen s f) ++ codes " ->" ++ value_or_absent style f (key_seen (sight_after step s) f)))))
     (either (same_value (ttl_seen s) (ttl_seen (sight_after step s))) _ _ none (one (codes "nw_ttl" ++ ttl_words (ttl_seen s) ++ codes " ->" ++ ttl_words (ttl_seen (sight_after step s)))))
 
-of_port : (n : ℕ) (q : Option Port) → AreNotes (port_note n q)
-of_port n None = one (codes "there is no port" ++ 32 ∷ decimal n)
-of_port n (Some q) = either (may_send q) _ _ none (one (codes "port" ++ 32 ∷ decimal n ++ port_words q))
+of_unsent : (style : Style) (why : Option Unsent) → AreNotes (unsent_note style why)
+of_unsent style None = none
+of_unsent Lines (Some u) = one (unsent_words u)
+of_unsent Words (Some u) = none
 
-of_output : (ports : List Port) (ingress port : ℕ) → AreNotes (output_note ports ingress port)
-of_output ports ingress port =
-    either (port == OFPP_IN_PORT) _ _ (of_port ingress (port_at ports ingress))
-    (either (is_many port) _ _ none (either (port == ingress) _ _ (one (codes "the frame came in by that port")) (of_port port (port_at ports port))))
+of_group : (places : Option (List ℕ)) → AreNotes (group_notes places)
+of_group None = none
+of_group (Some places) = each _ places (λ place. one (codes "bucket" ++ 32 ∷ decimal place))
 
-of_group : (group : ℕ) (places : Option (List ℕ)) → AreNotes (group_notes group places)
-of_group group None = one (codes "there is no group" ++ 32 ∷ decimal group)
-of_group group (Some []) = one (codes "no bucket runs")
-of_group group (Some (k ∷ places)) = each _ (k ∷ places) (λ place. one (codes "bucket" ++ 32 ∷ decimal place))
-
-of_sending : (f : Forwarding) (s : Sight) (action : Action) → AreNotes (sending_notes f s action)
-of_sending f s (Output port max_len) = of_output f.ports s.ingress port
-of_sending f s (Group group) = of_group group ((world_of f).chosen group)
-of_sending f s other = none
+of_running : (f : Forwarding) (action : Action) → AreNotes (running_notes f action)
+of_running f (Group group) = of_group ((world_of f).chosen group)
+of_running f other = none
 
 of_step : (style : Style) (f : Forwarding) (asked : Asked) (s : Sight) (step : Step) → AreNotes (notes style f asked s step)
 of_step style f asked s (Miss t) = both _ _ (of_miss style t) (of_look style f asked t (key_seen s))
@@ -130,7 +123,7 @@ of_step style f asked s Write = none
 of_step style f asked s (Metadata value mask) = of_changes style (Metadata value mask) s
 of_step style f asked s (Goto t) = none
 of_step style f asked s Set = none
-of_step style f asked s (Act action) = both _ _ (of_sending f s action) (of_changes style (Act action) s)
+of_step style f asked s (Act action) = both _ _ (both _ _ (of_unsent style (unsent_action f s.ingress action)) (of_running f action)) (of_changes style (Act action) s)
 of_step style f asked s TtlExpired = one (codes "its work ends here")
 of_step style f asked s End = none
 
@@ -157,31 +150,31 @@ more line text plain noted a h =
     }
 
 -- the lines of steps, without notes
-abbrev lines_text : Style → Forwarding → List Step → List ℕ
-lines_text style f steps = flat_map (λ s. ended (step_line_in style f s)) steps
+abbrev lines_text : Style → Forwarding → ℕ → List Step → List ℕ
+lines_text style f port steps = flat_map (λ s. ended (step_line_in style f port s)) steps
 
-steps_noted : (style : Style) (f : Forwarding) (asked : Asked) (sights : List Sight) (steps : List Step) (rest : List ℕ) → OnlyNotesAdded (lines_text style f steps ++ rest) (explained_from style f asked sights steps ++ rest)
-steps_noted style f asked sights [] rest = record { lines = []; rest = rest; plain_is = refl; noted_is = refl }
-steps_noted style f asked sights (step ∷ steps) rest =
-    let behind : List ℕ = explained_from style f asked (stepped (world_of f) step sights) steps in
-    let line : List ℕ = ended (step_line_in style f step) in
+steps_noted : (style : Style) (f : Forwarding) (asked : Asked) (port : ℕ) (sights : List Sight) (steps : List Step) (rest : List ℕ) → OnlyNotesAdded (lines_text style f port steps ++ rest) (explained_from style f asked port sights steps ++ rest)
+steps_noted style f asked port sights [] rest = record { lines = []; rest = rest; plain_is = refl; noted_is = refl }
+steps_noted style f asked port sights (step ∷ steps) rest =
+    let behind : List ℕ = explained_from style f asked port (stepped (world_of f) step sights) steps in
+    let line : List ℕ = ended (step_line_in style f port step) in
     let first : List ℕ = first_notes style f asked sights step in
     let set : List ℕ = set_notes step steps in
-    let whole : OnlyNotesAdded (line ++ (lines_text style f steps ++ rest)) (line ++ (first ++ set) ++ (behind ++ rest)) = more (step_line_in style f step) (first ++ set) _ _ (both first set (of_first style f asked sights step) (of_set step steps)) (steps_noted style f asked (stepped (world_of f) step sights) steps rest) in
-    let plain : line ++ (lines_text style f steps ++ rest) ≡ lines_text style f (step ∷ steps) ++ rest = sym (append_assoc line (lines_text style f steps) rest) in
-    let noted : line ++ (first ++ set) ++ (behind ++ rest) ≡ explained_from style f asked sights (step ∷ steps) ++ rest =
+    let whole : OnlyNotesAdded (line ++ (lines_text style f port steps ++ rest)) (line ++ (first ++ set) ++ (behind ++ rest)) = more (step_line_in style f port step) (first ++ set) _ _ (both first set (of_first style f asked sights step) (of_set step steps)) (steps_noted style f asked port (stepped (world_of f) step sights) steps rest) in
+    let plain : line ++ (lines_text style f port steps ++ rest) ≡ lines_text style f port (step ∷ steps) ++ rest = sym (append_assoc line (lines_text style f port steps) rest) in
+    let noted : line ++ (first ++ set) ++ (behind ++ rest) ≡ explained_from style f asked port sights (step ∷ steps) ++ rest =
     ap (λ (l : List ℕ). l ++ (behind ++ rest)) (sym (append_assoc line first set)) ∙ sym (append_assoc (line ++ first ++ set) behind rest) in
     rw (sym plain, sym noted) whole
 
 -- in words the frame is a line before them
 pub explained_noted : (style : Style) (f : Forwarding) (asked : Asked) (port : ℕ) (frame : List ℕ) (steps : List Step) (effects : List Effect) → OnlyNotesAdded (plain_trace style f port frame steps effects) (explained_trace style f asked port frame steps effects)
-explained_noted Lines f asked port frame steps effects = steps_noted Lines f asked (entering_sights port frame) steps (text_of effects)
+explained_noted Lines f asked port frame steps effects = steps_noted Lines f asked port (entering_sights port frame) steps (text_of effects)
 explained_noted Words f asked port frame steps effects =
     let first : List ℕ = ended (heading f port frame) in
-    let noted : List ℕ = explained_from Words f asked (entering_sights port frame) steps in
+    let noted : List ℕ = explained_from Words f asked port (entering_sights port frame) steps in
     let rest : List ℕ = leaving_text effects in
-    let whole : OnlyNotesAdded (first ++ (words_text f steps ++ rest)) (first ++ [] ++ (noted ++ rest)) = more (heading f port frame) [] _ _ none (steps_noted Words f asked (entering_sights port frame) steps rest) in
-    let plain_is : first ++ (words_text f steps ++ rest) ≡ plain_trace Words f port frame steps effects = sym (append_assoc first (words_text f steps) rest) in
+    let whole : OnlyNotesAdded (first ++ (words_text f port steps ++ rest)) (first ++ [] ++ (noted ++ rest)) = more (heading f port frame) [] _ _ none (steps_noted Words f asked port (entering_sights port frame) steps rest) in
+    let plain_is : first ++ (words_text f port steps ++ rest) ≡ plain_trace Words f port frame steps effects = sym (append_assoc first (words_text f port steps) rest) in
     let noted_is : first ++ [] ++ (noted ++ rest) ≡ explained_trace Words f asked port frame steps effects = ap (λ (l : List ℕ). l ++ (noted ++ rest)) (append-nil first) ∙ sym (append_assoc first noted rest) in
     rw (sym plain_is, sym noted_is) whole
 

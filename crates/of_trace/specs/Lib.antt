@@ -1,5 +1,6 @@
 pub mod Text
 pub mod Sights
+pub mod Unsent
 pub mod Words
 pub mod Json
 pub mod Notes

@@ -1,7 +1,6 @@
 -- A TRACE FOR PEOPLE: below a line there are notes, each after four spaces. Without them it is the text of the trace.
-use Rattle.std.specs.Prelude.{ℕ, ◌+◌, ◌==◌, ◌&&◌, ◌||◌, Bool, true, false, not, nat_lt, bit_and, List, [], ◌∷◌, ◌++◌, Option, Some, None, codes, decimal, suc, if◌then◌else◌}
+use Rattle.std.specs.Prelude.{ℕ, ◌+◌, ◌==◌, ◌&&◌, Bool, true, false, not, nat_lt, bit_and, List, [], ◌∷◌, ◌++◌, Option, Some, None, codes, decimal, suc, if◌then◌else◌}
 use Rattle.std.specs.List.{flat_map, list_any}
-use Rattle.of_wire.specs.declared.limits.TheConstants.{OFPP_ALL, OFPP_CONTROLLER, OFPP_FLOOD, OFPP_IN_PORT, OFPP_TABLE}
 use Rattle.of_layers.specs.declared.field.Field.{Field}
 use Rattle.of_layers.specs.declared.field.TheConstants.Field as constants
 use Rattle.of_layers.specs.Fields.{name_of, number_of, ones_of}
@@ -9,8 +8,6 @@ use Rattle.of_layers.specs.Reading.{layers_of}
 use Rattle.of_rewrite.specs.TimeToLive.{ttl_of}
 use Rattle.of_actions.specs.declared.action.Action.{Action}
 use Rattle.of_actions.specs.declared.action.Action.TheVariants as actions
-use Rattle.of_ports.specs.declared.port.Port.{Port}
-use Rattle.of_ports.specs.Ports.{is_live, may_send, port_at}
 use Rattle.of_table.specs.declared.flow.Flow.{Flow}
 use Rattle.of_table.specs.Table.{FlowEntry, flags_number}
 use Rattle.of_table.specs.Tables.{table_at}
@@ -37,8 +34,10 @@ use Rattle.of_tracing.specs.declared.reason.Reason.{Reason}
 use Rattle.of_tracing.specs.declared.reason.Reason.TheVariants.{Won, Differs, LowerPriority, Younger}
 use Rattle.of_trace.specs.declared.sight.Sight.{Sight}
 use Rattle.of_trace.specs.Sights.{key_seen, sight_after, stepped}
+use Rattle.of_trace.specs.declared.unsent.Unsent.{Unsent}
+use Rattle.of_trace.specs.Unsent.{unsent_action, unsent_words}
 use Rattle.of_trace.specs.Text.{step_line, trace_text}
-use Rattle.of_trace.specs.Words.{entering_sights, flow_there, heading, leaving_text, words_line, words_text}
+use Rattle.of_trace.specs.Words.{entering_sights, flow_there, heading, leaving_text, step_words, words_text}
 use Rattle.of_trace.specs.Json.{trace_json}
 use Rattle.of_tracing.specs.Why.{reason_in}
 
@@ -154,50 +153,39 @@ ttl_words (Some n) = 32 ∷ decimal n
 abbrev pub ttl_note : Option ℕ → Option ℕ → List ℕ
 ttl_note old new = if same_value old new then [] else note (codes "nw_ttl" ++ ttl_words old ++ codes " ->" ++ ttl_words new)
 
--- ---- why an output sends nothing
+-- ---- why an output or a group sends nothing; in words that stands on the line
 
-abbrev pub port_words : Port → List ℕ
-port_words q = if is_live q then codes " forwards nothing" else codes " is down"
-
-abbrev pub port_note : ℕ → Option Port → List ℕ
-port_note n None = note (codes "there is no port" ++ 32 ∷ decimal n)
-port_note n (Some q) = if may_send q then [] else note (codes "port" ++ 32 ∷ decimal n ++ port_words q)
-
-abbrev pub is_many : ℕ → Bool
-is_many port = (port == OFPP_FLOOD) || (port == OFPP_ALL) || (port == OFPP_CONTROLLER) || (port == OFPP_TABLE)
-
-abbrev pub output_note : List Port → ℕ → ℕ → List ℕ
-output_note ports ingress port =
-    if port == OFPP_IN_PORT then port_note ingress (port_at ports ingress)
-    else if is_many port then []
-    else if port == ingress then note (codes "the frame came in by that port")
-    else port_note port (port_at ports port)
+abbrev pub unsent_note : Style → Option Unsent → List ℕ
+unsent_note style None = []
+unsent_note Lines (Some u) = note (unsent_words u)
+unsent_note Words (Some u) = []
 
 -- ---- which buckets of a group run
 
 abbrev pub bucket_notes : List ℕ → List ℕ
 bucket_notes places = flat_map (λ place. note (codes "bucket" ++ 32 ∷ decimal place)) places
 
-abbrev pub group_notes : ℕ → Option (List ℕ) → List ℕ
-group_notes group None = note (codes "there is no group" ++ 32 ∷ decimal group)
-group_notes group (Some []) = note (codes "no bucket runs")
-group_notes group (Some (k ∷ places)) = bucket_notes (k ∷ places)
+abbrev pub group_notes : Option (List ℕ) → List ℕ
+group_notes None = []
+group_notes (Some places) = bucket_notes places
+
+abbrev pub running_notes : Forwarding → Action → List ℕ
+running_notes f (actions.Group group) = group_notes ((world_of f).chosen group)
+running_notes f other = []
 
 -- ---- the notes of a step, which this packet takes
 
 abbrev pub step_changes : Style → Step → Sight → List ℕ
 step_changes style step s = change_notes style (key_seen s) (key_seen (sight_after step s)) ++ ttl_note (ttl_seen s) (ttl_seen (sight_after step s))
 
-abbrev pub sending_notes : Forwarding → Sight → Action → List ℕ
-sending_notes f s (actions.Output port max_len) = output_note f.ports s.ingress port
-sending_notes f s (actions.Group group) = group_notes group ((world_of f).chosen group)
-sending_notes f s other = []
+abbrev pub sending_notes : Style → Forwarding → Sight → Action → List ℕ
+sending_notes style f s action = unsent_note style (unsent_action f s.ingress action) ++ running_notes f action
 
 abbrev pub notes : Style → Forwarding → Asked → Sight → Step → List ℕ
 notes style f asked s (Miss t) = miss_notes style t ++ look_notes style f asked t (key_seen s)
 notes style f asked s (Entry t place) = found_notes style t (flow_there f t place) ++ look_notes style f asked t (key_seen s)
 notes style f asked s (Metadata value mask) = step_changes style (Metadata value mask) s
-notes style f asked s (Act action) = sending_notes f s action ++ step_changes style (Act action) s
+notes style f asked s (Act action) = sending_notes style f s action ++ step_changes style (Act action) s
 notes style f asked s TtlExpired = note (codes "its work ends here")
 notes style f asked s other = []
 
@@ -232,13 +220,14 @@ abbrev pub first_notes : Style → Forwarding → Asked → List Sight → Step 
 first_notes style f asked [] step = []
 first_notes style f asked (s ∷ others) step = notes style f asked s step
 
-abbrev pub step_line_in : Style → Forwarding → Step → List ℕ
-step_line_in Lines f step = step_line step
-step_line_in Words f step = words_line f step
+abbrev pub step_line_in : Style → Forwarding → ℕ → Step → List ℕ
+step_line_in Lines f port step = step_line step
+step_line_in Words f port step = step_words f port step
 
-abbrev pub explained_from : Style → Forwarding → Asked → List Sight → List Step → List ℕ
-explained_from style f asked sights [] = []
-explained_from style f asked sights (step ∷ steps) = ended (step_line_in style f step) ++ first_notes style f asked sights step ++ set_notes step steps ++ explained_from style f asked (stepped (world_of f) step sights) steps
+-- of a frame that came in by this port
+abbrev pub explained_from : Style → Forwarding → Asked → ℕ → List Sight → List Step → List ℕ
+explained_from style f asked port sights [] = []
+explained_from style f asked port sights (step ∷ steps) = ended (step_line_in style f port step) ++ first_notes style f asked sights step ++ set_notes step steps ++ explained_from style f asked port (stepped (world_of f) step sights) steps
 
 -- in words the frame comes first
 abbrev pub heading_in : Style → Forwarding → ℕ → List ℕ → List ℕ
@@ -250,11 +239,11 @@ text_of_effects Lines effects = text_of effects
 text_of_effects Words effects = leaving_text effects
 
 abbrev pub explained_trace : Style → Forwarding → Asked → ℕ → List ℕ → List Step → List Effect → List ℕ
-explained_trace style f asked port frame steps effects = heading_in style f port frame ++ explained_from style f asked (entering_sights port frame) steps ++ text_of_effects style effects
+explained_trace style f asked port frame steps effects = heading_in style f port frame ++ explained_from style f asked port (entering_sights port frame) steps ++ text_of_effects style effects
 
 abbrev pub plain_trace : Style → Forwarding → ℕ → List ℕ → List Step → List Effect → List ℕ
 plain_trace Lines f port frame steps effects = trace_text steps effects
-plain_trace Words f port frame steps effects = ended (heading f port frame) ++ words_text f steps ++ leaving_text effects
+plain_trace Words f port frame steps effects = ended (heading f port frame) ++ words_text f port steps ++ leaving_text effects
 
 -- THE TEXT OF A TRACE in one of its styles and forms
 abbrev pub styled : Style → Form → Forwarding → ℕ → List ℕ → List Step → List Effect → List ℕ

@@ -29,6 +29,8 @@ use Rattle.of_values.specs.Values.{value_words}
 use Rattle.of_values.specs.Entries.{entry_words}
 use Rattle.of_trace.specs.declared.sight.Sight.{Sight}
 use Rattle.of_trace.specs.Sights.{key_seen}
+use Rattle.of_trace.specs.declared.unsent.Unsent.{Unsent}
+use Rattle.of_trace.specs.Unsent.{behind_line, unsent_action}
 
 -- words and a number
 unfoldable pub numbered_words : List ℕ → ℕ → List ℕ
@@ -153,8 +155,16 @@ words_line f (Entry table place) = numbered_words (codes "table") table ++ numbe
 words_line f (Act action) = action_line action
 words_line f other = plain_line other
 
-abbrev pub words_text : Forwarding → List Step → List ℕ
-words_text f steps = flat_map (λ s. ended (words_line f s)) steps
+-- why the action of a step sends nothing, of a frame that came in by this port
+abbrev pub unsent_by_step : Forwarding → ℕ → Step → Option Unsent
+unsent_by_step f ingress (Act action) = unsent_action f ingress action
+unsent_by_step f ingress other = None
+
+unfoldable pub step_words : Forwarding → ℕ → Step → List ℕ
+step_words f ingress step = words_line f step ++ behind_line (unsent_by_step f ingress step)
+
+abbrev pub words_text : Forwarding → ℕ → List Step → List ℕ
+words_text f ingress steps = flat_map (λ s. ended (step_words f ingress s)) steps
 
 -- ---- WHAT LEAVES
 

@@ -10,9 +10,9 @@ mod noting;
 mod packets;
 mod printing;
 mod reasons;
-mod sending;
 mod sight;
 mod tracing_file;
+mod unsent;
 mod words;
 mod writing;
 

@@ -9,7 +9,7 @@ ghost use Rattle.of_table.specs.Tables.{table_at};
 ghost use Rattle.of_tracing.specs.Encoded.{are_encoded, is_encoded};
 ghost use Rattle.of_trace.specs.Sights.{key_seen, sight_after, stepped};
 ghost use Rattle.of_text.specs.Lines.{note};
-ghost use Rattle.of_trace.specs.Notes.{step_changes, text_of_effects, entry_notes, explained_trace, explained_from, first_notes, found_notes, head_in, heading_in, is_unsent as is_unsent_by, step_line_in, look_notes, match_notes, miss_notes, notes as notes_of, sending_notes, sends_packet as is_sending, set_notes, table_notes};
+ghost use Rattle.of_trace.specs.Notes.{step_changes, text_of_effects, entry_notes, explained_trace, explained_from, first_notes, found_notes, head_in, heading_in, is_unsent as is_unsent_by, step_line_in, look_notes, match_notes, miss_notes, notes as notes_of, bucket_notes, sending_notes, sends_packet as is_sending, set_notes, table_notes, unsent_note};
 ghost use Rattle.of_trace.specs.Words.{flow_there};
 
 use crate::fields::{push_changes, push_seen, push_ttl_change};
@@ -18,9 +18,9 @@ use crate::notes::push_number_note;
 use crate::packets::{Packets, enter, put_back};
 use crate::printing::push_step;
 use crate::reasons::push_reasons;
-use crate::sending::{push_group_notes, push_output_note};
 use crate::sight::Sight;
-use crate::words::{push_heading, push_leaving, push_words_line};
+use crate::unsent::{Unsent, push_unsent, why_unsent};
+use crate::words::{push_heading, push_leaving, push_step_words};
 use of_actions::Action;
 use of_classifier::Lookup;
 use of_headers::FieldKey;
@@ -160,22 +160,46 @@ fn push_changed(
     push_ttl_change(out, sight.ttl(), after.ttl())
 }
 
+// Appends why nothing is sent, if its line does not say it.
+fn push_unsent_note(out: &mut Vec<u8>, style: Style, why: Option<Unsent>) -> Result<(), AllocError>
+    ensures { OnOk result (out.new.items ≡ out.old.items ++ unsent_note style why) }
+{
+    match (style, why) {
+        (Style::Lines, Some(why)) => {
+            begin_note(out)?;
+            push_unsent(out, why)?;
+            end_note(out)
+        }
+        (Style::Words, _) | (_, None) => Ok(()),
+    }
+}
+
+fn push_buckets(out: &mut Vec<u8>, places: &[u8]) -> Result<(), AllocError>
+    ensures { OnOk result (out.new.items ≡ out.old.items ++ bucket_notes places.now) }
+{
+    for place in places {
+        push_number_note(out, b"bucket", u32::from(*place))?;
+    }
+    Ok(())
+}
+
 // Appends where an output or a group sends a packet.
 fn push_sending_notes<L: Lookup>(
     out: &mut Vec<u8>,
+    style: Style,
     switch: &Switch<L>,
     action: Action,
     sight: &Sight,
 ) -> Result<(), AllocError>
-    ensures { OnOk result (out.new.items ≡ out.old.items ++ sending_notes switch.now.core.forwarding sight.now action) }
+    ensures { OnOk result (out.new.items ≡ out.old.items ++ sending_notes style switch.now.core.forwarding sight.now action) }
 {
-    match action {
-        Action::Output { port, .. } => {
-            let ports = &switch.datapath().ports;
-            push_output_note(out, ports.as_slice(), sight.ingress, port)
-        }
-        Action::Group(group) => push_group_notes(out, switch, group),
-        _ => Ok(()),
+    push_unsent_note(out, style, why_unsent(switch, sight.ingress, action))?;
+    let Action::Group(group) = action else {
+        return Ok(());
+    };
+    match switch.datapath().buckets_for(group) {
+        Some(places) => push_buckets(out, places.as_slice()),
+        None => Ok(()),
     }
 }
 
@@ -213,7 +237,7 @@ fn push_notes<L: Lookup>(
         }
         Step::Metadata { .. } => push_changed(out, style, step, sight, after),
         Step::Act(action) => {
-            push_sending_notes(out, switch, action, sight)?;
+            push_sending_notes(out, style, switch, action, sight)?;
             push_changed(out, style, step, sight, after)
         }
         Step::TtlExpired => push_note(out, b"its work ends here"),
@@ -280,14 +304,15 @@ fn push_line<L: Lookup>(
     out: &mut Vec<u8>,
     style: Style,
     switch: &Switch<L>,
+    port: u32,
     step: Step,
 ) -> Result<(), AllocError>
     requires { IsTrue (is_encoded step) }
-    ensures { OnOk result (out.new.items ≡ out.old.items ++ step_line_in style switch.now.core.forwarding step) }
+    ensures { OnOk result (out.new.items ≡ out.old.items ++ step_line_in style switch.now.core.forwarding port step) }
 {
     match style {
         Style::Lines => push_step(out, step),
-        Style::Words => push_words_line(out, switch, step),
+        Style::Words => push_step_words(out, switch, port, step),
     }
 }
 
@@ -298,16 +323,17 @@ fn push_explained<L: Lookup>(
     style: Style,
     switch: &Switch<L>,
     asked: Asked,
+    port: u32,
     packets: Packets,
     steps: &[Step],
 ) -> Result<(), AllocError>
     requires { IsTrue (are_encoded steps.now) }
-    ensures { OnOk result (out.new.items ≡ out.old.items ++ explained_from style switch.now.core.forwarding asked packets.items steps.now) }
+    ensures { OnOk result (out.new.items ≡ out.old.items ++ explained_from style switch.now.core.forwarding asked port packets.items steps.now) }
 {
     let mut packets = packets;
     let mut rest = steps;
     while let [step, behind @ ..] = rest {
-        push_line(out, style, switch, *step)?;
+        push_line(out, style, switch, port, *step)?;
         out.push(b'\n')?;
         push_step_notes(alloc, out, style, switch, asked, &mut packets, *step)?;
         push_set_note(out, *step, behind)?;
@@ -371,7 +397,16 @@ pub fn explain<L: Lookup>(
     let mut out = Vec::new(alloc);
     push_beginning(alloc, &mut out, style, switch, port, frame)?;
     let packets = enter(alloc, port, frame)?;
-    push_explained(alloc, &mut out, style, switch, asked, packets, &trace.steps)?;
+    push_explained(
+        alloc,
+        &mut out,
+        style,
+        switch,
+        asked,
+        port,
+        packets,
+        &trace.steps,
+    )?;
     push_end(alloc, &mut out, style, &trace.effects)?;
     Ok(out)
 }

@@ -90,7 +90,7 @@ pub fn print_words<L: Lookup>(
 {
     let mut out = Vec::new(alloc);
     push_heading(alloc, &mut out, switch, port, frame)?;
-    push_words(&mut out, switch, &trace.steps)?;
+    push_words(&mut out, switch, port, &trace.steps)?;
     push_leaving(alloc, &mut out, &trace.effects)?;
     Ok(out)
 }

@@ -6,10 +6,11 @@ ghost use Rattle.of_headers.specs.FieldMap.{value};
 ghost use Rattle.of_machine.specs.declared.data.Step.TheVariants.{Act};
 ghost use Rattle.of_text.specs.Lines.{ended};
 ghost use Rattle.of_tracing.specs.Encoded.{are_encoded, is_encoded};
-ghost use Rattle.of_trace.specs.Words.{action_line, arp_words, effect_words, ethernet_words, flow_there, found_words, header_words, heading, ip_words, leaving_line, leaving_text, length_words, metadata_words, numbered_words, packet_words, pair, plain_line, sight_words, single, transport_words, ttl_part, unreceived, words_line, words_text};
+ghost use Rattle.of_trace.specs.Words.{action_line, arp_words, effect_words, ethernet_words, flow_there, found_words, header_words, heading, ip_words, leaving_line, leaving_text, length_words, metadata_words, numbered_words, packet_words, pair, plain_line, sight_words, single, step_words, transport_words, ttl_part, unreceived, words_line, words_text};
 
 use crate::packets::arrived;
 use crate::sight::Sight;
+use crate::unsent::{push_behind, why_unsent};
 use of_actions::Action;
 use of_build::push_hex;
 use of_classifier::Lookup;
@@ -349,17 +350,36 @@ pub fn push_words_line<L: Lookup>(
     }
 }
 
-/// Appends the lines of steps in words.
+/// Appends a step in words, of a frame that came in by a port, and why it sends nothing if that is so, without the end of its line.
+#[tactic(auto, unfolding(crate::specs::Words::step_words))]
+pub fn push_step_words<L: Lookup>(
+    out: &mut Vec<u8>,
+    switch: &Switch<L>,
+    port: u32,
+    step: Step,
+) -> Result<(), AllocError>
+    requires { IsTrue (is_encoded step) }
+    ensures { OnOk result (out.new.items ≡ out.old.items ++ step_words switch.now.core.forwarding port step) }
+{
+    push_words_line(out, switch, step)?;
+    match step {
+        Step::Act(action) => push_behind(out, why_unsent(switch, port, action)),
+        _ => Ok(()),
+    }
+}
+
+/// Appends the lines of steps in words, of a frame that came in by a port.
 pub fn push_words<L: Lookup>(
     out: &mut Vec<u8>,
     switch: &Switch<L>,
+    port: u32,
     steps: &[Step],
 ) -> Result<(), AllocError>
     requires { IsTrue (are_encoded steps.now) }
-    ensures { OnOk result (out.new.items ≡ out.old.items ++ words_text switch.now.core.forwarding steps.now) }
+    ensures { OnOk result (out.new.items ≡ out.old.items ++ words_text switch.now.core.forwarding port steps.now) }
 {
     for step in steps {
-        push_words_line(out, switch, *step)?;
+        push_step_words(out, switch, port, *step)?;
         out.push(b'\n')?;
     }
     Ok(())

@@ -1,4 +1,5 @@
 pub mod Numbers
+pub mod Filled
 pub mod Ipv6
 pub mod Masks
 pub mod Values

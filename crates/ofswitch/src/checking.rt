@@ -8,7 +8,8 @@ use crate::requiring::{Required, decide_all, missing_on, push_required, read_req
 use crate::screen::Screen;
 use of_command_line::{Check, CheckOutput};
 use of_files::{Content, Contents, FileTables, PortList, port_list, push_named, read_table};
-use of_import::{ImportError, Mode};
+use of_import::ImportError;
+use of_ovs_lines::Mode;
 use of_replay::streams::WriterSink;
 use of_replay::{Ended, switch_of_config, write_all};
 use of_report::{Form, write_flow_report, write_report};
@@ -74,14 +75,15 @@ fn reported(
     missing: &[u32],
 ) -> Result<CheckVerdict, NoFile> {
     let alloc = screen.rt.alloc();
-    let Required { text, verdict } = decide_all(screen.rt, asked, switch, lines)?;
+    let Required { text, verdict } = decide_all(screen, asked, switch, lines)?;
     let missing = match say_missing(screen, asked.output == CheckOutput::Json, missing) {
         Ok(missing) => missing,
         Err(ended) => return Err(NoFile::ended(alloc, ended)),
     };
     let (steps, form) = (asked.steps as usize, form_of(asked.output));
+    screen.progress.say("the flow entries are checked");
     let mut writer = WriterSink::new(screen.report());
-    match write_report(
+    let written = write_report(
         alloc,
         switch,
         config,
@@ -91,7 +93,9 @@ fn reported(
         part,
         &text,
         &mut writer,
-    ) {
+    );
+    screen.progress.end();
+    match written {
         Ok(found) => Ok(verdict_of(found, missing, verdict)),
         Err(ended) => Err(NoFile::ended(alloc, ended)),
     }
@@ -205,8 +209,12 @@ fn flows_reported(
     }
     let all = asked.output != CheckOutput::Report;
     let words = asked.output == CheckOutput::AllInWords;
+    screen.progress.say("the flow entries are checked");
     let mut writer = WriterSink::new(screen.report());
-    match write_flow_report(alloc, &flows, asked.steps as usize, all, words, &mut writer) {
+    let steps = asked.steps as usize;
+    let written = write_flow_report(alloc, &flows, steps, all, words, &mut writer);
+    screen.progress.end();
+    match written {
         Ok(found) => Ok(Some(verdict_of(found, false, Verdict::Holds))),
         Err(ended) => Err(NoFile::ended(alloc, ended)),
     }

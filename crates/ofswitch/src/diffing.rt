@@ -2,7 +2,6 @@
 use crate::files::{FileRead, NoFile, Unread, is_without_options, read_file_contents};
 use crate::left_out::say_part;
 use crate::lookups::Lookups;
-use crate::progress::Progress;
 use crate::screen::Screen;
 use of_alike::Compared;
 use of_command_line::{Diff, FileKind, OvsReading};
@@ -68,6 +67,7 @@ fn found_between(
     } else {
         Compared::All
     };
+    screen.progress.say("all frames are compared");
     let mut writer = WriterSink::new(screen.report());
     write_differences(
         screen.rt.alloc(),
@@ -107,21 +107,16 @@ fn found_in_files(
 /// before the second.
 pub fn diffed<'a>(screen: &Screen<'_>, asked: &'a Diff) -> Result<DiffVerdict, Unread<'a>> {
     let rt = screen.rt;
-    let progress = Progress::new(rt);
     let first = read_one(rt, asked.first.as_str(), &asked.reading)?;
-    progress.say("the first file is read");
-    let second = read_one(rt, asked.second.as_str(), &asked.reading);
-    progress.end();
-    let second = second?;
+    let second = read_one(rt, asked.second.as_str(), &asked.reading)?;
     if has_idle_option(rt, asked, &first, &second) {
         return Err(Unread {
             path: asked.second.as_str(),
             why: NoFile::BadOption,
         });
     }
-    progress.say("both files are read");
     let found = found_in_files(screen, asked, first, second);
-    progress.end();
+    screen.progress.end();
     match found {
         Ok(verdict) => Ok(verdict),
         Err(ended) => Err(Unread {

@@ -3,7 +3,7 @@ use crate::screen::Screen;
 use crate::words::{say_fault, say_word};
 use of_frame_words::{NoFrame, read_frame};
 use of_hints::say_refusal;
-use of_message_words::{NoMessage, message_bytes};
+use of_ovs_text::{NoMessage, message_bytes};
 use of_replay::streams::WriterSink;
 use of_replay::{Ended, write_all};
 use std::alloc::Global;

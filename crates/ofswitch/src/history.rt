@@ -128,6 +128,7 @@ fn recount(
     bytes: &[u8],
 ) -> Result<Option<Ended>, SwitchError> {
     let alloc = screen.rt.alloc();
+    screen.progress.say("the rows are run");
     let told = match &asked.of {
         HistoryOf::Frame { port, frame } => {
             let view = FrameView {
@@ -157,7 +158,9 @@ fn recount(
 pub fn recounted(screen: &Screen<'_>, asked: &HistoryAsked) -> Result<HistoryVerdict, NoFile> {
     let rt = screen.rt;
     let seen = Seen::whole(bytes_of(rt, asked.file.as_str())?);
-    match recount(screen, asked, seen.bytes()) {
+    let recounted = recount(screen, asked, seen.bytes());
+    screen.progress.end();
+    match recounted {
         Ok(Some(Ended::Done)) => Ok(HistoryVerdict::Told),
         Ok(Some(ended)) => Err(NoFile::Ended { seen, ended }),
         Ok(None) => {

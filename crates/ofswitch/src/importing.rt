@@ -2,8 +2,9 @@
 
 use crate::screen::Screen;
 use of_hints::{Marked, Place, import_hint, line_in, say_refusal};
-use of_import::{ImportError, ImportText, LineFaults, LineRefusal, Mode, import_text, name_of};
+use of_import::{ImportError, ImportText, LineFaults, LineRefusal, import_text, name_of};
 use of_import_report::{fault_lines, import_as_json, left_out};
+use of_ovs_lines::Mode;
 use of_replay::streams::WriterSink;
 use of_replay::{Ended, write_all};
 use of_text::TextFault;
@@ -46,7 +47,7 @@ fn print_text(screen: &Screen<'_>, text: &[u8]) -> Result<(), NotImported> {
 /// Prints the flow text of a table, and returns how many of its lines were left out or lost an action; standard error names them.
 pub fn imported(screen: &Screen<'_>, bytes: &[u8], mode: Mode) -> Result<u128, NotImported> {
     let rt = screen.rt;
-    let done = text_of(rt, bytes, mode)?;
+    let done = text_of(screen, bytes, mode)?;
     print_text(screen, &done.text)?;
     say_faults(rt, bytes, &done.faults, &done.refused);
     Ok(left_out(&done.faults, &done.refused, done.changed))
@@ -58,7 +59,10 @@ pub fn imported_as_json(
     bytes: &[u8],
     mode: Mode,
 ) -> Result<u128, NotImported> {
-    let Ok(answer) = import_as_json(screen.rt.alloc(), bytes, mode) else {
+    screen.progress.say("the lines are read");
+    let answer = import_as_json(screen.rt.alloc(), bytes, mode);
+    screen.progress.end();
+    let Ok(answer) = answer else {
         return Err(NotImported::Ended(Ended::NoMemory));
     };
     print_text(screen, &answer.json)?;
@@ -69,10 +73,13 @@ pub fn imported_as_json(
 }
 
 // The flow text of a table; if there is none, standard error says why.
-fn text_of(rt: &HostRuntime, bytes: &[u8], mode: Mode) -> Result<ImportText, NotImported> {
-    match import_text(rt.alloc(), bytes, mode) {
+fn text_of(screen: &Screen<'_>, bytes: &[u8], mode: Mode) -> Result<ImportText, NotImported> {
+    screen.progress.say("the lines are read");
+    let read = import_text(screen.rt.alloc(), bytes, mode);
+    screen.progress.end();
+    match read {
         Ok(done) => Ok(done),
-        Err(error) => Err(say_no_import(rt, bytes, &error)),
+        Err(error) => Err(say_no_import(screen.rt, bytes, &error)),
     }
 }
 

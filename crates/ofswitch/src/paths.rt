@@ -108,7 +108,10 @@ fn paths_within(
         form_of(asked.json),
         WriterSink::new(screen.report()),
     );
-    match write_paths(alloc, &read.described.switch, &of_frames, form, &mut out) {
+    screen.progress.say("all frames are followed");
+    let written = write_paths(alloc, &read.described.switch, &of_frames, form, &mut out);
+    screen.progress.end();
+    match written {
         Ok(PathsVerdict::Complete) if missing => Ok(PathsVerdict::Undecided),
         Ok(verdict) => Ok(verdict),
         Err(ended) => Err(unfinished(rt, ended)),

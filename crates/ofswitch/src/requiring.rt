@@ -2,7 +2,7 @@
 use crate::faults::requirement_fault;
 use crate::files::{NoFile, bytes_of};
 use crate::lookups::Lookups;
-use crate::progress::Progress;
+use crate::screen::Screen;
 use of_check::required_port;
 use of_command_line::{Check, CheckOutput};
 use of_files::missing_ports;
@@ -137,12 +137,12 @@ fn write_junit(rt: &HostRuntime, path: &str, found: &[Answer]) -> Result<(), NoF
 
 // What is found about each requirement, one after the other.
 fn answers_of(
-    rt: &HostRuntime,
+    screen: &Screen<'_>,
     switch: &Switch<Lookups>,
     lines: Vec<Line>,
     steps: usize,
 ) -> Result<Vec<Answer>, AllocError> {
-    let (alloc, count, progress) = (rt.alloc(), lines.len(), Progress::new(rt));
+    let (alloc, count, progress) = (screen.rt.alloc(), lines.len(), &screen.progress);
     let mut answers = Vec::new(alloc);
     for line in lines {
         let number = answers.len().saturating_add(1);
@@ -158,13 +158,14 @@ fn answers_of(
 
 /// What is found about requirements of a switch, which is also written as XML if that is asked for.
 pub fn decide_all(
-    rt: &HostRuntime,
+    screen: &Screen<'_>,
     asked: &Check,
     switch: &Switch<Lookups>,
     lines: Vec<Line>,
 ) -> Result<Required, NoFile> {
+    let rt = screen.rt;
     let (alloc, steps) = (rt.alloc(), asked.steps as usize);
-    let Ok(found) = answers_of(rt, switch, lines, steps) else {
+    let Ok(found) = answers_of(screen, switch, lines, steps) else {
         return Err(NoFile::ended(alloc, Ended::NoMemory));
     };
     if let Some(path) = &asked.junit {

@@ -1,8 +1,8 @@
 //! Standard output: in color where it is a terminal, and quiet when its reader has gone.
 ghost use Rattle.std.specs.Io.{WritesAtMost};
 
-use of_colors::paint;
-use of_command_line::{CheckOutput, Colors, CommandLine, Request};
+use crate::progress::Progress;
+use of_command_line::{CheckOutput, Colors, CommandLine, Request, paint};
 use of_hints::{OutputReader, Stream};
 use of_replay::Ended;
 use std::io::{self, IsTerminal, Write};
@@ -11,6 +11,8 @@ use std::io::{self, IsTerminal, Write};
 #[derive(Drop)]
 pub struct Screen<'r> {
     pub rt: &'r HostRuntime,
+    /// What the run does, until it prints.
+    pub progress: Progress<'r>,
     is_colored: bool,
     reader: OutputReader,
 }
@@ -40,6 +42,7 @@ impl<'r> Screen<'r> {
     pub fn plain(rt: &'r HostRuntime) -> Self {
         Screen {
             rt,
+            progress: Progress::new(rt),
             is_colored: false,
             reader: OutputReader::new(),
         }
@@ -54,6 +57,7 @@ impl<'r> Screen<'r> {
         };
         Screen {
             rt,
+            progress: Progress::new(rt),
             is_colored: is_wanted && is_in_words(&line.request),
             reader: OutputReader::new(),
         }
@@ -97,6 +101,7 @@ pub struct Report<'s, 'r> {
 
 impl Write for Report<'_, '_> {
     fn write(&mut self, buf: &[u8]) -> io::Result<usize> {
+        self.screen.progress.end();
         let reader = &self.screen.reader;
         if reader.has_gone() {
             return Ok(buf.len());

@@ -1,7 +1,7 @@
 //! Words of frames and matches that are refused.
 use of_frame_words::{Refusal, Why};
-use of_import::WordFault;
 use of_import_report::{help_of, reason_of};
+use of_ovs_lines::WordFault;
 use std::alloc::{AllocError, Global};
 
 // Which values the keyword of a word has, or which may be meant; or nothing.

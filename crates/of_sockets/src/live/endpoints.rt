@@ -1,5 +1,5 @@
 //! Addresses of the system, and those of the switch.
-use of_network::Endpoint;
+use of_live::Endpoint;
 use std::net::{IpAddr, Ipv6Addr, SocketAddr, UdpSocket};
 
 /// The endpoint at an address: an IPv4 address as `::ffff:a.b.c.d`.

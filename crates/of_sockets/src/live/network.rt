@@ -7,7 +7,7 @@ use crate::event_log::EventLog;
 use crate::opening::{Unopened, said};
 use crate::teller::Teller;
 use of_command_line::Live as Asked;
-use of_network::{Dropped, Endpoint, Input, Network, Wanted, Written};
+use of_live::{Dropped, Endpoint, Input, Network, Wanted, Written};
 use of_switch::Event;
 
 /// Sockets, a clock and a log. What passed is not recorded.

@@ -1,6 +1,6 @@
 //! Sockets by turns: datagrams, a controller and the machine's clock.
 ghost use Rattle.std.specs.Prelude.{◌≡◌, ◌<◌, ◌≤◌, length, IfSome};
-ghost use Rattle.of_network.specs.Inputs.{IsInput};
+ghost use Rattle.of_live.specs.Inputs.{IsInput};
 
 use super::port_rows::PortRows;
 use super::standard_rows::{Given, ROWS, StandardRows};
@@ -10,7 +10,7 @@ use crate::opening::{Unopened, opened};
 use crate::teller::Teller;
 use mio::{Events, Interest, Poll, Token};
 use of_command_line::Live as Asked;
-use of_network::{Dropped, Endpoint, Input, Wanted, Written};
+use of_live::{Dropped, Endpoint, Input, Wanted, Written};
 use of_switch::Event;
 use std::alloc::Global;
 use std::io;

@@ -5,7 +5,7 @@ use super::lines::Lines;
 use crate::teller::Teller;
 use mio::unix::SourceFd;
 use mio::{Interest, Registry, Token};
-use of_network::{RunningRow, read_running_row};
+use of_live::{RunningRow, read_running_row};
 use of_switch::Event;
 use of_wire::front_of;
 use std::io::{self, ErrorKind, Read, Stdin};

@@ -3,7 +3,7 @@ ghost use Rattle.std.specs.Prelude.{◌≡◌, ◌≤◌, length, IfSome};
 
 use super::endpoints::{address_of, endpoint_of, is_local};
 use mio::net::UdpSocket;
-use of_network::Endpoint;
+use of_live::Endpoint;
 use std::io::{self, ErrorKind};
 use std::net::{IpAddr, SocketAddr};
 

@@ -2,7 +2,7 @@ use Rattle.std.proofs.Common.{◌≡◌, ◌++◌, take}
 use Rattle.std.specs.Prelude.{map}
 use Rattle.std.specs.List.{flat_map}
 use Rattle.of_import.specs.Notes.{word_after_space}
-use Rattle.of_import.specs.PartialFlowViews.{view_word_fault}
+use Rattle.of_ovs_lines.specs.PartialFlowViews.{view_word_fault}
 use Rattle.of_import.proofs.notes.push_words.Given as goal
 
 abbrev pub invariant-loop-fault : goal.invariant-loop-fault

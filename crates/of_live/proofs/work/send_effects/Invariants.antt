@@ -1,6 +1,6 @@
 use Rattle.std.proofs.Common.{◌≡◌, take}
 use Rattle.std.specs.List.{flat_map}
-use Rattle.of_network.specs.Acts.{Records}
+use Rattle.of_live.specs.Acts.{Records}
 use Rattle.of_live.specs.Turns.{sent_in}
 use Rattle.of_live.proofs.work.send_effects.Given as goal
 

@@ -1,7 +1,7 @@
 use Rattle.std.proofs.Common.{◌≡◌, take}
 use Rattle.std.specs.List.{flat_map}
 use Rattle.of_switch.specs.Runs.{effects_in, reports_of}
-use Rattle.of_network.specs.Acts.{Records}
+use Rattle.of_live.specs.Acts.{Records}
 use Rattle.of_live.specs.Turns.{sent_in}
 use Rattle.of_live.proofs.work.send_reports.Given as goal
 

@@ -1,6 +1,6 @@
 use Rattle.std.proofs.Common.{◌≡◌, ◌∙◌, ap, sym}
 use Rattle.of_live.specs.Live.{Live}
-use Rattle.of_network.specs.Inputs.{came_of}
+use Rattle.of_live.specs.Inputs.{came_of}
 use Rattle.of_live.proofs.Turning.{passes_on, no_log}
 use Rattle.of_live.proofs.state.Live.pass.Goals as goal
 

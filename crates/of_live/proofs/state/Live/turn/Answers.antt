@@ -1,5 +1,5 @@
 use Rattle.std.proofs.Common.{◌∙◌, sym}
-use Rattle.of_network.specs.Inputs.{came_of}
+use Rattle.of_live.specs.Inputs.{came_of}
 use Rattle.of_live.proofs.Turning.{goes}
 use Rattle.of_live.proofs.state.Live.turn.Goals as goal
 

@@ -1,8 +1,0 @@
-use Rattle.std.proofs.Common.{◌∙◌, sym}
-use Rattle.of_text.specs.Views.{view_bucket}
-use Rattle.of_import.specs.PartialGroups.{bucket_fits}
-use Rattle.of_import.proofs.SoundLemmas.{mapped_tests}
-use Rattle.of_import.proofs.partial_group.buckets_fit.Goals as goal
-
-pub returns : goal.returns
-returns c = c.each_fits.ensures ∙ sym (mapped_tests bucket_fits view_bucket c.args.buckets.now)

@@ -1,3 +1,0 @@
-mod InstructionLemmas
-mod MatchLemmas
-mod WordLemmas

@@ -1,0 +1,9 @@
+pub mod PartialFlows
+pub mod PartialFlowViews
+pub mod PartialGroups
+pub mod PartialGroupViews
+pub mod Finished
+pub mod LineContents
+pub mod LineContentViews
+pub mod Sound
+pub mod PortNames
