@@ -83,7 +83,6 @@ REPLACED = """\
 priority=1,actions=1
  cookie=0x0, duration=5.2s, table=2, n_packets=0, n_bytes=0, priority=1 actions=1
 
-
 priority=2,actions=1
 priority=1,actions=2
 """

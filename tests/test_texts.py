@@ -23,7 +23,7 @@ def findings_in(document):
 KEYWORDS = re.compile(r"^== words of (\w+) : .*\n((?:(?!== ).*\n)*)", re.M)
 # where the words are in the sources: the rows of five tables, and what is compared with a word elsewhere
 TABLES = {it: f"of_ovs_words/src/{it[:-1]}_word.rt" for it in ("fields", "heads", "protocols", "actions", "ports")}
-OTHERS = ("of_ovs_words/src/*.rt", "of_import/src/line.rt", "of_import/src/partial_*.rt")
+OTHERS = ("of_ovs_words/src/*.rt", "of_ovs_lines/src/line.rt", "of_ovs_lines/src/partial_*.rt")
 # the first line of the flow text of a flow that says nothing of itself
 HEAD = "flow 0 32768 0x0000000000000000 0 0 0"
 
