@@ -115,7 +115,8 @@ def fate_by_trace(file, line, port, frame):
     traced = done.out.splitlines()
     if traced[0].endswith("so the frame is dropped"):
         return [f"not received: {re.search(r': (the port .*|there is no such port), so', traced[0])[1]}"]
-    return [re.sub(r": entry \d+", "", it) for it in traced[1:] if not it.startswith(("to the controller", "nothing leaves"))]
+    # `history` does not say why an output or a group sends nothing
+    return [re.sub(r": entry \d+|(?<=^output )(\S+): .*|(?<=^group )(\S+): .*", r"\1\2", it) for it in traced[1:] if not it.startswith(("to the controller", "nothing leaves"))]
 
 
 def without_controller(fate):
