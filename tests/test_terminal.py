@@ -1,13 +1,10 @@
-"""The program on a terminal: its colors, how far it says it is, and the width of its help."""
+"""The program on a terminal: its colors, what it says that it does, and the width of its help."""
 import os
 import pty
 import re
 import subprocess
-import tempfile
-import threading
-import time
 
-from tests.program import EXAMPLES, PROGRAM, Case, ofswitch, read
+from tests.program import EXAMPLES, PROGRAM, Case, ofswitch
 
 # a sequence of SGR (ECMA-48, 8.3.117)
 SGR = re.compile(r"\x1b\[[0-9;]*m")
@@ -77,20 +74,6 @@ def help_of(*words):
     return in_pipe(*words)[0].splitlines()
 
 
-def fed_late(path, text, seconds):
-    """A named pipe that has this text so many seconds after it is opened."""
-    os.mkfifo(path)
-
-    def feed():
-        with open(path, "w", encoding="utf-8") as pipe:
-            time.sleep(seconds)
-            pipe.write(text)
-
-    thread = threading.Thread(target=feed)
-    thread.start()
-    return thread
-
-
 class Terminal(Case):
     def test_colors(self):
         for words, parts in REPORTS:
@@ -128,16 +111,15 @@ class Terminal(Case):
         self.holds("a line for each status", [it[2] for it in statuses if re.match(r"  \d ", it)] == [*"012345"], statuses)
 
     def test_progress(self):
-        text = read("examples/router.flows")
-        with tempfile.TemporaryDirectory() as folder:
-            for seconds, said in (2.5, "\r\x1b[Kboth files are read\r\x1b[K"), (0, ""):
-                path = f"{folder}/{said != ''}.flows"
-                feeding = fed_late(path, text, seconds)
-                found = on_terminal("diff", EXAMPLES / "router.flows", path, stream="stderr")
-                feeding.join()
-                self.holds(f"diff of a file that takes {seconds} seconds", found == (said, 0), found)
-            path = f"{folder}/pipe.flows"
-            feeding = fed_late(path, text, 2.5)
-            done = ofswitch("diff", EXAMPLES / "router.flows", path)
-            feeding.join()
-            self.same("diff of a slow file without a terminal", done.err, "")
+        """What a command does is in a line that is gone when it ends."""
+        router, log = EXAMPLES / "router.flows", EXAMPLES / "first-path.events"
+        for said, status, words in (
+            ("all frames are compared", 0, ("diff", router, router)),
+            ("all frames are followed", 0, ("paths", router)),
+            ("the flow entries are checked", 0, ("check", router)),
+            ("the lines are read", 0, ("import", EXAMPLES / "office.txt")),
+            ("the rows are run", 0, ("history", log, "in_port=1,arp")),
+        ):
+            found = on_terminal(*words, stream="stderr")
+            self.holds(f"{words[0]} on a terminal", found == (f"\r\x1b[K{said}\r\x1b[K", status), found)
+            self.same(f"{words[0]} without a terminal", ofswitch(*words).err, "")
