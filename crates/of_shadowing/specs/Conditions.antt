@@ -72,9 +72,9 @@ has_one_of m f first second = list_any (λ e. number_of e.field == number_of f &
 abbrev pub matches_field : List MatchField → Field → Bool
 matches_field m f = list_any (λ e. number_of e.field == number_of f) m
 
--- a protocol with ports, and none of its ports in these fields
+-- TCP or UDP, and no port in these fields
 abbrev pub has_other_ports : List MatchField → Field → Field → Bool
-has_other_ports m f other = (has_one_of m IpProto 6 17 || has_one_of m IpProto 132 132) && not (matches_field m f || matches_field m other)
+has_other_ports m f other = has_one_of m IpProto 6 17 && not (matches_field m f || matches_field m other)
 
 abbrev pub is_need_met : List MatchField → Need → Bool
 is_need_met m Nothing = true

@@ -38,7 +38,7 @@ pub enum Need {
     Nothing,
     /// No ingress port beside a port by its name.
     NoPort,
-    /// A protocol with ports, and no other word for this one.
+    /// TCP or UDP, and no other word for the port.
     NoSource,
     NoDestination,
     /// IPv4 or IPv6.
@@ -174,13 +174,12 @@ fn matches_field(fields: &[MatchField], field: Field) -> bool
     fields.iter().any(|e| e.field.number() == number)
 }
 
-// Whether a match has a protocol with ports, and none of its ports in these fields.
+// Whether a match is of TCP or UDP, and has no port in these fields.
 fn has_other_ports(fields: &[MatchField], field: Field, other: Field) -> bool
     ensures { result ≡ has_other_ports_so fields.now field other }
 {
-    let has_ports = has_one_of(fields, Field::IpProto, 6, 17)
-        || has_one_of(fields, Field::IpProto, 132, 132);
-    has_ports && !(matches_field(fields, field) || matches_field(fields, other))
+    has_one_of(fields, Field::IpProto, 6, 17)
+        && !(matches_field(fields, field) || matches_field(fields, other))
 }
 
 /// Whether a match has what a field needs.
