@@ -315,7 +315,8 @@ class Both:
                 events.write_text("port add 9 0200000000aa nine up\nf 9 " + "ab" * 40 + "\n")
                 with Started(self.command, "--events", events, "--log", log, before=limited(size)) as it:
                     if self.command == "serve":
-                        with it.reach() as peer:
+                        # it may end before it is reached
+                        with contextlib.suppress(ConnectionError), it.reach() as peer:
                             peer.sendall(HELLO)
                             it.running.wait(PATIENCE)
                     status = it.running.wait(PATIENCE)
