@@ -16,7 +16,7 @@ use Rattle.of_regions.specs.declared.region.Region.{Region}
 use Rattle.of_regions.specs.Conditions.{AreConditions}
 use Rattle.of_regions.specs.Meeting.{Meets}
 use Rattle.of_regions.specs.Regions.{InRegion}
-use Rattle.of_symbolic.specs.Parts.{received_fields}
+use Rattle.of_symbolic.specs.InnerTags.{description_of}
 use Rattle.of_symbolic_run.specs.declared.frame_set.FrameSet.{FrameSet}
 use Rattle.of_symbolic_run.specs.FrameSets.{InFrames}
 use Rattle.of_symbolic_run.specs.PortNumbers.{came_in_by}
@@ -56,4 +56,4 @@ pub none_of_set : (s : FrameSet) (port : ℕ) → All (HasNoneFrom s.part.lacks.
 none_of_set s port each frame h =
     let in_region = h.part.0 in
     All-contains (HasNoneFrom s.part.lacks.items port) s.part.regions.items in_region.0 each in_region.1
-    (received_fields frame port) in_region.2 h.part.1 refl
+    (description_of s.inner frame port) in_region.2 h.part.1 refl

@@ -25,7 +25,8 @@ use Rattle.of_datapath.specs.Datapath.{Forwarding, world_of}
 use Rattle.of_regions.specs.declared.region.Region.{Region}
 use Rattle.of_regions.specs.Searching.{InSome}
 use Rattle.of_symbolic.specs.Branches.{rewritten_fields}
-use Rattle.of_symbolic.specs.Parts.{NoneOfMatches, received_fields}
+use Rattle.of_symbolic.specs.InnerTags.{description_of}
+use Rattle.of_symbolic.specs.Parts.{NoneOfMatches}
 use Rattle.of_symbolic_run.specs.declared.frame_set.FrameSet.{FrameSet}
 use Rattle.of_symbolic_run.specs.declared.state.SymbolicTask.{SymbolicTask}
 use Rattle.of_symbolic_run.specs.Received.{IsReceivedAt, items_at}
@@ -76,18 +77,18 @@ some_or_none (x ∷ asked) fields = by_test (matches_map x.items fields) refl (s
 abbrev pub HasAll : List (Vec MatchField) → List (Vec MatchField) → Type 0
 HasAll some all = (m : Vec MatchField) → Contains some m → Contains all m
 
-pub asked_more : (some all : List (Vec MatchField)) (l : List Action) (metadata : ℕ) (e : FlowEntry) → HasAll some all → IsAskedIn some l metadata e → IsAskedIn all l metadata e
-asked_more some all l metadata e more h frame port is matches = let m = h frame port is matches in (m.0, more m.0 m.1, m.2)
+pub asked_more : (told : Bool) (some all : List (Vec MatchField)) (l : List Action) (metadata : ℕ) (e : FlowEntry) → HasAll some all → IsAskedIn told some l metadata e → IsAskedIn told all l metadata e
+asked_more told some all l metadata e more h frame port is matches = let m = h frame port is matches in (m.0, more m.0 m.1, m.2)
 
-module _ (asked : List (Vec MatchField)) (l : List Action) (metadata : ℕ) where
-  pub none_asked : (flows : List FlowEntry) → AreMarkedAskedIn asked l metadata flows []
+module _ (told : Bool) (asked : List (Vec MatchField)) (l : List Action) (metadata : ℕ) where
+  pub none_asked : (flows : List FlowEntry) → AreMarkedAskedIn told asked l metadata flows []
   none_asked flows i e at mark = absurd cc
 
-  pub no_entries_asked : (marks : List Bool) → AreMarkedAskedIn asked l metadata [] marks
+  pub no_entries_asked : (marks : List Bool) → AreMarkedAskedIn told asked l metadata [] marks
   no_entries_asked marks i e at mark = absurd cc
 
-  pub one_asked : (e : FlowEntry) (flows : List FlowEntry) (mark : Bool) (marks : List Bool) → (mark ≡ true → IsAskedIn asked l metadata e) → AreMarkedAskedIn asked l metadata flows marks → AreMarkedAskedIn asked l metadata (e ∷ flows) (mark ∷ marks)
-  one_asked e flows mark marks own others zero x at is = let same : e ≡ x = cc in let on : mark ≡ true = cc in subst (IsAskedIn asked l metadata) same (own on)
+  pub one_asked : (e : FlowEntry) (flows : List FlowEntry) (mark : Bool) (marks : List Bool) → (mark ≡ true → IsAskedIn told asked l metadata e) → AreMarkedAskedIn told asked l metadata flows marks → AreMarkedAskedIn told asked l metadata (e ∷ flows) (mark ∷ marks)
+  one_asked e flows mark marks own others zero x at is = let same : e ≡ x = cc in let on : mark ≡ true = cc in subst (IsAskedIn told asked l metadata) same (own on)
   one_asked e flows mark marks own others (suc i) x at is = others i x at is
 
 -- ---- sets of frames that conditions match
@@ -117,14 +118,16 @@ abbrev pub NoneBefore : List (Vec MatchField) → ℕ → (Field → Option ℕ)
 NoneBefore asked n fields = (k : ℕ) (m : Vec MatchField) → k < n → slice_index_or asked k m ≡ m → matches_map m.items fields ≡ false
 
 pub record AreSetsSoFar (frames rest : FrameSet) (asked : List (Vec MatchField)) (n : ℕ) (sets : List FrameSet) : Type 0 where
+  pub told : rest.inner ≡ frames.inner
   pub within : (s : FrameSet) → Contains sets s → (frame : List ℕ) (port : ℕ) → InFrames s frame port → InFrames frames frame port
   pub left : (frame : List ℕ) (port : ℕ) → InFrames rest frame port → InFrames frames frame port
   pub inside : n ≤ length asked
   pub few : length sets ≤ n
-  pub all : (frame : List ℕ) (port : ℕ) → IsFrame frame → InFrames frames frame port → InSets sets frame port ⊎ (InFrames rest frame port × NoneBefore asked n (received_fields frame port))
+  pub all : (frame : List ℕ) (port : ℕ) → IsFrame frame → InFrames frames frame port → InSets sets frame port ⊎ (InFrames rest frame port × NoneBefore asked n (description_of frames.inner frame port))
 
 pub sets_begin : (frames : FrameSet) (asked : List (Vec MatchField)) (sets : List FrameSet) → sets ≡ [] → AreSetsSoFar frames frames asked 0 sets
 sets_begin frames asked sets none = record {
+  told = refl;
   within = λ s c. absurd (let d = subst (λ (l : List FrameSet). Contains l s) none c in let lt = d.1 in omega (arith, lt));
   left = λ frame port inside. inside;
   inside = omega arith;
@@ -135,6 +138,7 @@ sets_begin frames asked sets none = record {
 pub sets_more : (frames rest those rest' : FrameSet) (asked : List (Vec MatchField)) (n : ℕ) (m : Vec MatchField) (sets sets' : List FrameSet) → n < length asked → m ≡ slice_index_or asked n m → AreFramesMatching m.items rest those → AreFramesWithout m.items rest rest' → AddsSet sets those sets' →
     AreSetsSoFar frames rest asked n sets → AreSetsSoFar frames rest' asked (n + 1) sets'
 sets_more frames rest those rest' asked n m sets sets' lt is matching without adds h = record {
+  told = without.inner ∙ h.told;
   within = λ s c frame port inside. elim (listed s c adds) as (λ x. InFrames frames frame port) [
     | inl before ↦ h.within s before frame port inside
     | inr same ↦ h.left frame port (matching.within frame port (subst (λ (x : FrameSet). InFrames x frame port) (sym same) inside)).0
@@ -145,9 +149,9 @@ sets_more frames rest those rest' asked n m sets sets' lt is matching without ad
     | inl one ↦ (let e : length sets' ≡ length sets + 1 = ap length one ∙ length_push sets those in omega (arith, e, h.few))
     | inr none ↦ (let e : length sets' ≡ length sets = ap length none.0 in omega (arith, e, h.few))
   ];
-  all = λ frame port is_frame inside. elim (h.all frame port is_frame inside) as (λ x. InSets sets' frame port ⊎ (InFrames rest' frame port × NoneBefore asked (n + 1) (received_fields frame port))) [
+  all = λ frame port is_frame inside. elim (h.all frame port is_frame inside) as (λ x. InSets sets' frame port ⊎ (InFrames rest' frame port × NoneBefore asked (n + 1) (description_of frames.inner frame port))) [
     | inl s ↦ inl (s.0, kept s.0 s.1 adds, s.2)
-    | inr r ↦ by_test frame port is_frame r.0 r.1 (matches_map m.items (received_fields frame port)) refl
+    | inr r ↦ by_test frame port is_frame r.0 r.1 (matches_map m.items (description_of frames.inner frame port)) refl
   ];
 }
   where
@@ -161,17 +165,20 @@ sets_more frames rest those rest' asked n m sets sets' lt is matching without ad
 
     added : (frame : List ℕ) (port : ℕ) → InFrames those frame port → AddsSet sets those sets' → InSets sets' frame port
     added frame port inside (inl one) = (those, rw one (Contains-push sets those), inside)
-    added frame port inside (inr none) = absurd (no_region (received_fields frame port) (subst (λ (rs : List Region). InSome rs (received_fields frame port)) none.1 inside.part.0))
+    added frame port inside (inr none) = absurd (no_region (description_of those.inner frame port) (subst (λ (rs : List Region). InSome rs (description_of those.inner frame port)) none.1 inside.part.0))
 
-    none_yet : (frame : List ℕ) (port : ℕ) → NoneBefore asked n (received_fields frame port) → matches_map m.items (received_fields frame port) ≡ false → NoneBefore asked (n + 1) (received_fields frame port)
-    none_yet frame port before own k x less at = elim (before_or_at k n less) as (λ y. matches_map x.items (received_fields frame port) ≡ false) [
+    as_rest : (frame : List ℕ) (port : ℕ) (b : Bool) → matches_map m.items (description_of frames.inner frame port) ≡ b → matches_map m.items (description_of rest.inner frame port) ≡ b
+    as_rest frame port b e = ap (λ (told : Bool). matches_map m.items (description_of told frame port)) h.told ∙ e
+
+    none_yet : (frame : List ℕ) (port : ℕ) → NoneBefore asked n (description_of frames.inner frame port) → matches_map m.items (description_of frames.inner frame port) ≡ false → NoneBefore asked (n + 1) (description_of frames.inner frame port)
+    none_yet frame port before own k x less at = elim (before_or_at k n less) as (λ y. matches_map x.items (description_of frames.inner frame port) ≡ false) [
       | inl earlier ↦ before k x earlier at
-      | inr here ↦ (let same : m ≡ x = at_same asked n k m x lt here is at in ap (λ (y : Vec MatchField). matches_map y.items (received_fields frame port)) (sym same) ∙ own)
+      | inr here ↦ (let same : m ≡ x = at_same asked n k m x lt here is at in ap (λ (y : Vec MatchField). matches_map y.items (description_of frames.inner frame port)) (sym same) ∙ own)
     ]
 
-    by_test : (frame : List ℕ) (port : ℕ) → IsFrame frame → InFrames rest frame port → NoneBefore asked n (received_fields frame port) → (b : Bool) → matches_map m.items (received_fields frame port) ≡ b → InSets sets' frame port ⊎ (InFrames rest' frame port × NoneBefore asked (n + 1) (received_fields frame port))
-    by_test frame port is_frame inside before true e = inl (added frame port (matching.all frame port is_frame inside e) adds)
-    by_test frame port is_frame inside before false e = inr (without.all frame port inside e, none_yet frame port before e)
+    by_test : (frame : List ℕ) (port : ℕ) → IsFrame frame → InFrames rest frame port → NoneBefore asked n (description_of frames.inner frame port) → (b : Bool) → matches_map m.items (description_of frames.inner frame port) ≡ b → InSets sets' frame port ⊎ (InFrames rest' frame port × NoneBefore asked (n + 1) (description_of frames.inner frame port))
+    by_test frame port is_frame inside before true e = inl (added frame port (matching.all frame port is_frame inside (as_rest frame port true e)) adds)
+    by_test frame port is_frame inside before false e = inr (without.all frame port inside (as_rest frame port false e), none_yet frame port before e)
 
 pub sets_end : (frames rest : FrameSet) (asked : List (Vec MatchField)) (n : ℕ) (sets : List FrameSet) → length asked ≤ n → AreSetsSoFar frames rest asked n sets → AreMatchedSets frames asked sets
 sets_end frames rest asked n sets le h = record {
@@ -298,9 +305,9 @@ unfolding step
 step_of w m p work rest e = record { tasks = ap (λ (ts : List Task). (first_step w m ts).tasks) e; items = ap (λ (ts : List Task). (first_step w m ts).items) e }
 
 -- none of the marked entries matches a packet of a frame that no list of conditions matches
-none_marked_matches : (asked : List (Vec MatchField)) (l : List Action) (metadata : ℕ) (flows : List FlowEntry) (marks : List Bool) → AreMarkedAskedIn asked l metadata flows marks → (frame : List ℕ) (port : ℕ) → IsFrame frame → NoneOfMatches asked (received_fields frame port) →
+none_marked_matches : (told : Bool) (asked : List (Vec MatchField)) (l : List Action) (metadata : ℕ) (flows : List FlowEntry) (marks : List Bool) → AreMarkedAskedIn told asked l metadata flows marks → (frame : List ℕ) (port : ℕ) → IsFrame frame → NoneOfMatches asked (description_of told frame port) →
     NoMarkedMatches (rewritten_fields l metadata frame port) flows marks
-none_marked_matches asked l metadata flows marks h frame port is none i e at mark = by_test (matches_map e.flow.fields (rewritten_fields l metadata frame port)) refl
+none_marked_matches told asked l metadata flows marks h frame port is none i e at mark = by_test (matches_map e.flow.fields (rewritten_fields l metadata frame port)) refl
   where
     by_test : (b : Bool) → matches_map e.flow.fields (rewritten_fields l metadata frame port) ≡ b → b ≡ false
     by_test false is_so = refl
@@ -308,11 +315,11 @@ none_marked_matches asked l metadata flows marks h frame port is none i e at mar
 
 module _ (c : Compared) (f g : Forwarding) (sound : IsSound (world_of f)) (sound' : IsSound (world_of g)) (ports : SamePorts f.ports g.ports) (a : Agreement) (agreed : IsAgreement f g a) (pair : Pair) (here : AreAtTableBefore a.from pair.first pair.second)
     (sent : LeaveAlike c f.ports pair.frames pair.first.emitted.items pair.second.emitted.items) (x : SymbolicTask) (xs : List SymbolicTask) (first : pair.first.tasks.items ≡ x ∷ xs) (asked : List (Vec MatchField))
-    (marked : AreMarkedAskedIn asked x.packet.rewrites x.packet.metadata (entries_in f (a.from - 1)) a.changed.a.items) (also : AreMarkedAskedIn asked x.packet.rewrites x.packet.metadata (entries_in g (a.from - 1)) a.changed.b.items) where
+    (marked : AreMarkedAskedIn pair.frames.inner asked x.packet.rewrites x.packet.metadata (entries_in f (a.from - 1)) a.changed.a.items) (also : AreMarkedAskedIn pair.frames.inner asked x.packet.rewrites x.packet.metadata (entries_in g (a.from - 1)) a.changed.b.items) where
   abbrev last : ℕ
   last = a.from - 1
 
-  module _ (states : AreStatesOfRuns (world_of f) (world_of g) pair) (frame : List ℕ) (port : ℕ) (received : IsReceivedAt (world_of f) frame port) (within : InFrames pair.frames frame port) (none : NoneOfMatches asked (received_fields frame port)) where
+  module _ (states : AreStatesOfRuns (world_of f) (world_of g) pair) (frame : List ℕ) (port : ℕ) (received : IsReceivedAt (world_of f) frame port) (within : InFrames pair.frames frame port) (none : NoneOfMatches asked (description_of pair.frames.inner frame port)) where
     abbrev p : Packet
     p = packet_for x.packet frame port
 
@@ -339,8 +346,8 @@ module _ (c : Compared) (f g : Forwarding) (sound : IsSound (world_of f)) (sound
     hits : AreSameHits (entries_in f last) (entries_in g last) (winner_place key (entries_in f last)) (winner_place key (entries_in g last))
     hits =
         unchanged_hits (entries_in f last) (entries_in g last) a.changed changed key
-        (unmarked_winner key (entries_in f last) a.changed.a.items changed.first (none_marked_matches asked x.packet.rewrites x.packet.metadata (entries_in f last) a.changed.a.items marked frame port received.frame_is none) (winner_place key (entries_in f last)) (winner_is key (entries_in f last)))
-        (unmarked_winner key (entries_in g last) a.changed.b.items changed.second (none_marked_matches asked x.packet.rewrites x.packet.metadata (entries_in g last) a.changed.b.items also frame port received.frame_is none) (winner_place key (entries_in g last)) (winner_is key (entries_in g last)))
+        (unmarked_winner key (entries_in f last) a.changed.a.items changed.first (none_marked_matches pair.frames.inner asked x.packet.rewrites x.packet.metadata (entries_in f last) a.changed.a.items marked frame port received.frame_is none) (winner_place key (entries_in f last)) (winner_is key (entries_in f last)))
+        (unmarked_winner key (entries_in g last) a.changed.b.items changed.second (none_marked_matches pair.frames.inner asked x.packet.rewrites x.packet.metadata (entries_in g last) a.changed.b.items also frame port received.frame_is none) (winner_place key (entries_in g last)) (winner_is key (entries_in g last)))
 
     same : AreSameLookups (suc last) (row (world_of f) p work) (row (world_of g) p work)
     same = hits_same f g last sound p set (winner_place key (entries_in f last)) (winner_place key (entries_in g last)) hits
@@ -369,8 +376,8 @@ module _ (c : Compared) (f g : Forwarding) (sound : IsSound (world_of f)) (sound
       ArePairs c (world_of f) (world_of g) pair pairs
   changed_are_pairs frames sets pairs copy matched of = record {
     hold = λ states. of.hold states (λ s there frame port within. (copy.within frame port (matched.within s there frame port within)).0);
-    all = λ states frame port received within. elim (some_or_none asked (received_fields frame port)) as (λ x. InPairs pairs frame port ⊎ IsTreatedAlike c (world_of f) (world_of g) frame port) [
-      | inl some ↦ (let s = matched.all frame port received.frame_is (copy.all frame port received.frame_is within refl) some in inl (of.all s.0 s.1 frame port received.frame_is s.2))
+    all = λ states frame port received within. elim (some_or_none asked (description_of pair.frames.inner frame port)) as (λ x. InPairs pairs frame port ⊎ IsTreatedAlike c (world_of f) (world_of g) frame port) [
+      | inl some ↦ (let s = matched.all frame port received.frame_is (copy.all frame port received.frame_is within refl) (subst (λ (b : Bool). MatchedBySome asked (description_of b frame port)) (sym copy.inner) some) in inl (of.all s.0 s.1 frame port received.frame_is s.2))
       | inr none ↦ inr (unmatched_alike states frame port received within none)
     ];
   }

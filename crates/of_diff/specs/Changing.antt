@@ -12,7 +12,7 @@ use Rattle.of_table.specs.Table.{FlowEntry}
 use Rattle.of_table.specs.Tables.{table_at}
 use Rattle.of_datapath.specs.Datapath.{Forwarding, world_of}
 use Rattle.of_symbolic.specs.Branches.{rewritten_fields}
-use Rattle.of_symbolic.specs.Parts.{received_fields}
+use Rattle.of_symbolic.specs.InnerTags.{description_of}
 use Rattle.of_machine.specs.TheWorld.{TheWorld}
 use Rattle.of_symbolic_run.specs.declared.dividing.Case.{Case}
 use Rattle.of_symbolic_run.specs.declared.frame_set.FrameSet.{FrameSet}
@@ -44,21 +44,21 @@ pub record IsAgreement (f g : Forwarding) (a : Agreement) : Type 0 where
 abbrev pub MatchedBySome : List (Vec MatchField) → (Field → Option ℕ) → Type 0
 MatchedBySome asked fields = (m : Vec MatchField) × Contains asked m × (matches_map m.items fields ≡ true)
 
--- if the entry matches the packet after these actions, one of the lists of conditions matches the frame that came in
-abbrev pub IsAskedIn : List (Vec MatchField) → List Action → ℕ → FlowEntry → Type 0
-IsAskedIn asked l metadata e =
-    (frame : List ℕ) (port : ℕ) → IsFrame frame → matches_map e.flow.fields (rewritten_fields l metadata frame port) ≡ true → MatchedBySome asked (received_fields frame port)
+-- if the entry matches the packet after these actions, one of the lists of conditions matches the description of the frame that came in
+abbrev pub IsAskedIn : Bool → List (Vec MatchField) → List Action → ℕ → FlowEntry → Type 0
+IsAskedIn told asked l metadata e =
+    (frame : List ℕ) (port : ℕ) → IsFrame frame → matches_map e.flow.fields (rewritten_fields l metadata frame port) ≡ true → MatchedBySome asked (description_of told frame port)
 
 -- so it is for each marked entry
-abbrev pub AreMarkedAskedIn : List (Vec MatchField) → List Action → ℕ → List FlowEntry → List Bool → Type 0
-AreMarkedAskedIn asked l metadata flows marks = (i : ℕ) (e : FlowEntry) → slice_get flows i ≡ Some e → slice_get marks i ≡ Some true → IsAskedIn asked l metadata e
+abbrev pub AreMarkedAskedIn : Bool → List (Vec MatchField) → List Action → ℕ → List FlowEntry → List Bool → Type 0
+AreMarkedAskedIn told asked l metadata flows marks = (i : ℕ) (e : FlowEntry) → slice_get flows i ≡ Some e → slice_get marks i ≡ Some true → IsAskedIn told asked l metadata e
 
 -- ---- frames
 
 -- each frame that conditions match is in one of these sets, and none has other frames; there are no more sets than lists of conditions
 pub record AreMatchedSets (frames : FrameSet) (asked : List (Vec MatchField)) (sets : List FrameSet) : Type 0 where
   pub within : (s : FrameSet) → Contains sets s → (frame : List ℕ) (port : ℕ) → InFrames s frame port → InFrames frames frame port
-  pub all : (frame : List ℕ) (port : ℕ) → IsFrame frame → InFrames frames frame port → MatchedBySome asked (received_fields frame port) →
+  pub all : (frame : List ℕ) (port : ℕ) → IsFrame frame → InFrames frames frame port → MatchedBySome asked (description_of frames.inner frame port) →
       (s : FrameSet) × Contains sets s × InFrames s frame port
   pub few : length sets ≤ length asked
 

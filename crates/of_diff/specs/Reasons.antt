@@ -44,7 +44,7 @@ IsTriedReason c w v steps s why.OtherActions = SomeIsAlike c w v s
 -- it is not known what a lookup of one of the two finds; or all the steps were taken; or both runs are settled, and that is all that a search gave; if some
 -- frame is treated alike, the runs did not emit the same
 abbrev pub IsReasonOfPair : Compared → TheWorld → TheWorld → ℕ → ℕ → Pair → Why → Type 0
-IsReasonOfPair c w v steps taken p why.UnknownTag = IsUnknownLookup w p.first ⊎ IsUnknownLookup v p.second
+IsReasonOfPair c w v steps taken p why.UnknownTag = IsUnknownLookup p.frames.inner w p.first ⊎ IsUnknownLookup p.frames.inner v p.second
 IsReasonOfPair c w v steps taken p why.Steps = taken ≡ steps
 IsReasonOfPair c w v steps taken p why.Search = AreSettled w v p × IsTriedReason c w v steps p.frames why.Search
 IsReasonOfPair c w v steps taken p why.OtherActions = AreSettled w v p × IsTriedReason c w v steps p.frames why.OtherActions × (p.first.emitted.items ≢ p.second.emitted.items)

@@ -40,7 +40,7 @@ fn push_asked(
     entry: &Entry,
 ) -> Result<bool, AllocError>
     ensures asked { IfOk result (λ known. known ≡ true → (l : List Action) → IsOverlay overlay.now l → AreRewriting l →
-        IsAskedIn asked.new.items l metadata (entry_of entry.now)) }
+        IsAskedIn overlay.now.inner asked.new.items l metadata (entry_of entry.now)) }
     ensures more { OnOk result ((m : AVec AMatchField) → Contains asked.old.items m → Contains asked.new.items m) }
     ensures conditions { OnOk result (AreListsOfConditions asked.old.items → AreListsOfConditions asked.new.items) }
     ensures few { OnOk result (length asked.new.items ≤ length asked.old.items + 1) }
@@ -66,7 +66,7 @@ fn push_marked(
     mark: bool,
 ) -> Result<bool, AllocError>
     ensures asked { IfOk result (λ known. known ≡ true → (l : List Action) → IsOverlay overlay.now l → AreRewriting l →
-        mark ≡ true → IsAskedIn asked.new.items l metadata (entry_of entry.now)) }
+        mark ≡ true → IsAskedIn overlay.now.inner asked.new.items l metadata (entry_of entry.now)) }
     ensures more { OnOk result ((m : AVec AMatchField) → Contains asked.old.items m → Contains asked.new.items m) }
     ensures conditions { OnOk result (AreListsOfConditions asked.old.items → AreListsOfConditions asked.new.items) }
     ensures few { OnOk result (length asked.new.items ≤ length asked.old.items + 1) }
@@ -88,7 +88,7 @@ fn push_all_asked(
     marks: &[bool],
 ) -> Result<bool, AllocError>
     ensures asked { IfOk result (λ known. known ≡ true → (l : List Action) → IsOverlay overlay.now l → AreRewriting l →
-        AreMarkedAskedIn asked.new.items l metadata (flows_of entries.entry) marks.now) }
+        AreMarkedAskedIn overlay.now.inner asked.new.items l metadata (flows_of entries.entry) marks.now) }
     ensures more { OnOk result ((m : AVec AMatchField) → Contains asked.old.items m → Contains asked.new.items m) }
     ensures conditions { OnOk result (AreListsOfConditions asked.old.items → AreListsOfConditions asked.new.items) }
     ensures few { IfOk result (λ known. known ≡ true → length asked.new.items ≤ length asked.old.items + length (flows_of entries.entry)) }
@@ -184,12 +184,13 @@ fn changed_conditions<L: Lookup>(
     second: &Datapath<L>,
     agreement: &Agreement,
     packet: &SymbolicPacket,
+    inner: bool,
 ) -> Result<Option<Vec<Vec<MatchField>>>, AllocError>
     requires positive { 0 < agreement.now.from }
     requires last { agreement.now.from ≤ 16 }
-    ensures first { IfOk result (λ found. IfSome found (λ asked. AreMarkedAskedIn asked.items packet.now.rewrites packet.now.metadata
+    ensures first { IfOk result (λ found. IfSome found (λ asked. AreMarkedAskedIn inner asked.items packet.now.rewrites packet.now.metadata
         (entries_in (forwarding_of first.now) (agreement.now.from - 1)) agreement.now.changed.a.items)) }
-    ensures second { IfOk result (λ found. IfSome found (λ asked. AreMarkedAskedIn asked.items packet.now.rewrites packet.now.metadata
+    ensures second { IfOk result (λ found. IfSome found (λ asked. AreMarkedAskedIn inner asked.items packet.now.rewrites packet.now.metadata
         (entries_in (forwarding_of second.now) (agreement.now.from - 1)) agreement.now.changed.b.items)) }
     ensures conditions { IfOk result (λ found. IfSome found (λ asked. AreListsOfConditions asked.items)) }
     ensures few { IfOk result (λ found. IfSome found (λ asked. length asked.items ≤
@@ -197,7 +198,7 @@ fn changed_conditions<L: Lookup>(
 {
     let table = agreement.from - 1;
     packet.rewrites.known();
-    let overlay = packet.rewrites.overlay(alloc)?;
+    let overlay = packet.rewrites.overlay(alloc, inner)?;
     let metadata = packet.metadata;
     let mut asked = Vec::new(alloc);
     let entries = first.entries(table);
@@ -247,7 +248,8 @@ pub fn changed_pairs<'a, L: Lookup>(
     first.known_world();
     second.known_world();
     let packet = &pair.first.tasks[0].packet;
-    let Some(asked) = changed_conditions(alloc, first, second, agreement, packet)? else {
+    let inner = pair.frames.inner;
+    let Some(asked) = changed_conditions(alloc, first, second, agreement, packet, inner)? else {
         return Ok(None);
     };
     let frames = pair.frames.matching(alloc, &[])?;

@@ -23,7 +23,7 @@ use crate::stepping::step_pair;
 use of_alike::{Compared, have_same_ports};
 use of_classifier::Lookup;
 use of_datapath::Datapath;
-use of_symbolic_run::{received_frames, received_state};
+use of_symbolic_run::{pops_tags, received_frames, received_state};
 use std::alloc::{AllocError, Global};
 
 // Puts what comes of a pair to the others.
@@ -67,8 +67,12 @@ fn give_up<'a>(pairs: Vec<Pair<'a>>, so_far: &mut Differences) -> Result<(), All
     Ok(())
 }
 
-// The pair before any step.
-fn first_pair<'a, L: Lookup>(alloc: Global, datapath: &Datapath<L>) -> Result<Pair<'a>, AllocError>
+// The pair before any step. Frames are described with their inner tags or without.
+fn first_pair<'a, L: Lookup>(
+    alloc: Global,
+    datapath: &Datapath<L>,
+    inner: bool,
+) -> Result<Pair<'a>, AllocError>
     ensures holds { IfOk result (λ pair. (v : TheWorld) → AreStatesOfRuns (world_of (forwarding_of datapath.now)) v pair) }
     ensures first { IfOk result (λ pair. IsFirstState pair.first) }
     ensures second { IfOk result (λ pair. IsFirstState pair.second) }
@@ -76,7 +80,7 @@ fn first_pair<'a, L: Lookup>(alloc: Global, datapath: &Datapath<L>) -> Result<Pa
         IsReceivedAt (world_of (forwarding_of datapath.now)) frame port → InFrames pair.frames frame port) }
 {
     Ok(Pair {
-        frames: received_frames(alloc, datapath)?,
+        frames: received_frames(alloc, datapath, inner)?,
         first: received_state(alloc)?,
         second: received_state(alloc)?,
     })
@@ -113,7 +117,8 @@ pub fn differences<L: Lookup>(
         return Ok(Some(so_far));
     }
     let mut pairs = Vec::new(alloc);
-    pairs.push(first_pair(alloc, first)?)?;
+    let inner = pops_tags(first) || pops_tags(second);
+    pairs.push(first_pair(alloc, first, inner)?)?;
     let mut left = steps;
     while left > 0 {
         let Some(pair) = pairs.pop() else {

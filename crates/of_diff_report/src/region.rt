@@ -12,7 +12,7 @@ use of_layers::Field;
 use of_ovs_words::text_for;
 use of_oxm::MatchField;
 use of_regions::{Meeting, Region};
-use of_symbolic_run::FrameSet;
+use of_symbolic_run::{FrameSet, any_about_metadata};
 use of_values::Part::Number;
 use of_values::{push_value_words, put};
 use std::alloc::{AllocError, Global};
@@ -187,7 +187,7 @@ fn are_true_of(alloc: Global, words: &[u8], frames: &FrameSet) -> Result<bool, A
     ensures { IfOk result (λ yes. yes ≡ true → IsTrueOf frames.now words.now) }
 {
     match read_conditions(alloc, words) {
-        Ok(fields) => Ok(all_match(&frames.part.regions, &fields)),
+        Ok(fields) => Ok(!any_about_metadata(&fields) && all_match(&frames.part.regions, &fields)),
         Err(NoFrame::NoMemory) => Err(AllocError),
         Err(NoFrame::Refused(_)) => Ok(false),
     }

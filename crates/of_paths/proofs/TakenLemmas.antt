@@ -29,5 +29,5 @@ module _ (w : TheWorld) (within : List MatchField) (taken : ℕ) where
     pub step_ended : old.state.tasks.items ≡ [] → AreLeftAfter w within (taken + 1) cases
     step_ended done = one_more (cases ++ old ∷ []) cases left (IsCaseStep.ended old refl done)
 
-    pub step_unknown : IsUnknownLookup w old.state → AreLeftAfter w within (taken + 1) cases
+    pub step_unknown : IsUnknownLookup old.frames.inner w old.state → AreLeftAfter w within (taken + 1) cases
     step_unknown unknown = one_more (cases ++ old ∷ []) cases left (IsCaseStep.unknown old refl unknown)

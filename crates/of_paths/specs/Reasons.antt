@@ -42,7 +42,7 @@ pub record IsFirstCase (w : TheWorld) (within : List MatchField) (c : Case) : Ty
 pub data IsCaseStep (w : TheWorld) (old new : List Case) : Type 0 where
   moved : (others : List Case) (c : Case) (cases : List Case) → old ≡ others ++ c ∷ [] → new ≡ others ++ reverse cases → AreCases w c.frames c.state cases → AreNextStates w c.state cases → IsCaseStep w old new
   ended : (c : Case) → old ≡ new ++ c ∷ [] → c.state.tasks.items ≡ [] → IsCaseStep w old new
-  unknown : (c : Case) → old ≡ new ++ c ∷ [] → IsUnknownLookup w c.state → IsCaseStep w old new
+  unknown : (c : Case) → old ≡ new ++ c ∷ [] → IsUnknownLookup c.frames.inner w c.state → IsCaseStep w old new
 
 -- so many steps lead from one set to these
 abbrev pub AreCaseSteps : TheWorld → Case → ℕ → List Case → Type 0
@@ -59,7 +59,7 @@ pub record AreLeftAfter (w : TheWorld) (within : List MatchField) (taken : ℕ) 
 
 -- it is not known what the lookup of the set finds; or all the steps were taken; or its run is at its end, and a search found no frame of it
 abbrev pub IsReason : TheWorld → ℕ → ℕ → Case → WhyUndecided → Type 0
-IsReason w steps taken c why.UnknownTag = IsUnknownLookup w c.state
+IsReason w steps taken c why.UnknownTag = IsUnknownLookup c.frames.inner w c.state
 IsReason w steps taken c why.Steps = taken ≡ steps
 IsReason w steps taken c why.Search = (c.state.tasks.items ≡ []) × FindsFrame c.frames steps found.Undecided
 

@@ -39,7 +39,7 @@ abbrev pub IsNextOf : TheWorld → Case → Next → Type 0
 IsNextOf w old (next.Cases cases) = AreCases w old.frames old.state cases.items × AreNextStates w old.state cases.items
 IsNextOf w old (next.Ended p) =
     (p.frames ≡ old.frames) × (old.state.tasks.items ≡ []) × (p.steps.items ≡ old.state.steps.items) × (p.emitted.items ≡ old.state.emitted.items) × (IsStateOfRuns w old → AreRunsOf w old p)
-IsNextOf w old (next.Undecided u) = (u.frames ≡ old.frames) × (u.why ≡ UnknownTag) × IsUnknownLookup w old.state
+IsNextOf w old (next.Undecided u) = (u.frames ≡ old.frames) × (u.why ≡ UnknownTag) × IsUnknownLookup old.frames.inner w old.state
 
 -- what was found is right
 pub record AreFoundSoFar (merging : Merging) (w : TheWorld) (within : List MatchField) (steps : ℕ) (found : Paths) : Type 0 where

@@ -24,7 +24,7 @@ use crate::stepping::{Next, step_case};
 use of_classifier::Lookup;
 use of_datapath::Datapath;
 use of_oxm::MatchField;
-use of_symbolic_run::{Case, received_frames, received_state};
+use of_symbolic_run::{Case, any_about_metadata, pops_tags, received_frames, received_state};
 use std::alloc::{AllocError, Global};
 
 // Puts what comes of a state to the others.
@@ -90,7 +90,8 @@ fn first_case<'a, L: Lookup>(
     ensures all { IfOk result (λ case. (frame : List ℕ) (port : ℕ) → IsReceivedAt (world_of (forwarding_of datapath.now)) frame port →
         matches_map within.now (received_fields frame port) ≡ true → InFrames case.frames frame port) }
 {
-    let frames = received_frames(alloc, datapath)?;
+    let inner = pops_tags(datapath) && !any_about_metadata(within);
+    let frames = received_frames(alloc, datapath, inner)?;
     Ok(Case {
         frames: frames.matching(alloc, within)?,
         state: received_state(alloc)?,

@@ -22,7 +22,7 @@ use Rattle.of_frames.specs.declared.shape.Rule.TheVariants.{Free, Absent, Under}
 use Rattle.of_frames.specs.Rules.{HasShape, IsTagging, Obeys, of_shape, of_tagging}
 use Rattle.of_frames.specs.Given.{or_zero}
 use Rattle.of_frames.specs.Knowing.{IsAmong, IsKnown}
-use Rattle.of_frames.specs.Packets.{frame_given, frame_size}
+use Rattle.of_frames.specs.Packets.{frame_given, frame_size, layers_given, tags_given}
 use Rattle.of_frames.proofs.KnownLemmas.{among}
 use Rattle.of_regions.specs.declared.region.Region.{Region}
 use Rattle.of_regions.specs.Witness.{IsFrameIn, IsIngressPort}
@@ -129,16 +129,21 @@ at_port masks known l p q a b h port meta f = elim f as (λ f. seen (masks f) (f
 
 -- ---- sizes
 
-pub few_bytes : (s : Shape) (t : Tagging) → frame_size s t ≤ 9216
-few_bytes s Untagged = elim s as (λ s. frame_size s Untagged ≤ 9216) [ shapes.Bare ↦ omega arith | _ ↦ omega arith ]
-few_bytes s Tagged = elim s as (λ s. frame_size s Tagged ≤ 9216) [ shapes.Bare ↦ omega arith | _ ↦ omega arith ]
+pub few_bytes : (s : Shape) (t : Tagging) → frame_size s t ≤ 1500
+few_bytes s Untagged = elim s as (λ s. frame_size s Untagged ≤ 1500) [ shapes.Bare ↦ omega arith | _ ↦ omega arith ]
+few_bytes s Tagged = elim s as (λ s. frame_size s Tagged ≤ 1500) [ shapes.Bare ↦ omega arith | _ ↦ omega arith ]
+
+few_tags : (t : Tagging) (v : Field → ℕ) → length (tags_given t v) ≤ 1
+few_tags Untagged v = omega arith
+few_tags Tagged v = omega arith
 
 -- ---- the frame of a region
 
-pub frame_in : (r : Region) (frame : List ℕ) → IsFrame frame → length frame ≡ frame_size r.shape (unwrap_or r.tagging Untagged) → frame ≡ frame_given r.shape (unwrap_or r.tagging Untagged) (or_zero (value r.known)) → IsFrameIn r frame
-frame_in r frame is size bytes = record {
+pub frame_in : (r : Region) (frame : List ℕ) → IsFrame frame → length frame ≡ frame_size r.shape (unwrap_or r.tagging Untagged) → layers_of frame ≡ layers_given r.shape (unwrap_or r.tagging Untagged) (or_zero (value r.known)) →
+    frame ≡ frame_given r.shape (unwrap_or r.tagging Untagged) (or_zero (value r.known)) → IsFrameIn r frame
+frame_in r frame is size layers bytes = record {
   frame_is = is;
-  short = rw size (few_bytes r.shape (unwrap_or r.tagging Untagged));
+  short = record { tags = rw layers (few_tags (unwrap_or r.tagging Untagged) (or_zero (value r.known))); bytes = rw size (few_bytes r.shape (unwrap_or r.tagging Untagged)) };
   within = λ port metadata p m.
       let a = port_known r.shape (mask_at r.masks) (value r.known) r.tagging r.each in
       let b = metadata_known r.shape (mask_at r.masks) (value r.known) r.tagging r.each in
@@ -148,9 +153,9 @@ frame_in r frame is size bytes = record {
       at_port (mask_at r.masks) (value r.known) (layers_of frame) a.value port b.value metadata there p m;
 }
 
-pub if_ok : {T E : Type 0} (r : Result T E) (P Q R S : T → Type 0) → IfOk r P → IfOk r Q → IfOk r R → ((x : T) → P x → Q x → R x → S x) → IfOk r S
-if_ok (Ok x) P Q R S p q h f = f x p q h
-if_ok (Err e) P Q R S p q h f = tt
+pub if_ok : {T E : Type 0} (r : Result T E) (P Q R S U : T → Type 0) → IfOk r P → IfOk r Q → IfOk r R → IfOk r S → ((x : T) → P x → Q x → R x → S x → U x) → IfOk r U
+if_ok (Ok x) P Q R S U p q h s f = f x p q h s
+if_ok (Err e) P Q R S U p q h s f = tt
 
 -- ---- ports
 

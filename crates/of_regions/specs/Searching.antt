@@ -25,7 +25,7 @@ use Rattle.of_regions.specs.Meeting.{Meets}
 use Rattle.of_regions.specs.Naming.{AreAscending}
 use Rattle.of_regions.specs.Dividing.{AreDividedBy}
 use Rattle.of_regions.specs.Regions.{InRegion}
-use Rattle.of_regions.specs.Witness.{HasNoIngress, IsIngressPort, IsReceived, fields_in}
+use Rattle.of_regions.specs.Witness.{HasNoIngress, IsIngressPort, IsReceived, IsShortFrame, fields_in}
 
 -- no rival matches it
 abbrev pub IsUnrivalled : List Rival → (Field → Option ℕ) → Type 0
@@ -43,6 +43,7 @@ InSome regions fields = (r : Region) × Contains regions r × InRegion r fields
 -- a packet of the regions that no rival matches
 pub record IsFreePacket (start : List Region) (rivals : List Rival) (p : Packet) : Type 0 where
   pub received : IsReceived p
+  pub short : IsShortFrame p.frame.items
   pub within : InSome start (fields_in p)
   pub unrivalled : IsUnrivalled rivals (fields_in p)
 

@@ -19,10 +19,15 @@ IsIngressPort port = ((1 ≤ port) × (port ≤ OFPP_MAX)) ⊎ (port ≡ OFPP_CO
 abbrev pub MayBe : Region → Field → ℕ → Type 0
 MayBe r f v = seen (mask_at r.masks f) (Some v) ≡ value r.known f
 
+-- a frame with one VLAN tag at most, and so short that each switch receives it, also with a tag more
+pub record IsShortFrame (frame : List ℕ) : Type 0 where
+  pub tags : length (layers_of frame).tags ≤ 1
+  pub bytes : length frame ≤ 1500
+
 -- a frame that is in the region with each port and each metadata that may be
 pub record IsFrameIn (r : Region) (frame : List ℕ) : Type 0 where
   pub frame_is : IsFrame frame
-  pub short : length frame ≤ 9216
+  pub short : IsShortFrame frame
   pub within : (port metadata : ℕ) → MayBe r InPort port → MayBe r Metadata metadata → InRegion r (field_map (layers_of frame) port metadata)
 
 -- ---- packets

@@ -2,7 +2,7 @@
 ghost use Rattle.std.specs.Prelude.{◌≡◌, ℕ, IfNone, IfOk, IfSome, bit_and};
 ghost use Rattle.of_layers.specs.declared.field.Field.TheVariants.{InPort, Metadata};
 ghost use Rattle.of_regions.specs.Regions.{InRegion};
-ghost use Rattle.of_regions.specs.Witness.{HasNoIngress, IsFrameIn, IsIngressPort, IsReceived, MayBe, fields_in};
+ghost use Rattle.of_regions.specs.Witness.{HasNoIngress, IsFrameIn, IsIngressPort, IsReceived, IsShortFrame, MayBe, fields_in};
 
 use crate::dividing::{lowest, without};
 use crate::region::Region;
@@ -74,7 +74,8 @@ impl Region {
         }
     }
 
-    /// A frame of the region, with zeros for what is not known, and lengths and checksums that are right. It has at most 9,216 bytes.
+    /// A frame of the region, with zeros for what is not known, and lengths and checksums that are right. It has at most one VLAN tag, and at
+    /// most 1,500 bytes.
     pub fn frame(&self, alloc: Global) -> Result<Vec<u8>, AllocError>
         ensures { IfOk result (λ frame. IsFrameIn self.now frame.items) }
     {
@@ -85,7 +86,7 @@ impl Region {
     /// A packet of the region that a switch may receive (OpenFlow 1.3.5, 7.2.1 and 7.3.7). None if no packet of the region comes in by a port
     /// that a switch may have.
     pub fn packet(&self, alloc: Global) -> Result<Option<Packet>, AllocError>
-        ensures some { IfOk result (λ found. IfSome found (λ p. IsReceived p × InRegion self.now (fields_in p))) }
+        ensures some { IfOk result (λ found. IfSome found (λ p. IsReceived p × IsShortFrame p.frame.items × InRegion self.now (fields_in p))) }
         ensures none { IfOk result (λ found. IfNone found (HasNoIngress self.now)) }
     {
         let Some(in_port) = self.ingress() else {

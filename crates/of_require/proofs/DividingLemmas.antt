@@ -9,7 +9,8 @@ use Rattle.of_oxm.specs.Relations.{matches_map}
 use Rattle.of_rewrite.specs.Frames.{IsFrame}
 use Rattle.of_regions.specs.Conditions.{AreConditions}
 use Rattle.of_symbolic.specs.declared.pulling.Pulled.TheVariants.{Never, When}
-use Rattle.of_symbolic.specs.Parts.{AreListsOfConditions, received_fields}
+use Rattle.of_symbolic.specs.Parts.{AreListsOfConditions}
+use Rattle.of_symbolic.specs.InnerTags.{description_of}
 use Rattle.of_symbolic_run.specs.declared.state.Emission.{Emission}
 use Rattle.of_symbolic_run.specs.declared.frame_set.FrameSet.{FrameSet}
 use Rattle.of_symbolic_run.specs.FrameSets.{AreFramesMatching, AreFramesWithout, InFrames}
@@ -36,9 +37,9 @@ module _ (m : List MatchField) where
         (set, at_end sets set, inr lack)
 
     in_own : (frame : List ℕ) (port : ℕ) → IsFrame frame → InFrames set frame port → InSomeSet ((divided ++ matching ∷ []) ++ without ∷ []) frame port
-    in_own frame port is there = by_test (matches_map m (received_fields frame port)) refl
+    in_own frame port is there = by_test (matches_map m (description_of set.inner frame port)) refl
       where
-        by_test : (t : Bool) → matches_map m (received_fields frame port) ≡ t → InSomeSet ((divided ++ matching ∷ []) ++ without ∷ []) frame port
+        by_test : (t : Bool) → matches_map m (description_of set.inner frame port) ≡ t → InSomeSet ((divided ++ matching ∷ []) ++ without ∷ []) frame port
         by_test true e = (matching, before_end (divided ++ matching ∷ []) without matching (at_end divided matching), are.all frame port is there e)
         by_test false e = (without, at_end (divided ++ matching ∷ []) without, lack.all frame port there e)
 
@@ -74,15 +75,19 @@ by_one_more lists m frames sets new old one = record {
 abbrev pub AreAllIn : FrameSet → FrameSet → Type 0
 AreAllIn s old = (frame : List ℕ) (port : ℕ) → InFrames s frame port → InFrames old frame port
 
--- the conditions match all frames of the set, or none
-abbrev pub AreMatchedAlike : List MatchField → FrameSet → Type 0
-AreMatchedAlike m s = (f g : List ℕ) (p q : ℕ) → InFrames s f p → InFrames s g q → matches_map m (received_fields f p) ≡ matches_map m (received_fields g q)
+-- the conditions match the descriptions of all frames of the set, or of none
+abbrev pub AreMatchedAlike : Bool → List MatchField → FrameSet → Type 0
+AreMatchedAlike told m s = (f g : List ℕ) (p q : ℕ) → InFrames s f p → InFrames s g q → matches_map m (description_of told f p) ≡ matches_map m (description_of told g q)
+
+one_told : (m : List MatchField) (old new : FrameSet) → IsPartBy m old new → new.inner ≡ old.inner
+one_told m old new (inl are) = are.inner
+one_told m old new (inr lack) = lack.inner
 
 one_within : (m : List MatchField) (old new : FrameSet) → IsPartBy m old new → AreAllIn new old
 one_within m old new (inl are) frame port h = (are.within frame port h).0
 one_within m old new (inr lack) frame port h = (lack.within frame port h).0
 
-one_way : (m : List MatchField) (old new : FrameSet) → IsPartBy m old new → AreMatchedAlike m new
+one_way : (m : List MatchField) (old new : FrameSet) → IsPartBy m old new → AreMatchedAlike old.inner m new
 one_way m old new (inl are) f g p q in_f in_g = (are.within f p in_f).1 ∙ sym (are.within g q in_g).1
 one_way m old new (inr lack) f g p q in_f in_g = (lack.within f p in_f).1 ∙ sym (lack.within g q in_g).1
 
@@ -90,30 +95,30 @@ pub part_within : (lists : List (Vec MatchField)) (old new : FrameSet) → IsPar
 part_within [] old new is frame port h = subst (λ (s : FrameSet). InFrames s frame port) is h
 part_within (m ∷ lists) old new (between, first, rest) frame port h = one_within m.items old between first frame port (part_within lists between new rest frame port h)
 
-pub part_ways : (lists : List (Vec MatchField)) (old new : FrameSet) → IsPartByAll lists old new → (m : Vec MatchField) → Contains lists m → AreMatchedAlike m.items new
+pub part_ways : (lists : List (Vec MatchField)) (old new : FrameSet) → IsPartByAll lists old new → (m : Vec MatchField) → Contains lists m → AreMatchedAlike old.inner m.items new
 part_ways [] old new is m there = absurd (none_in m there)
 part_ways (x ∷ lists) old new (between, first, rest) m (zero, lt, same) =
-    let ways = subst (λ (y : Vec MatchField). AreMatchedAlike y.items between) same (one_way x.items old between first) in
+    let ways = subst (λ (y : Vec MatchField). AreMatchedAlike old.inner y.items between) same (one_way x.items old between first) in
     let within = part_within lists between new rest in
     λ f g p q in_f in_g. ways f g p q (within f p in_f) (within g q in_g)
-part_ways (x ∷ lists) old new (between, first, rest) m (suc k, lt, same) = part_ways lists between new rest m (k, omega (arith, lt), same)
+part_ways (x ∷ lists) old new (between, first, rest) m (suc k, lt, same) = subst (λ (b : Bool). AreMatchedAlike b m.items new) (one_told x.items old between first) (part_ways lists between new rest m (k, omega (arith, lt), same))
 
 -- ---- what one more packet asks
 
-asked_append : (fields : List MatchField) (es new : List Emission) (lists own : List (Vec MatchField)) → AreAsked fields es lists → AreAsked fields new own → AreAsked fields (es ++ new) (lists ++ own)
-asked_append fields [] new lists own is more = subst (λ (l : List (Vec MatchField)). AreAsked fields new (l ++ own)) (sym is) more
-asked_append fields (e ∷ es) new lists own (inl (never, rest)) more = inl (never, asked_append fields es new lists own rest more)
-asked_append fields (e ∷ es) new lists own (inr (m, others, is, asked, rest)) more =
-    inr (m, others ++ own, ap (λ (l : List (Vec MatchField)). l ++ own) is, asked, asked_append fields es new others own rest more)
+asked_append : (told : Bool) (fields : List MatchField) (es new : List Emission) (lists own : List (Vec MatchField)) → AreAsked told fields es lists → AreAsked told fields new own → AreAsked told fields (es ++ new) (lists ++ own)
+asked_append told fields [] new lists own is more = subst (λ (l : List (Vec MatchField)). AreAsked told fields new (l ++ own)) (sym is) more
+asked_append told fields (e ∷ es) new lists own (inl (never, rest)) more = inl (never, asked_append told fields es new lists own rest more)
+asked_append told fields (e ∷ es) new lists own (inr (m, others, is, asked, rest)) more =
+    inr (m, others ++ own, ap (λ (l : List (Vec MatchField)). l ++ own) is, asked, asked_append told fields es new others own rest more)
 
-module _ (fields : List MatchField) (emitted : List Emission) (i : ℕ) (e : Emission) (lists : List (Vec MatchField)) (lt : i < length emitted) (is : e ≡ get_or emitted i e) (old : AreAsked fields (take i emitted) lists) where
-  asked_next : (own : List (Vec MatchField)) → AreAsked fields (e ∷ []) own → AreAsked fields (take (i + 1) emitted) (lists ++ own)
-  asked_next own more = subst (λ (es : List Emission). AreAsked fields es (lists ++ own)) (sym (taken_item emitted i e lt is)) (asked_append fields (take i emitted) (e ∷ []) lists own old more)
+module _ (told : Bool) (fields : List MatchField) (emitted : List Emission) (i : ℕ) (e : Emission) (lists : List (Vec MatchField)) (lt : i < length emitted) (is : e ≡ get_or emitted i e) (old : AreAsked told fields (take i emitted) lists) where
+  asked_next : (own : List (Vec MatchField)) → AreAsked told fields (e ∷ []) own → AreAsked told fields (take (i + 1) emitted) (lists ++ own)
+  asked_next own more = subst (λ (es : List Emission). AreAsked told fields es (lists ++ own)) (sym (taken_item emitted i e lt is)) (asked_append told fields (take i emitted) (e ∷ []) lists own old more)
 
-  pub asked_never : IsAskedBy fields e Never → AreAsked fields (take (i + 1) emitted) lists
-  asked_never own = subst (AreAsked fields (take (i + 1) emitted)) (append-nil lists) (asked_next [] (inl (own, refl)))
+  pub asked_never : IsAskedBy told fields e Never → AreAsked told fields (take (i + 1) emitted) lists
+  asked_never own = subst (AreAsked told fields (take (i + 1) emitted)) (append-nil lists) (asked_next [] (inl (own, refl)))
 
-  pub asked_more : (m : Vec MatchField) → IsAskedBy fields e (When m) → AreAsked fields (take (i + 1) emitted) (lists ++ m ∷ [])
+  pub asked_more : (m : Vec MatchField) → IsAskedBy told fields e (When m) → AreAsked told fields (take (i + 1) emitted) (lists ++ m ∷ [])
   asked_more m own = asked_next (m ∷ []) (inr (m, [], refl, own, refl))
 
 pub conditions_more : (lists : List (Vec MatchField)) (m : Vec MatchField) → AreListsOfConditions lists → AreConditions m.items → AreListsOfConditions (lists ++ m ∷ [])

@@ -48,22 +48,22 @@ use Rattle.of_require.proofs.HavingLemmas.{marked_alike, same_have}
 long_enough : (n : ℕ) → 14 ≤ n → nat_le 14 n ≡ true
 long_enough n h = grind (arith, nat_tests, h)
 
-module _ (fields : List MatchField) (s : FrameSet) (port : ℕ) (f g : List ℕ) (is_f : IsFrame f) (is_g : IsFrame g) (in_f : InFrames s f port) (in_g : InFrames s g port) where
+module _ (told : Bool) (fields : List MatchField) (s : FrameSet) (port : ℕ) (f g : List ℕ) (is_f : IsFrame f) (is_g : IsFrame g) (in_f : InFrames s f port) (in_g : InFrames s g port) where
   abbrev HaveAlike : Emission → Type 0
   HaveAlike e = frame_has fields port (frame_of_actions (packet_actions e) f) ≡ frame_has fields port (frame_of_actions (packet_actions e) g)
 
-  never_have : (e : Emission) → IsAskedBy fields e Never → HaveAlike e
+  never_have : (e : Emission) → IsAskedBy told fields e Never → HaveAlike e
   never_have e never = rw (long_enough _ (never.frame f is_f).0, long_enough _ (never.frame g is_g).0) (never.is f port is_f ∙ sym (never.is g port is_g))
 
-  one_has_alike : (e : Emission) (m : Vec MatchField) → IsAskedBy fields e (When m) → AreMatchedAlike m.items s → HaveAlike e
+  one_has_alike : (e : Emission) (m : Vec MatchField) → IsAskedBy told fields e (When m) → AreMatchedAlike told m.items s → HaveAlike e
   one_has_alike e m asked alike =
       rw (long_enough _ (asked.frame f is_f).0, long_enough _ (asked.frame g is_g).0) (asked.is f port is_f ∙ (alike f g port port in_f in_g ∙ sym (asked.is g port is_g)))
 
-  all_have_alike : (es : List Emission) (lists : List (Vec MatchField)) → AreAsked fields es lists → ((m : Vec MatchField) → Contains lists m → AreMatchedAlike m.items s) → AllByRecursion HaveAlike es
+  all_have_alike : (es : List Emission) (lists : List (Vec MatchField)) → AreAsked told fields es lists → ((m : Vec MatchField) → Contains lists m → AreMatchedAlike told m.items s) → AllByRecursion HaveAlike es
   all_have_alike [] lists is alike = tt
   all_have_alike (e ∷ es) lists (inl (never, rest)) alike = (never_have e never, all_have_alike es lists rest alike)
   all_have_alike (e ∷ es) lists (inr (m, others, is, asked, rest)) alike =
-      let each = subst (λ (l : List (Vec MatchField)). (x : Vec MatchField) → Contains l x → AreMatchedAlike x.items s) is alike in
+      let each = subst (λ (l : List (Vec MatchField)). (x : Vec MatchField) → Contains l x → AreMatchedAlike told x.items s) is alike in
       (one_has_alike e m asked (each m (0, omega arith, refl)), all_have_alike es others rest (λ x there. each x (suc there.0, omega (arith, there.1), there.2)))
 
 -- ---- the frames of a path
@@ -89,7 +89,7 @@ module _ (w : TheWorld) (r : Requirement) (fields : List MatchField) (steps : �
       let about = both _ _ parts.0 in
       record { about = record { received = received; matched = matched; counted = about.0; leaving = about.1 }; decides = parts.1 }
 
-  module _ (lists : List (Vec MatchField)) (sets : List FrameSet) (asked : AreAsked fields p.emitted.items lists) (divided : AreDividedByAll lists p.frames sets) where
+  module _ (lists : List (Vec MatchField)) (sets : List FrameSet) (asked : AreAsked p.frames.inner fields p.emitted.items lists) (divided : AreDividedByAll lists p.frames sets) where
     within : (s : FrameSet) → Contains sets s → AreAllIn s p.frames
     within s there = part_within lists p.frames s (divided.within s there)
 
@@ -107,7 +107,7 @@ module _ (w : TheWorld) (r : Requirement) (fields : List MatchField) (steps : �
       had : have r.quantifier places.items fields port (items_at w f port) ≡ have r.quantifier places.items fields port (items_at w g port)
       had =
           ap (have r.quantifier places.items fields port) emits_f
-          ∙ same_have fields port places.items r.quantifier _ _ (marked_alike fields port w.ports f g p.emitted.items (all_have_alike fields s port f g rec_f.frame_is rec_g.frame_is in_f in_g p.emitted.items lists asked (part_ways lists p.frames s (divided.within s there))))
+          ∙ same_have fields port places.items r.quantifier _ _ (marked_alike fields port w.ports f g p.emitted.items (all_have_alike p.frames.inner fields s port f g rec_f.frame_is rec_g.frame_is in_f in_g p.emitted.items lists asked (part_ways lists p.frames s (divided.within s there))))
           ∙ sym (ap (have r.quantifier places.items fields port) emits_g)
 
       bare_same : map bare (items_at w f port) ≡ map bare (items_at w g port)

@@ -1,5 +1,5 @@
 -- WHICH FRAMES MAKE THE PACKETS of a path have some fields when they leave (OpenFlow 1.3.5, 5.12), and when that is not known.
-use Rattle.std.specs.Prelude.{◌≡◌, ◌⊎◌, ℕ, true, List, [], ◌∷◌}
+use Rattle.std.specs.Prelude.{◌≡◌, ◌⊎◌, ℕ, Bool, true, List, [], ◌∷◌}
 use Rattle.std.specs.Global.{Vec}
 use Rattle.std.specs.List.{Contains}
 use Rattle.of_oxm.specs.declared.match_field.MatchField.{MatchField}
@@ -27,26 +27,27 @@ abbrev pub packet_actions : Emission → List Action
 packet_actions (Output packet port max_len) = packet.rewrites
 packet_actions (InvalidTtl packet) = packet.rewrites
 
--- some field is asked of a tag of which that is not known: PUSH_VLAN copied it from a tag that the frame may lack (5.12, 7.2.3.7)
-pub record IsUnknownPacket (fields : List MatchField) (e : Emission) : Type 0 where
+-- some field is asked of a tag of which that is not known: PUSH_VLAN copied it from a tag that the frame may lack, or POP_VLAN uncovered it, where inner tags are told or not (5.12, 7.2.3.7)
+pub record IsUnknownPacket (told : Bool) (fields : List MatchField) (e : Emission) : Type 0 where
   pub overlay : Overlay
+  pub tells : overlay.inner ≡ told
   pub is : IsOverlay overlay (packet_actions e)
   pub unknown : is_unknown_in overlay fields ≡ true
 
-abbrev pub SomeUnknown : List MatchField → List Emission → Type 0
-SomeUnknown fields emitted = (e : Emission) × Contains emitted e × IsUnknownPacket fields e
+abbrev pub SomeUnknown : Bool → List MatchField → List Emission → Type 0
+SomeUnknown told fields emitted = (e : Emission) × Contains emitted e × IsUnknownPacket told fields e
 
--- a packet has the fields exactly if this is so of the frame that came in
-pub record IsAskedBy (fields : List MatchField) (e : Emission) (asked : Pulled) : Type 0 where
+-- a packet has the fields exactly if this is so of the description of the frame that came in
+pub record IsAskedBy (told : Bool) (fields : List MatchField) (e : Emission) (asked : Pulled) : Type 0 where
   pub frame : (f : List ℕ) → IsFrame f → IsFrame (frame_of_actions (packet_actions e) f)
-  pub is : IsTrueOfFrames (packet_actions e) 0 fields asked
+  pub is : IsTrueOfFrames told (packet_actions e) 0 fields asked
 
 -- the conditions that these packets ask of it, in this order; a packet that never has the fields asks none
-abbrev pub AreAsked : List MatchField → List Emission → List (Vec MatchField) → Type 0
-AreAsked fields [] lists = lists ≡ []
-AreAsked fields (e ∷ es) lists =
-    (IsAskedBy fields e Never × AreAsked fields es lists)
-    ⊎ ((m : Vec MatchField) × (rest : List (Vec MatchField)) × (lists ≡ m ∷ rest) × IsAskedBy fields e (When m) × AreAsked fields es rest)
+abbrev pub AreAsked : Bool → List MatchField → List Emission → List (Vec MatchField) → Type 0
+AreAsked told fields [] lists = lists ≡ []
+AreAsked told fields (e ∷ es) lists =
+    (IsAskedBy told fields e Never × AreAsked told fields es lists)
+    ⊎ ((m : Vec MatchField) × (rest : List (Vec MatchField)) × (lists ≡ m ∷ rest) × IsAskedBy told fields e (When m) × AreAsked told fields es rest)
 
 -- ---- frames, divided by such conditions
 
@@ -62,8 +63,8 @@ IsPartByAll (m ∷ lists) old new = (between : FrameSet) × IsPartBy m.items old
 -- it is not known of some packet; or no frame was found of a set into which what the packets ask divides the frames of the path
 abbrev pub IsUnknownPath : List MatchField → ℕ → Path → Type 0
 IsUnknownPath fields steps p =
-    SomeUnknown fields p.emitted.items
-    ⊎ ((lists : List (Vec MatchField)) × AreAsked fields p.emitted.items lists × ((s : FrameSet) × IsPartByAll lists p.frames s × FindsFrame s steps found.Undecided))
+    SomeUnknown p.frames.inner fields p.emitted.items
+    ⊎ ((lists : List (Vec MatchField)) × AreAsked p.frames.inner fields p.emitted.items lists × ((s : FrameSet) × IsPartByAll lists p.frames s × FindsFrame s steps found.Undecided))
 
 -- of some path of a class, of which something leaves by the places
 abbrev pub IsUnknownClass : Demand → List MatchField → ℕ → PathClass → Type 0

@@ -30,16 +30,16 @@ fn rewrites_of(e: &Emission) -> &Rewrites
 }
 
 // What it asks of the frame that came in that its packet has the fields.
-fn asked_by(alloc: Global, e: &Emission, fields: &Match) -> Result<Pulled, AllocError>
-    ensures is { IfOk result (IsAskedBy fields.now e.now) }
+fn asked_by(alloc: Global, e: &Emission, fields: &Match, inner: bool) -> Result<Pulled, AllocError>
+    ensures is { IfOk result (IsAskedBy inner fields.now e.now) }
     ensures conditions { IfOk result AsksConditions }
-    ensures unknown { IfOk result (λ asked. asked ≡ Unknown → IsUnknownPacket fields.now e.now) }
+    ensures unknown { IfOk result (λ asked. asked ≡ Unknown → IsUnknownPacket inner fields.now e.now) }
 {
     let rewrites = rewrites_of(e);
     rewrites.known();
     rewritten_frames_have_views();
     pulled_matches_are_of_frames();
-    let overlay = rewrites.overlay(alloc)?;
+    let overlay = rewrites.overlay(alloc, inner)?;
     let asked = pull(alloc, &overlay, 0, fields)?;
     Ok(asked)
 }
@@ -49,14 +49,15 @@ fn all_asked(
     alloc: Global,
     emitted: &[Emission],
     fields: &Match,
+    inner: bool,
 ) -> Result<Option<Vec<Vec<MatchField>>>, AllocError>
-    ensures known { IfOk result (λ asked. IfSome asked (λ lists. AreAsked fields.now emitted.now lists.items)) }
+    ensures known { IfOk result (λ asked. IfSome asked (λ lists. AreAsked inner fields.now emitted.now lists.items)) }
     ensures conditions { IfOk result (λ asked. IfSome asked (λ lists. AreListsOfConditions lists.items)) }
-    ensures unknown { IfOk result (λ asked. IfNone asked (SomeUnknown fields.now emitted.now)) }
+    ensures unknown { IfOk result (λ asked. IfNone asked (SomeUnknown inner fields.now emitted.now)) }
 {
     let mut lists = Vec::new(alloc);
     for e in emitted {
-        match asked_by(alloc, e, fields)? {
+        match asked_by(alloc, e, fields, inner)? {
             Pulled::Never => {}
             Pulled::Unknown => return Ok(None),
             Pulled::When(asked) => lists.push(asked)?,
@@ -166,7 +167,7 @@ pub fn seek_in_path<L: Lookup>(
         steps: lines,
         emitted,
     } = path;
-    let Some(lists) = all_asked(alloc, &emitted, fields)? else {
+    let Some(lists) = all_asked(alloc, &emitted, fields, frames.inner)? else {
         return Ok(Sought::Undecided);
     };
     let sets = divide_by_all(alloc, frames, &lists)?;

@@ -53,7 +53,7 @@ module _ (part : Part) (rivals : List Rival) (are : HaveConditions part.lacks.it
   none_unrivalled fields h q c = let m = rival_list part.lacks.items rivals are q c in ap (λ (x : List MatchField). matches_map x fields) m.2 ∙ h m.0 m.1
 
   pub finds : (steps : ℕ) (f : Found) → IsFoundBySearch part.regions.items rivals steps f → FindsInPart part steps f
-  finds steps (found.Free p) h = (h.received, (h.within, unrivalled_none (fields_in p) h.unrivalled))
+  finds steps (found.Free p) h = (h.received, h.short, (h.within, unrivalled_none (fields_in p) h.unrivalled))
   finds steps (found.Taken names) h = λ frame port metadata is i.
       let taken = h.covered frame port metadata is i.0 in
       let m = rival_list part.lacks.items rivals are taken.0 taken.1 in

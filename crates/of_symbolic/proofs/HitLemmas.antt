@@ -8,6 +8,7 @@ use Rattle.of_layers.specs.declared.field.Field.{Field}
 use Rattle.of_oxm.specs.declared.match_field.MatchField.{MatchField}
 use Rattle.of_oxm.specs.Relations.{matches_map}
 use Rattle.of_rewrite.specs.Frames.{IsFrame}
+use Rattle.of_rewrite.specs.Views.{view_of}
 use Rattle.of_actions.specs.declared.action.Action.{Action}
 use Rattle.of_classifier.specs.declared.Row.{Row}
 use Rattle.of_classifier.specs.Rows.{made_row}
@@ -22,7 +23,7 @@ use Rattle.of_symbolic.specs.Actions.{AreRewriting}
 use Rattle.of_symbolic.specs.Branches.{AreBranches, rewritten_fields}
 use Rattle.of_symbolic.specs.Branching.{ArePulledEntries, IsHitAt, IsHitOrMiss, IsPulledEntry, NoEntryAhead, is_agreed, pulled_of}
 use Rattle.of_symbolic.specs.Overlays.{IsOverlay}
-use Rattle.of_symbolic.specs.Parts.{received_fields}
+use Rattle.of_symbolic.specs.InnerTags.{description_of, inner_told}
 use Rattle.of_symbolic.specs.Pulling.{IsPulled}
 use Rattle.of_symbolic.proofs.BranchLemmas.{AreHitBranches}
 use Rattle.of_symbolic.proofs.Lookups.{never_of_frames, when_of_frames}
@@ -129,34 +130,34 @@ module _ (packet received : Field → Option ℕ) (rows : List Row) (entries : L
 -- ---- a packet
 
 module _ (o : Overlay) (l : List Action) (metadata : ℕ) (over : IsOverlay o l) (rewriting : AreRewriting l) (frame : List ℕ) (port : ℕ) (is_frame : IsFrame frame) where
-  agreed : (m : List MatchField) (fields : Option (Vec MatchField)) → IsPulled l metadata m (pulled_of fields) → matches_map m (rewritten_fields l metadata frame port) ≡ is_agreed fields (received_fields frame port)
-  agreed m None is = never_of_frames l metadata m is rewriting frame port is_frame
-  agreed m (Some fields) is = when_of_frames l metadata m fields is rewriting frame port is_frame
+  agreed : (m : List MatchField) (fields : Option (Vec MatchField)) → IsPulled o.inner l metadata m (pulled_of fields) → matches_map m (rewritten_fields l metadata frame port) ≡ is_agreed fields (description_of o.inner frame port)
+  agreed m None is = never_of_frames o.inner l metadata m is rewriting frame port is_frame
+  agreed m (Some fields) is = when_of_frames o.inner l metadata m fields is rewriting frame port is_frame
 
-  row_of : (n : ℕ) (e : FlowEntry) (p : PulledEntry) → IsPulledEntry o metadata e p → IsRowOf (rewritten_fields l metadata frame port) (received_fields frame port) n (made_row n e.flow.priority e.flow.fields) p
+  row_of : (n : ℕ) (e : FlowEntry) (p : PulledEntry) → IsPulledEntry o metadata e p → IsRowOf (rewritten_fields l metadata frame port) (description_of o.inner frame port) n (made_row n e.flow.priority e.flow.fields) p
   row_of n e p is = record { number_is = refl; priority = sym is.priority; matches = agreed e.flow.fields p.fields (is.is l over) }
 
-  rows_pulled : (n : ℕ) (flows : List FlowEntry) (entries : List PulledEntry) → ArePulledEntries o metadata flows entries → AreRowsOf (rewritten_fields l metadata frame port) (received_fields frame port) n (rows_from n flows) entries
+  rows_pulled : (n : ℕ) (flows : List FlowEntry) (entries : List PulledEntry) → ArePulledEntries o metadata flows entries → AreRowsOf (rewritten_fields l metadata frame port) (description_of o.inner frame port) n (rows_from n flows) entries
   rows_pulled n [] [] are = record { entry = λ k r at. absurd cc; row = λ k p at. absurd cc }
   rows_pulled n [] (p ∷ entries) are = absurd are
   rows_pulled n (e ∷ flows) [] are = absurd are
   rows_pulled n (e ∷ flows) (p ∷ entries) are =
-      rows_more (rewritten_fields l metadata frame port) (received_fields frame port) n (made_row n e.flow.priority e.flow.fields) p (rows_from (suc n) flows) entries (row_of n e p are.0) (rows_pulled (suc n) flows entries are.1)
+      rows_more (rewritten_fields l metadata frame port) (description_of o.inner frame port) n (made_row n e.flow.priority e.flow.fields) p (rows_from (suc n) flows) entries (row_of n e p are.0) (rows_pulled (suc n) flows entries are.1)
 
   module _ (flows : List FlowEntry) (entries : List PulledEntry) (are : ArePulledEntries o metadata flows entries) where
-    pub wins_by_hit : (w : Option ℕ) → IsHitOrMiss entries w (received_fields frame port) → winner_place (rewritten_fields l metadata frame port) flows ≡ w
-    wins_by_hit = hit_found (rewritten_fields l metadata frame port) (received_fields frame port) (rows_from 0 flows) entries (rows_pulled 0 flows entries are)
+    pub wins_by_hit : (w : Option ℕ) → IsHitOrMiss entries w (description_of o.inner frame port) → winner_place (rewritten_fields l metadata frame port) flows ≡ w
+    wins_by_hit = hit_found (rewritten_fields l metadata frame port) (description_of o.inner frame port) (rows_from 0 flows) entries (rows_pulled 0 flows entries are)
 
-    pub winner_is_hit : IsHitOrMiss entries (winner_place (rewritten_fields l metadata frame port) flows) (received_fields frame port)
-    winner_is_hit = found_hit (rewritten_fields l metadata frame port) (received_fields frame port) (rows_from 0 flows) entries (rows_pulled 0 flows entries are) (winner_of (rows_from 0 flows) (rewritten_fields l metadata frame port)) refl
+    pub winner_is_hit : IsHitOrMiss entries (winner_place (rewritten_fields l metadata frame port) flows) (description_of o.inner frame port)
+    winner_is_hit = found_hit (rewritten_fields l metadata frame port) (description_of o.inner frame port) (rows_from 0 flows) entries (rows_pulled 0 flows entries are) (winner_of (rows_from 0 flows) (rewritten_fields l metadata frame port)) refl
 
 -- ---- branches
 
 pub branches_are : (o : Overlay) (metadata : ℕ) (flows : List FlowEntry) (entries : List PulledEntry) (part : Part) (branches : List Branch) → ArePulledEntries o metadata flows entries → AreHitBranches part entries branches
-    → (l : List Action) → IsOverlay o l → AreRewriting l → AreBranches flows l metadata part branches
+    → (l : List Action) → IsOverlay o l → AreRewriting l → AreBranches o.inner flows l metadata part branches
 branches_are o metadata flows entries part branches pulled are l over rewriting = record {
   within = λ b c fields h. ((are.each b c).within fields h).0;
-  wins = λ b c frame port is h. wins_by_hit o l metadata over rewriting frame port is flows entries pulled b.entry ((are.each b c).within (received_fields frame port) h).1;
+  wins = λ b c frame port is h. wins_by_hit o l metadata over rewriting frame port is flows entries pulled b.entry ((are.each b c).within (description_of o.inner frame port) h).1;
   once = are.once;
-  all = λ frame port is h. are.all (winner_place (rewritten_fields l metadata frame port) flows) (received_fields frame port) (some_tagging frame port 0 is) h (winner_is_hit o l metadata over rewriting frame port is flows entries pulled);
+  all = λ frame port is h. are.all (winner_place (rewritten_fields l metadata frame port) flows) (description_of o.inner frame port) (some_tagging frame port (inner_told o.inner (view_of frame).tags) is) h (winner_is_hit o l metadata over rewriting frame port is flows entries pulled);
 }

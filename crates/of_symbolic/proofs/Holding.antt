@@ -4,20 +4,19 @@ use Rattle.std.specs.Prelude.{bit_and, IfSome, is_some, not, slice_get, unwrap_o
 use Rattle.std.specs.Option.{option_map, option_map_or}
 use Rattle.std.proofs.lemmas.Bool.{eqb-true, eqb-false, ne_eqb, eq-eqb}
 use Rattle.of_layers.specs.declared.field.Field.{Field}
-use Rattle.of_layers.specs.declared.field.Field.TheVariants.{InPort, Metadata, VlanVid, VlanPcp}
-use Rattle.of_headers.specs.FieldMap.{value, vid}
+use Rattle.of_layers.specs.declared.field.Field.TheVariants.{VlanVid, VlanPcp}
+use Rattle.of_headers.specs.FieldMap.{vid}
 use Rattle.of_oxm.specs.declared.match_field.MatchField.{MatchField}
 use Rattle.of_oxm.specs.Relations.{agrees, bits_looked_at}
-use Rattle.of_rewrite.specs.Views.{Tag, View, fields_seen, outermost}
+use Rattle.of_rewrite.specs.Views.{Tag, outermost}
 use Rattle.of_symbolic.specs.declared.asking.Asked.{Asked}
 use Rattle.of_symbolic.specs.declared.asking.Asked.TheVariants.{Never, Open, Nothing, Asks}
-use Rattle.of_symbolic.specs.declared.overlay.Overlay.{Overlay}
 use Rattle.of_symbolic.specs.declared.overlay.PushedTag.{PushedTag}
 use Rattle.of_symbolic.specs.declared.overlay.ReceivedTag.{ReceivedTag}
 use Rattle.of_symbolic.specs.declared.overlay.TagNumber.{TagNumber}
 use Rattle.of_symbolic.specs.declared.overlay.TagNumber.TheVariants.{Value, Received, IfTagged, Unknown}
-use Rattle.of_symbolic.specs.Asking.{any_value, asked_at, by_tag, field_asked, own_pcp, own_vid, pcp_asked, pushed_pcp, pushed_vid, tagged_vid, vid_asked, vid_bits, with_tag, without_tag}
-use Rattle.of_symbolic.specs.Overlays.{Shows, tags_in, with_value}
+use Rattle.of_symbolic.specs.Asking.{any_value, by_tag, field_asked, own_pcp, own_vid, pcp_asked, pushed_pcp, pushed_vid, tagged_vid, vid_asked, vid_bits, with_tag, without_tag}
+use Rattle.of_symbolic.specs.Overlays.{with_value}
 use Rattle.of_symbolic.specs.Tags.{AreTagsAfter, IsNumber, own_tags}
 use Rattle.of_symbolic.proofs.VidBits.{and_zero, none_left, present_bit, vid_agrees, vid_under, zero_and}
 
@@ -28,7 +27,7 @@ Holds Open b map = ⊤
 Holds Nothing b map = b ≡ true
 Holds (Asks x) b map = b ≡ agrees x (map x.field)
 
-holds_same : (a : Asked) (b c : Bool) (map : Field → Option ℕ) → b ≡ c → Holds a c map → Holds a b map
+pub holds_same : (a : Asked) (b c : Bool) (map : Field → Option ℕ) → b ≡ c → Holds a c map → Holds a b map
 holds_same a b c map e h = subst (λ (x : Bool). Holds a x map) (sym e) h
 
 -- ---- fields of headers
@@ -45,7 +44,7 @@ set_by_test : (n : ℕ) (e : MatchField) (map : Field → Option ℕ) (b : Bool)
 set_by_test n e map true t = if_there n e (map e.field) t
 set_by_test n e map false t = never_there n e (map e.field) t
 
-field_holds : (s : Option ℕ) (e : MatchField) (map : Field → Option ℕ) → Holds (field_asked s e) (agrees e (with_value s (map e.field))) map
+pub field_holds : (s : Option ℕ) (e : MatchField) (map : Field → Option ℕ) → Holds (field_asked s e) (agrees e (with_value s (map e.field))) map
 field_holds None e map = refl
 field_holds (Some n) e map = set_by_test n e map (agrees e (Some n)) refl
 
@@ -143,7 +142,7 @@ own_vid_holds : (n : Option ℕ) (e : MatchField) (map : Field → Option ℕ) (
 own_vid_holds None e map received at s = own_vid_same (λ y. agrees e (Some y)) received ∙ sym (ap (agrees e) (ap map at ∙ s.vid_is))
 own_vid_holds (Some n) e map received at s = by_tag_holds (agrees e (Some (4096 + n))) (agrees e (Some 0)) map received s
 
-vid_holds : (ps : List PushedTag) (own : Option ReceivedTag) (e : MatchField) (map : Field → Option ℕ) (received tags : List Tag) → IsVid e → IfSome (outermost tags) (λ t. t.vid < 2 ^ 12) → Says map (outermost received)
+pub vid_holds : (ps : List PushedTag) (own : Option ReceivedTag) (e : MatchField) (map : Field → Option ℕ) (received tags : List Tag) → IsVid e → IfSome (outermost tags) (λ t. t.vid < 2 ^ 12) → Says map (outermost received)
     → AreTagsAfter ps own received tags → Holds (vid_asked (slice_get ps 0) own e) (agrees e (Some (vid (option_map (λ (t : Tag). t.vid) (outermost tags))))) map
 vid_holds [] None e map received tags k small s h = tt
 vid_holds [] (Some own) e map received tags k small s h =
@@ -160,21 +159,28 @@ zero_value : (e : MatchField) (x : ℕ) (map : Field → Option ℕ) (received :
 zero_value e x map None s at is n = ap (λ (y : ℕ). agrees e (Some y)) is ∙ ne_eqb _ _ (λ z. eqb-false _ _ n (sym z ∙ zero_and (bits_looked_at e)))
 zero_value e x map (Some t) s at is n = ap (λ (y : ℕ). agrees e (Some y)) is
 
-received_pcp : (e : MatchField) (x : ℕ) (map : Field → Option ℕ) (received : Option Tag) → Says map received → e.field ≡ VlanPcp → x ≡ unwrap_or (option_map (λ (t : Tag). t.pcp) received) 0
-    → (b : Bool) → eqb e.value 0 ≡ b → Holds (cond b Open (Asks e)) (agrees e (Some x)) map
-received_pcp e x map received s at is true n = tt
-received_pcp e x map received s at is false n = zero_value e x map received s at is n ∙ sym (ap (agrees e) (ap map at ∙ s.pcp_is))
+-- with the tag there its PCP is a number, also if that is 0
+tagged_value : (e : MatchField) (x : ℕ) (received : Option Tag) → is_some received ≡ true → x ≡ unwrap_or (option_map (λ (t : Tag). t.pcp) received) 0 → agrees e (Some x) ≡ agrees e (option_map (λ (t : Tag). t.pcp) received)
+tagged_value e x None there is = absurd cc
+tagged_value e x (Some t) there is = ap (λ (y : ℕ). agrees e (Some y)) is
 
-pushed_pcp_holds : (k : TagNumber) (e : MatchField) (x : ℕ) (map : Field → Option ℕ) (received : Option Tag) → e.field ≡ VlanPcp → Says map received → IsNumber k (option_map (λ (t : Tag). t.pcp) received) x → Holds (pushed_pcp k e) (agrees e (Some x)) map
-pushed_pcp_holds (Value n) e x map received at s is =
+received_pcp : (tagged : Bool) (e : MatchField) (x : ℕ) (map : Field → Option ℕ) (received : Option Tag) → (tagged ≡ true → is_some received ≡ true) → Says map received → e.field ≡ VlanPcp
+    → x ≡ unwrap_or (option_map (λ (t : Tag). t.pcp) received) 0 → (b : Bool) → eqb e.value 0 ≡ b → Holds (cond (b && not tagged) Open (Asks e)) (agrees e (Some x)) map
+received_pcp true e x map received there s at is true n = tagged_value e x received (there refl) is ∙ sym (ap (agrees e) (ap map at ∙ s.pcp_is))
+received_pcp false e x map received there s at is true n = tt
+received_pcp tagged e x map received there s at is false n = zero_value e x map received s at is n ∙ sym (ap (agrees e) (ap map at ∙ s.pcp_is))
+
+pushed_pcp_holds : (tagged : Bool) (k : TagNumber) (e : MatchField) (x : ℕ) (map : Field → Option ℕ) (received : Option Tag) → (tagged ≡ true → is_some received ≡ true) → e.field ≡ VlanPcp → Says map received
+    → IsNumber k (option_map (λ (t : Tag). t.pcp) received) x → Holds (pushed_pcp tagged k e) (agrees e (Some x)) map
+pushed_pcp_holds tagged (Value n) e x map received there at s is =
     let b = agrees e (Some n) in
     holds_same (by_tag b b) (agrees e (Some x)) (cond (is_some received) b b) map (ap (λ (y : ℕ). agrees e (Some y)) is ∙ sym (either_way (is_some received) b)) (by_tag_holds b b map received s)
-pushed_pcp_holds Received e x map received at s is = received_pcp e x map received s at is (eqb e.value 0) refl
-pushed_pcp_holds (IfTagged n) e x map received at s is =
+pushed_pcp_holds tagged Received e x map received there at s is = received_pcp tagged e x map received there s at is (eqb e.value 0) refl
+pushed_pcp_holds tagged (IfTagged n) e x map received there at s is =
     let b = agrees e (Some n) in
     let c = agrees e (Some 0) in
     holds_same (by_tag b c) (agrees e (Some x)) (cond (is_some received) b c) map (ap (λ (y : ℕ). agrees e (Some y)) is ∙ if_tagged n (λ y. agrees e (Some y)) (λ (t : Tag). t.pcp) received) (by_tag_holds b c map received s)
-pushed_pcp_holds Unknown e x map received at s is = tt
+pushed_pcp_holds tagged Unknown e x map received there at s is = tt
 
 own_pcp_holds : (k : ReceivedTag) (n : Option ℕ) (e : MatchField) (map : Field → Option ℕ) (received : List Tag) → k.pcp ≡ n → e.field ≡ VlanPcp → Says map (outermost received) → Holds (own_pcp n e) (agrees e (option_map (λ (t : Tag). t.pcp) (outermost (own_tags k received)))) map
 own_pcp_holds k None e map [] is at s = sym (ap (agrees e) (ap map at ∙ s.pcp_is))
@@ -183,27 +189,11 @@ own_pcp_holds k (Some n) e map [] is at s = by_tag_holds (agrees e (Some n)) fal
 own_pcp_holds k (Some n) e map (t ∷ ts) is at s =
     holds_same (by_tag (agrees e (Some n)) false) (agrees e (Some (unwrap_or k.pcp t.pcp))) (agrees e (Some n)) map (ap (λ (o : Option ℕ). agrees e (Some (unwrap_or o t.pcp))) is) (by_tag_holds (agrees e (Some n)) false map (Some t) s)
 
-pcp_holds : (ps : List PushedTag) (own : Option ReceivedTag) (e : MatchField) (map : Field → Option ℕ) (received tags : List Tag) → e.field ≡ VlanPcp → Says map (outermost received)
-    → AreTagsAfter ps own received tags → Holds (pcp_asked (slice_get ps 0) own e) (agrees e (option_map (λ (t : Tag). t.pcp) (outermost tags))) map
-pcp_holds [] None e map received tags at s h = tt
-pcp_holds [] (Some own) e map received tags at s h =
+pub pcp_holds : (tagged : Bool) (ps : List PushedTag) (own : Option ReceivedTag) (e : MatchField) (map : Field → Option ℕ) (received tags : List Tag) → (tagged ≡ true → is_some (outermost received) ≡ true) → e.field ≡ VlanPcp → Says map (outermost received)
+    → AreTagsAfter ps own received tags → Holds (pcp_asked tagged (slice_get ps 0) own e) (agrees e (option_map (λ (t : Tag). t.pcp) (outermost tags))) map
+pcp_holds tagged [] None e map received tags there at s h = tt
+pcp_holds tagged [] (Some own) e map received tags there at s h =
     holds_same (own_pcp own.pcp e) (agrees e (option_map (λ (t : Tag). t.pcp) (outermost tags))) (agrees e (option_map (λ (t : Tag). t.pcp) (outermost (own_tags own received)))) map
     (ap (λ (ts : List Tag). agrees e (option_map (λ (t : Tag). t.pcp) (outermost ts))) h) (own_pcp_holds own own.pcp e map received refl at s)
-pcp_holds (p ∷ ps) own e map received [] at s h = absurd h
-pcp_holds (p ∷ ps) own e map received (t ∷ tags) at s h = pushed_pcp_holds p.pcp e t.pcp map (outermost received) at s h.0.pcp
-
--- ---- all fields
-
-metadata_holds : (e : MatchField) (metadata : ℕ) (map : Field → Option ℕ) (b : Bool) → agrees e (Some metadata) ≡ b → Holds (cond b Nothing Never) (agrees e (Some metadata)) map
-metadata_holds e metadata map true t = t
-metadata_holds e metadata map false t = t
-
-pub at_holds : (o : Overlay) (e : MatchField) (v w : View) (port metadata : ℕ) → Shows (value o.set) (tags_in o) v w → (e.field ≡ VlanVid → IsVid e) → IfSome (outermost w.tags) (λ t. t.vid < 2 ^ 12)
-    → Says (fields_seen v port 0) (outermost v.tags) → (f : Field) → e.field ≡ f → Holds (asked_at o metadata e f) (agrees e (fields_seen w port metadata f)) (fields_seen v port 0)
-at_holds o e v w port metadata h k small s InPort at = sym (ap (λ (f : Field). agrees e (fields_seen v port 0 f)) at)
-at_holds o e v w port metadata h k small s Metadata at = metadata_holds e metadata (fields_seen v port 0) (agrees e (Some metadata)) refl
-at_holds o e v w port metadata h k small s VlanVid at = vid_holds o.pushed.items o.own e (fields_seen v port 0) v.tags w.tags (k at) small s h.tags
-at_holds o e v w port metadata h k small s VlanPcp at = pcp_holds o.pushed.items o.own e (fields_seen v port 0) v.tags w.tags at s h.tags
-at_holds o e v w port metadata h k small s f at =
-    holds_same (field_asked (value o.set f) e) (agrees e (w.fields f)) (agrees e (with_value (value o.set f) (fields_seen v port 0 e.field))) (fields_seen v port 0)
-    (ap (agrees e) (h.fields f ∙ ap (λ (g : Field). with_value (value o.set f) (fields_seen v port 0 g)) (sym at))) (field_holds (value o.set f) e (fields_seen v port 0))
+pcp_holds tagged (p ∷ ps) own e map received [] there at s h = absurd h
+pcp_holds tagged (p ∷ ps) own e map received (t ∷ tags) there at s h = pushed_pcp_holds tagged p.pcp e t.pcp map (outermost received) there at s h.0.pcp

@@ -18,11 +18,12 @@ use Rattle.of_symbolic.specs.declared.overlay.PushedTag.{PushedTag}
 use Rattle.of_symbolic.specs.declared.overlay.ReceivedTag.{ReceivedTag}
 use Rattle.of_symbolic.specs.declared.overlay.TagNumber.{TagNumber}
 use Rattle.of_symbolic.specs.declared.overlay.TagNumber.TheVariants.{Value, Received, IfTagged, Unknown}
-use Rattle.of_symbolic.specs.Asking.{any_value, asked_at, by_tag, field_asked, own_pcp, own_vid, pcp_asked, pushed_pcp, pushed_vid, vid_asked, vid_bits, with_tag, without_tag}
+use Rattle.of_symbolic.specs.Asking.{any_value, asked_at, asked_of_tag, by_tag, field_asked, is_received, own_pcp, own_vid, pcp_asked, pushed_pcp, pushed_vid, vid_asked, vid_bits, with_tag, without_tag}
 use Rattle.of_regions.specs.Conditions.{IsCondition}
 use Rattle.of_regions.proofs.NarrowingLemmas.{any_value as any_value_condition, kept_condition}
 use Rattle.of_symbolic.specs.Overlaid.{is_number_known}
-use Rattle.of_symbolic.specs.Pulling.{is_pcp_unknown, is_unknown_at, is_vid_unknown, is_received}
+use Rattle.of_symbolic.specs.Pulling.{is_pcp_unknown, is_unknown_at, is_vid_unknown}
+use Rattle.of_symbolic.specs.Tags.{is_inner}
 use Rattle.of_symbolic.proofs.Holding.{IsVid}
 
 -- ---- VLAN_VID
@@ -64,7 +65,7 @@ set_kept : (f : Field) (b : Bool) → KeptIfAsked (cond b (Asks (any_value f)) N
 set_kept f true = any_value_condition (any_value f) refl refl
 set_kept f false = tt
 
-field_kept : (s : Option ℕ) (e : MatchField) → IsKept e → KeptIfAsked (field_asked s e)
+pub field_kept : (s : Option ℕ) (e : MatchField) → IsKept e → KeptIfAsked (field_asked s e)
 field_kept None e h = kept_condition e h
 field_kept (Some n) e h = set_kept e.field (agrees e (Some n))
 
@@ -89,7 +90,7 @@ tagged_kept e rest true true h = tt
 tagged_kept e rest true false h = h refl
 tagged_kept e rest false u h = tt
 
-vid_kept : (p : Option PushedTag) (own : Option ReceivedTag) (e : MatchField) → IsKept e → e.field ≡ VlanVid → KeptIfAsked (vid_asked p own e)
+pub vid_kept : (p : Option PushedTag) (own : Option ReceivedTag) (e : MatchField) → IsKept e → e.field ≡ VlanVid → KeptIfAsked (vid_asked p own e)
 vid_kept (Some p) own e h at = by_number p.vid
   where
     by_number : (k : TagNumber) → KeptIfAsked (pushed_vid k e)
@@ -104,35 +105,24 @@ vid_kept None (Some own) e h at = by_number own.vid
     by_number (Some n) = by_tag_kept _ _
 vid_kept None None e h at = tt
 
-pcp_kept : (p : Option PushedTag) (own : Option ReceivedTag) (e : MatchField) → IsKept e → KeptIfAsked (pcp_asked p own e)
-pcp_kept (Some p) own e h = by_number p.pcp
+pub pcp_kept : (tagged : Bool) (p : Option PushedTag) (own : Option ReceivedTag) (e : MatchField) → IsKept e → KeptIfAsked (pcp_asked tagged p own e)
+pcp_kept tagged (Some p) own e h = by_number p.pcp
   where
     by_test : (b : Bool) → KeptIfAsked (cond b Open (Asks e))
     by_test true = tt
     by_test false = kept_condition e h
 
-    by_number : (k : TagNumber) → KeptIfAsked (pushed_pcp k e)
+    by_number : (k : TagNumber) → KeptIfAsked (pushed_pcp tagged k e)
     by_number (Value n) = by_tag_kept _ _
     by_number (IfTagged n) = by_tag_kept _ _
-    by_number Received = by_test (eqb e.value 0)
+    by_number Received = by_test (eqb e.value 0 && not tagged)
     by_number Unknown = tt
-pcp_kept None (Some own) e h = by_number own.pcp
+pcp_kept tagged None (Some own) e h = by_number own.pcp
   where
     by_number : (k : Option ℕ) → KeptIfAsked (own_pcp k e)
     by_number None = kept_condition e h
     by_number (Some n) = by_tag_kept _ _
-pcp_kept None None e h = tt
-
-metadata_kept : (b : Bool) → KeptIfAsked (cond b Nothing Never)
-metadata_kept true = tt
-metadata_kept false = tt
-
-pub at_kept : (o : Overlay) (metadata : ℕ) (e : MatchField) → IsKept e → (f : Field) → e.field ≡ f → KeptIfAsked (asked_at o metadata e f)
-at_kept o metadata e h InPort at = kept_condition e h
-at_kept o metadata e h Metadata at = metadata_kept (agrees e (Some metadata))
-at_kept o metadata e h VlanVid at = vid_kept (slice_get o.pushed.items 0) o.own e h at
-at_kept o metadata e h VlanPcp at = pcp_kept (slice_get o.pushed.items 0) o.own e h
-at_kept o metadata e h f at = field_kept (value o.set f) e h
+pcp_kept tagged None None e h = tt
 
 -- ---- what is open
 
@@ -179,28 +169,35 @@ zero_open : (e : MatchField) (b : Bool) → cond b Open (Asks e) ≡ Open → b 
 zero_open e true h = refl
 zero_open e false h = absurd cc
 
-pushed_pcp_open : (k : TagNumber) (e : MatchField) → pushed_pcp k e ≡ Open → (not (is_number_known k) || (is_received k && eqb e.value 0)) ≡ true
-pushed_pcp_open (Value n) e h = absurd (by_tag_closed _ _ h)
-pushed_pcp_open (IfTagged n) e h = absurd (by_tag_closed _ _ h)
-pushed_pcp_open Received e h = zero_open e (eqb e.value 0) h
-pushed_pcp_open Unknown e h = refl
+pushed_pcp_open : (tagged : Bool) (k : TagNumber) (e : MatchField) → pushed_pcp tagged k e ≡ Open → (not (is_number_known k) || (is_received k && (eqb e.value 0 && not tagged))) ≡ true
+pushed_pcp_open tagged (Value n) e h = absurd (by_tag_closed _ _ h)
+pushed_pcp_open tagged (IfTagged n) e h = absurd (by_tag_closed _ _ h)
+pushed_pcp_open tagged Received e h = zero_open e (eqb e.value 0 && not tagged) h
+pushed_pcp_open tagged Unknown e h = refl
 
 own_pcp_open : (k : Option ℕ) (e : MatchField) → own_pcp k e ≡ Open → ⊥
 own_pcp_open None e h = cc
 own_pcp_open (Some n) e h = by_tag_closed _ _ h
 
-pcp_open : (p : Option PushedTag) (own : Option ReceivedTag) (e : MatchField) → pcp_asked p own e ≡ Open → is_pcp_unknown p own e ≡ true
-pcp_open (Some p) own e h = pushed_pcp_open p.pcp e h
-pcp_open None (Some own) e h = absurd (own_pcp_open own.pcp e h)
-pcp_open None None e h = refl
+pcp_open : (tagged : Bool) (p : Option PushedTag) (own : Option ReceivedTag) (e : MatchField) → pcp_asked tagged p own e ≡ Open → is_pcp_unknown tagged p own e ≡ true
+pcp_open tagged (Some p) own e h = pushed_pcp_open tagged p.pcp e h
+pcp_open tagged None (Some own) e h = absurd (own_pcp_open own.pcp e h)
+pcp_open tagged None None e h = refl
 
 metadata_closed : (b : Bool) → cond b Nothing Never ≡ Open → ⊥
 metadata_closed true h = cc
 metadata_closed false h = cc
 
-pub open_unknown : (o : Overlay) (metadata : ℕ) (e : MatchField) (f : Field) → asked_at o metadata e f ≡ Open → is_unknown_at o e f ≡ true
-open_unknown o metadata e InPort h = absurd cc
-open_unknown o metadata e Metadata h = absurd (metadata_closed (agrees e (Some metadata)) h)
-open_unknown o metadata e VlanVid h = vid_open (slice_get o.pushed.items 0) o.own e h
-open_unknown o metadata e VlanPcp h = pcp_open (slice_get o.pushed.items 0) o.own e h
-open_unknown o metadata e f h = absurd (set_closed (value o.set f) e h)
+tag_open : (inner : Bool) (a : Asked) → asked_of_tag inner a ≡ Open → a ≡ Open
+tag_open true (Asks x) h = absurd cc
+tag_open true Never h = absurd cc
+tag_open true Open h = refl
+tag_open true Nothing h = absurd cc
+tag_open false a h = h
+
+pub open_unknown : (o : Overlay) (metadata : ℕ) (tagged : Bool) (e : MatchField) (f : Field) → asked_at o metadata tagged e f ≡ Open → is_unknown_at o tagged e f ≡ true
+open_unknown o metadata tagged e InPort h = absurd cc
+open_unknown o metadata tagged e Metadata h = absurd (metadata_closed (agrees e (Some metadata)) h)
+open_unknown o metadata tagged e VlanVid h = vid_open (slice_get o.pushed.items 0) o.own e (tag_open (is_inner o.own) (vid_asked (slice_get o.pushed.items 0) o.own e) h)
+open_unknown o metadata tagged e VlanPcp h = pcp_open tagged (slice_get o.pushed.items 0) o.own e (tag_open (is_inner o.own) (pcp_asked tagged (slice_get o.pushed.items 0) o.own e) h)
+open_unknown o metadata tagged e f h = absurd (set_closed (value o.set f) e h)

@@ -5,11 +5,14 @@ pub mod Overlaying
 pub mod VidBits
 pub mod Holding
 pub mod Keeping
+pub mod InnerLemmas
+pub mod Tagged
 pub mod Vids
 pub mod SoFar
 pub mod Popping
 pub mod Lookups
 pub mod PartLemmas
+pub mod WholeLemmas
 pub mod FindLemmas
 pub mod PulledLemmas
 pub mod BranchLemmas

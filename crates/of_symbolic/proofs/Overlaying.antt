@@ -1,5 +1,5 @@
 -- The fields of the packet, in terms of those of the frame that came in.
-use Rattle.std.proofs.Common.{◌≡◌, ℕ, ◌+◌, ◌-◌, true, List, [], ◌∷◌, Option, Some, None, refl, sym, ap, ◌∙◌, arith}
+use Rattle.std.proofs.Common.{◌≡◌, ℕ, true, List, [], ◌∷◌, Option, Some, None, refl, ap, ◌∙◌}
 use Rattle.std.specs.Prelude.{slice_get}
 use Rattle.std.specs.Option.{option_map}
 use Rattle.of_layers.specs.declared.field.Field.{Field}
@@ -13,9 +13,9 @@ use Rattle.of_symbolic.specs.declared.overlay.ReceivedTag.{ReceivedTag}
 use Rattle.of_symbolic.specs.declared.overlay.TagNumber.{TagNumber}
 use Rattle.of_symbolic.specs.declared.overlay.TagNumber.TheVariants.{Value, Received, IfTagged, Unknown}
 use Rattle.of_symbolic.specs.Actions.{view_of_actions}
-use Rattle.of_symbolic.specs.Overlaid.{is_field_known, is_number_known, is_tag_known, overlaid, tag_number, tag_of_packet, tag_received}
+use Rattle.of_symbolic.specs.Overlaid.{is_field_known, is_number_known, is_tag_known, overlaid, tag_number, tag_of_packet}
 use Rattle.of_symbolic.specs.Overlays.{IsOverlay, Shows, tags_in}
-use Rattle.of_symbolic.specs.Tags.{AreTagsAfter, IsNumber, own_tag, own_tags}
+use Rattle.of_symbolic.specs.Tags.{AreTagsAfter, IsNumber, is_inner, own_tag, own_tags, tags_from}
 use Rattle.of_symbolic.proofs.Showing.{overlay_shows}
 
 number_is : (k : TagNumber) (o : Option ℕ) (x : ℕ) → is_number_known k ≡ true → IsNumber k o x → x ≡ tag_number k o
@@ -23,11 +23,6 @@ number_is (Value n) o x known h = h
 number_is Received o x known h = h
 number_is (IfTagged n) o x known h = h
 number_is Unknown o x known h = absurd cc
-
--- the tag is that of the fields
-received_is : (ts : List Tag) → tag_received (Some (vid (option_map (λ (t : Tag). t.vid) (outermost ts)))) (option_map (λ (t : Tag). t.pcp) (outermost ts)) ≡ outermost ts
-received_is [] = refl
-received_is (t ∷ ts) = let e : 0x1000 + t.vid - 0x1000 ≡ t.vid = omega arith in λ j. Some (record { vid = e j; pcp = t.pcp })
 
 own_outermost : (k : ReceivedTag) (ts : List Tag) → outermost (own_tags k ts) ≡ option_map (own_tag k) (outermost ts)
 own_outermost k [] = refl
@@ -47,16 +42,14 @@ pcp_is [] (Some k) received tags h known = ap (λ (ts : List Tag). option_map (�
 pcp_is (p ∷ ps) own received [] h known = absurd h
 pcp_is (p ∷ ps) own received (t ∷ tags) h known = ap (λ (n : ℕ). Some n) (number_is p.pcp (option_map (λ (u : Tag). u.pcp) (outermost received)) t.pcp known h.0.pcp)
 
-shown : (o : Overlay) (v w : View) (port metadata : ℕ) (f : Field) → Shows (value o.set) (tags_in o) v w → is_field_known o f ≡ true → fields_seen w port metadata f ≡ overlaid o metadata (fields_seen v port 0) f
+shown : (o : Overlay) (v w : View) (port metadata : ℕ) (f : Field) → Shows (value o.set) (tags_in o) v w → is_field_known o f ≡ true → fields_seen w port metadata f ≡ overlaid o metadata (fields_seen v port 0) v.tags f
 shown o v w port metadata InPort h known = refl
 shown o v w port metadata Metadata h known = refl
 shown o v w port metadata VlanVid h known =
-    ap (λ (n : Option ℕ). Some (vid n)) (vid_is o.pushed.items o.own v.tags w.tags h.tags known
-    ∙ sym (ap (λ (t : Option Tag). option_map (λ (u : Tag). u.vid) (tag_of_packet (slice_get o.pushed.items 0) o.own t)) (received_is v.tags)))
+    ap (λ (n : Option ℕ). Some (vid n)) (vid_is o.pushed.items o.own (tags_from (is_inner o.own) v.tags) w.tags h.tags known)
 shown o v w port metadata VlanPcp h known =
-    pcp_is o.pushed.items o.own v.tags w.tags h.tags known
-    ∙ sym (ap (λ (t : Option Tag). option_map (λ (u : Tag). u.pcp) (tag_of_packet (slice_get o.pushed.items 0) o.own t)) (received_is v.tags))
+    pcp_is o.pushed.items o.own (tags_from (is_inner o.own) v.tags) w.tags h.tags known
 shown o v w port metadata f h known = h.fields f
 
-pub fields_shown : (o : Overlay) (l : List Action) (v : View) (port metadata : ℕ) (f : Field) → IsOverlay o l → is_field_known o f ≡ true → fields_seen (view_of_actions l v) port metadata f ≡ overlaid o metadata (fields_seen v port 0) f
+pub fields_shown : (o : Overlay) (l : List Action) (v : View) (port metadata : ℕ) (f : Field) → IsOverlay o l → is_field_known o f ≡ true → fields_seen (view_of_actions l v) port metadata f ≡ overlaid o metadata (fields_seen v port 0) v.tags f
 fields_shown o l v port metadata f h known = shown o v (view_of_actions l v) port metadata f (overlay_shows o l v h) known

@@ -1,32 +1,28 @@
 -- Parts, with more regions and with fewer packets.
-use Rattle.std.proofs.Common.{◌≡◌, ◌⊎◌, ◌<◌, ◌+◌, ◌%◌, ◌^◌, ℕ, Bool, eqb, true, false, List, [], ◌∷◌, ◌++◌, length, get_or, take, Option, None, Some, refl, sym, ap, subst, ◌∙◌, arith, inl, inr}
-use Rattle.std.specs.Prelude.{bit_and, slice_get, ◌&&◌}
-use Rattle.std.proofs.lemmas.Bool.{eqb-true}
+use Rattle.std.proofs.Common.{◌≡◌, ◌⊎◌, ◌<◌, ◌+◌, ℕ, true, false, List, [], ◌∷◌, ◌++◌, length, get_or, take, Option, Some, sym, ap, subst, ◌∙◌, arith, inl, inr}
+use Rattle.std.specs.Prelude.{slice_get}
 use Rattle.std.specs.List.{Contains}
 use Rattle.std.specs.Global.{Vec}
 use Rattle.std.proofs.lemmas.List.{take_more}
 use Rattle.std.proofs.lemmas.List.Elements.{Contains-append_left, Contains-push, Contains-push_cases}
 use Rattle.std.proofs.lemmas.Option.{slice_get-get_or}
 use Rattle.of_layers.specs.declared.field.Field.{Field}
-use Rattle.of_layers.specs.declared.field.Field.TheVariants.{Metadata}
-use Rattle.of_layers.specs.Fields.{ones_of, row_of}
 use Rattle.of_layers.specs.Reading.{layers_of}
 use Rattle.of_headers.specs.FieldMap.{field_map}
 use Rattle.of_oxm.specs.declared.match_field.MatchField.{MatchField}
 use Rattle.of_oxm.specs.Relations.{matches_map}
 use Rattle.of_rewrite.specs.Frames.{IsFrame}
-use Rattle.of_frames.specs.Rules.{shape_of, tagging_of}
-use Rattle.of_frames.proofs.Shapes.{shaped, tags_seen}
+use Rattle.of_frames.specs.Rules.{tagging_of}
+use Rattle.of_frames.proofs.Shapes.{tags_seen}
 use Rattle.of_regions.specs.declared.meeting.Meeting.TheVariants.{Apart, Whole}
 use Rattle.of_regions.specs.declared.region.Region.{Region}
 use Rattle.of_regions.specs.Conditions.{AreConditions}
 use Rattle.of_regions.specs.Meeting.{Meets}
 use Rattle.of_regions.specs.Narrowing.{AreNarrowed}
 use Rattle.of_regions.specs.Regions.{InRegion, IsSomeTagging}
-use Rattle.of_regions.specs.Searching.{InSome, IsStart}
+use Rattle.of_regions.specs.Searching.{InSome}
 use Rattle.of_symbolic.specs.declared.part.Part.{Part}
-use Rattle.of_symbolic.specs.Parts.{AreLeftRegions, AreListsOfConditions, InPart, IsListed, IsMatchedPart, IsUnmatchedPart, IsWholePart, NoneOfMatches, received_fields}
-use Rattle.of_symbolic.proofs.Following.{low_bits}
+use Rattle.of_symbolic.specs.Parts.{AreLeftRegions, AreListsOfConditions, InPart, IsListed, IsMatchedPart, IsUnmatchedPart, NoneOfMatches}
 
 -- ---- lists
 
@@ -88,37 +84,10 @@ one_dropped m regions i r out is lt whole old = record {
   ];
 }
 
--- ---- all frames
-
-abbrev pub no_metadata : MatchField
-no_metadata = record { field = Metadata; value = 0; mask = None }
+-- ---- frames
 
 pub some_tagging : (frame : List ℕ) (port metadata : ℕ) → IsFrame frame → IsSomeTagging (field_map (layers_of frame) port metadata)
 some_tagging frame port metadata h = (tagging_of (layers_of frame).tags, tags_seen frame port metadata h.1 h.0)
-
-received_metadata : (frame : List ℕ) (port : ℕ) → matches_map (no_metadata ∷ []) (received_fields frame port) ≡ true
-unfolding row_of
-received_metadata frame port = refl
-
-metadata_asked : (frame : List ℕ) (port metadata : ℕ) → metadata < 2 ^ 64 → matches_map (no_metadata ∷ []) (field_map (layers_of frame) port metadata) ≡ true → metadata ≡ 0
-unfolding row_of
-metadata_asked frame port metadata fits h = by_test (eqb (bit_and metadata (ones_of Metadata)) 0) refl h
-  where
-    by_test : (b : Bool) → eqb (bit_and metadata (ones_of Metadata)) 0 ≡ b → (b && true) ≡ true → metadata ≡ 0
-    by_test true e h =
-        let none : metadata % 2 ^ 64 ≡ 0 = sym (low_bits metadata Metadata) ∙ eqb-true _ _ e in
-        omega (arith, none, fits)
-    by_test false e h = absurd cc
-
-pub whole_is : (start : List Region) (part : Part) → IsStart [] start → AreNarrowed (no_metadata ∷ []) start part.regions.items → part.lacks.items ≡ [] → IsWholePart part
-whole_is start part begins are lacks = record {
-  all = λ frame port h. (
-    are.all (received_fields frame port) (some_tagging frame port 0 h)
-        (begins.all (shape_of (layers_of frame).body) (tagging_of (layers_of frame).tags) (received_fields frame port) (shaped frame port 0 h.1 h.0) (tags_seen frame port 0 h.1 h.0) refl) (received_metadata frame port),
-    λ m c. absurd (none_of m (subst (λ (ms : List (Vec MatchField)). Contains ms m) lacks c)),
-  );
-  metadata = λ frame port metadata fits h. metadata_asked frame port metadata fits (are.within (field_map (layers_of frame) port metadata) h.0).1;
-}
 
 -- ---- the packets that a match does not match
 

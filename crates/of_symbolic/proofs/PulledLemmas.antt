@@ -64,10 +64,10 @@ pulled_kept o metadata (e ∷ flows) (q ∷ pulled) are zero p at = subst HasCon
 pulled_kept o metadata (e ∷ flows) (q ∷ pulled) are (suc k) p at = pulled_kept o metadata flows pulled are.1 k p at
 
 -- what was pulled of one entry
-pub one_pulled : (o : Overlay) (metadata : ℕ) (e : FlowEntry) (r : Pulled) (p : PulledEntry) → r ≡ pulled_of p.fields → p.priority ≡ e.flow.priority → ((l : List Action) → IsOverlay o l → IsPulled l metadata e.flow.fields r) → AsksConditions r → IsPulledEntry o metadata e p
+pub one_pulled : (o : Overlay) (metadata : ℕ) (e : FlowEntry) (r : Pulled) (p : PulledEntry) → r ≡ pulled_of p.fields → p.priority ≡ e.flow.priority → ((l : List Action) → IsOverlay o l → IsPulled o.inner l metadata e.flow.fields r) → AsksConditions r → IsPulledEntry o metadata e p
 one_pulled o metadata e r p is priority pulled asks = record {
   priority = priority;
-  is = λ l over. subst (IsPulled l metadata e.flow.fields) is (pulled l over);
+  is = λ l over. subst (IsPulled o.inner l metadata e.flow.fields) is (pulled l over);
   conditions = kept p.fields (subst AsksConditions is asks);
 }
   where

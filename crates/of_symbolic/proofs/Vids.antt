@@ -26,7 +26,7 @@ new_small : (ts : List Tag) → AreSmall ts → (unwrap_or (outermost ts) (recor
 new_small [] h = omega arith
 new_small (t ∷ ts) h = h.0
 
-rest_small : (ts : List Tag) → AreSmall ts → AreSmall (drop 1 ts)
+pub rest_small : (ts : List Tag) → AreSmall ts → AreSmall (drop 1 ts)
 rest_small [] h = tt
 rest_small (t ∷ ts) h = h.1
 
@@ -54,7 +54,7 @@ all_small (a ∷ l) v h = all_small l (view_by (call_of a) v) (one_small a v h)
 
 -- ---- frames
 
-four_small : (t : List ℕ) → FitsItems inner_tag t → (tag_of_numbers t).vid < 2 ^ 12
+pub four_small : (t : List ℕ) → FitsItems inner_tag t → (tag_of_numbers t).vid < 2 ^ 12
 four_small [] h = absurd h
 four_small (a ∷ []) h = absurd h.1
 four_small (a ∷ b ∷ []) h = absurd h.1.1

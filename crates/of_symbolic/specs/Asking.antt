@@ -1,5 +1,6 @@
 -- For contracts inside this crate: what one field of a match asks of the frame that came in.
-use Rattle.std.specs.Prelude.{ℕ, ◌+◌, ◌/◌, ◌%◌, ◌==◌, Bool, true, false, not, if◌then◌else◌, Option, Some, None, slice_get}
+use Rattle.std.specs.Prelude.{ℕ, ◌+◌, ◌*◌, ◌/◌, ◌%◌, ◌==◌, ◌&&◌, Bool, true, false, not, if◌then◌else◌, List, Option, Some, None, slice_get}
+use Rattle.std.specs.List.{list_any}
 use Rattle.of_layers.specs.declared.field.Field.{Field}
 use Rattle.of_layers.specs.declared.field.Field.TheVariants.{InPort, Metadata, VlanVid, VlanPcp}
 use Rattle.of_headers.specs.FieldMap.{value}
@@ -12,6 +13,30 @@ use Rattle.of_symbolic.specs.declared.overlay.PushedTag.{PushedTag}
 use Rattle.of_symbolic.specs.declared.overlay.ReceivedTag.{ReceivedTag}
 use Rattle.of_symbolic.specs.declared.overlay.TagNumber.{TagNumber}
 use Rattle.of_symbolic.specs.declared.overlay.TagNumber.TheVariants.{Value, Received, IfTagged, Unknown}
+use Rattle.of_symbolic.specs.Tags.{is_inner}
+
+-- ---- matches that ask for a tag of the frame
+
+-- the number of a pushed tag is that of the frame's own tag, or 0 if it has none
+abbrev pub is_received : TagNumber → Bool
+is_received Received = true
+is_received other = false
+
+-- a field of a match asks for a VID with some bit that is not 0
+abbrev pub asks_vid_at : MatchField → Field → Bool
+asks_vid_at e VlanVid = not (e.value % 0x1000 == 0)
+asks_vid_at e f = false
+
+abbrev pub asks_vid : MatchField → Bool
+asks_vid e = asks_vid_at e e.field
+
+-- The outermost tag was pushed with the VID of the frame's own tag, and the match asks for a VID with some bit that is not 0.
+-- If the frame has no such tag, the pushed one has VID 0 (5.12.1). So only frames with the tag can match.
+abbrev pub asks_tag : Option PushedTag → List MatchField → Bool
+asks_tag (Some tag) m = is_received tag.vid && list_any asks_vid m
+asks_tag None m = false
+
+-- ---- what a field asks
 
 -- a field of a match that agrees with each value of the field
 abbrev pub any_value : Field → MatchField
@@ -59,28 +84,40 @@ vid_asked (Some tag) own e = pushed_vid tag.vid e
 vid_asked None (Some tag) e = own_vid tag.vid e
 vid_asked None None e = Open
 
-abbrev pub pushed_pcp : TagNumber → MatchField → Asked
-pushed_pcp (Value n) e = by_tag (agrees e (Some n)) (agrees e (Some n))
-pushed_pcp (IfTagged n) e = by_tag (agrees e (Some n)) (agrees e (Some 0))
-pushed_pcp Received e = if e.value == 0 then Open else Asks e
-pushed_pcp Unknown e = Open
+-- A PCP of 0 that was copied says: no tag, or a tag with that PCP. No list of fields says that.
+-- But where the match asks for the tag, the PCP is asked of it as it is.
+abbrev pub pushed_pcp : Bool → TagNumber → MatchField → Asked
+pushed_pcp tagged (Value n) e = by_tag (agrees e (Some n)) (agrees e (Some n))
+pushed_pcp tagged (IfTagged n) e = by_tag (agrees e (Some n)) (agrees e (Some 0))
+pushed_pcp tagged Received e = if e.value == 0 && not tagged then Open else Asks e
+pushed_pcp tagged Unknown e = Open
 
 abbrev pub own_pcp : Option ℕ → MatchField → Asked
 own_pcp None e = Asks e
 own_pcp (Some n) e = by_tag (agrees e (Some n)) false
 
-abbrev pub pcp_asked : Option PushedTag → Option ReceivedTag → MatchField → Asked
-pcp_asked (Some tag) own e = pushed_pcp tag.pcp e
-pcp_asked None (Some tag) e = own_pcp tag.pcp e
-pcp_asked None None e = Open
+abbrev pub pcp_asked : Bool → Option PushedTag → Option ReceivedTag → MatchField → Asked
+pcp_asked tagged (Some tag) own e = pushed_pcp tagged tag.pcp e
+pcp_asked tagged None (Some tag) e = own_pcp tag.pcp e
+pcp_asked tagged None None e = Open
 
--- by the field
-abbrev pub asked_at : Overlay → ℕ → MatchField → Field → Asked
-asked_at o metadata e InPort = Asks e
-asked_at o metadata e Metadata = if agrees e (Some metadata) then Nothing else Never
-asked_at o metadata e VlanVid = vid_asked (slice_get o.pushed.items 0) o.own e
-asked_at o metadata e VlanPcp = pcp_asked (slice_get o.pushed.items 0) o.own e
-asked_at o metadata e f = field_asked (value o.set f) e
+-- a condition on a tag, as one on METADATA, which tells the inner tag
+abbrev pub inner_field : Field → MatchField → MatchField
+inner_field VlanPcp e = record { field = Metadata; value = 0x1000 + 0x2000 * (e.value % 8); mask = Some (0x1000 + 0x2000 * (bits_looked_at e % 8)) }
+inner_field f e = record { field = Metadata; value = e.value; mask = Some (bits_looked_at e) }
 
-abbrev pub asked_of_frame : Overlay → ℕ → MatchField → Asked
-asked_of_frame o metadata e = asked_at o metadata e e.field
+-- what is asked of the outermost tag, or of the inner one
+abbrev pub asked_of_tag : Bool → Asked → Asked
+asked_of_tag true (Asks e) = Asks (inner_field e.field e)
+asked_of_tag inner asked = asked
+
+-- by the field, and by whether the match asks for a tag of the frame
+abbrev pub asked_at : Overlay → ℕ → Bool → MatchField → Field → Asked
+asked_at o metadata tagged e InPort = Asks e
+asked_at o metadata tagged e Metadata = if agrees e (Some metadata) then Nothing else Never
+asked_at o metadata tagged e VlanVid = asked_of_tag (is_inner o.own) (vid_asked (slice_get o.pushed.items 0) o.own e)
+asked_at o metadata tagged e VlanPcp = asked_of_tag (is_inner o.own) (pcp_asked tagged (slice_get o.pushed.items 0) o.own e)
+asked_at o metadata tagged e f = field_asked (value o.set f) e
+
+abbrev pub asked_of_frame : Overlay → ℕ → Bool → MatchField → Asked
+asked_of_frame o metadata tagged e = asked_at o metadata tagged e e.field

@@ -1,5 +1,5 @@
 -- WHAT A LOOKUP DOES WITH ALL PACKETS OF A PART: it divides them by the entry that wins (OpenFlow 1.3.5, 5.3).
-use Rattle.std.specs.Prelude.{◌≡◌, ℕ, List, Option, Some, slice_get, true, map}
+use Rattle.std.specs.Prelude.{◌≡◌, ℕ, Bool, List, Option, Some, slice_get, true, map}
 use Rattle.std.specs.Borrow.{Bor}
 use Rattle.std.specs.List.{Contains}
 use Rattle.of_layers.specs.declared.field.Field.{Field}
@@ -14,7 +14,8 @@ use Rattle.of_symbolic.specs.declared.branching.Branch.{Branch}
 use Rattle.of_symbolic.specs.declared.overlay.Overlay.{Overlay}
 use Rattle.of_symbolic.specs.declared.part.Part.{Part}
 use Rattle.of_symbolic.specs.Actions.{frame_of_actions}
-use Rattle.of_symbolic.specs.Parts.{InPart, received_fields}
+use Rattle.of_symbolic.specs.InnerTags.{description_of}
+use Rattle.of_symbolic.specs.Parts.{InPart}
 use Rattle.of_symbolic.specs.Pulling.{is_unknown_in}
 
 -- the fields of the packet that actions make of a frame that came in by a port, with this metadata
@@ -25,16 +26,16 @@ rewritten_fields l metadata frame port = field_map (layers_of (frame_of_actions 
 abbrev pub HaveDistinctEntries : List Branch → Type 0
 HaveDistinctEntries branches = (i j : ℕ) (a b : Branch) → slice_get branches i ≡ Some a → slice_get branches j ≡ Some b → a.entry ≡ b.entry → i ≡ j
 
--- The packets of a part, after these actions and with this metadata, by the entry that each hits (5.3). An entry is named by its place by age, from 0.
-pub record AreBranches (flows : List FlowEntry) (l : List Action) (metadata : ℕ) (part : Part) (branches : List Branch) : Type 0 where
+-- The packets of a part, which describes frames, after these actions and with this metadata, by the entry that each hits (5.3). An entry is named by its place by age, from 0.
+pub record AreBranches (told : Bool) (flows : List FlowEntry) (l : List Action) (metadata : ℕ) (part : Part) (branches : List Branch) : Type 0 where
   -- no branch has other packets
   pub within : (b : Branch) → Contains branches b → (fields : Field → Option ℕ) → InPart b.part fields → InPart part fields
   -- each packet of a branch hits its entry, or none
-  pub wins : (b : Branch) → Contains branches b → (frame : List ℕ) (port : ℕ) → IsFrame frame → InPart b.part (received_fields frame port) → winner_place (rewritten_fields l metadata frame port) flows ≡ b.entry
+  pub wins : (b : Branch) → Contains branches b → (frame : List ℕ) (port : ℕ) → IsFrame frame → InPart b.part (description_of told frame port) → winner_place (rewritten_fields l metadata frame port) flows ≡ b.entry
   -- an entry has one branch at most, and so have the packets that hit none
   pub once : HaveDistinctEntries branches
   -- each packet is in a branch
-  pub all : (frame : List ℕ) (port : ℕ) → IsFrame frame → InPart part (received_fields frame port) → (b : Branch) × Contains branches b × InPart b.part (received_fields frame port)
+  pub all : (frame : List ℕ) (port : ℕ) → IsFrame frame → InPart part (description_of told frame port) → (b : Branch) × Contains branches b × InPart b.part (description_of told frame port)
 
 -- the entries that these refer to, without their numbers
 abbrev pub flows_listed : List (Bor Entry) → List FlowEntry

@@ -37,7 +37,7 @@ HasConditions p = IfSome p.fields (λ (m : Vec MatchField). AreConditions m.item
 
 pub record IsPulledEntry (o : Overlay) (metadata : ℕ) (e : FlowEntry) (p : PulledEntry) : Type 0 where
   pub priority : p.priority ≡ e.flow.priority
-  pub is : (l : List Action) → IsOverlay o l → IsPulled l metadata e.flow.fields (pulled_of p.fields)
+  pub is : (l : List Action) → IsOverlay o l → IsPulled o.inner l metadata e.flow.fields (pulled_of p.fields)
   pub conditions : HasConditions p
 
 abbrev pub ArePulledEntries : Overlay → ℕ → List FlowEntry → List PulledEntry → Type 0

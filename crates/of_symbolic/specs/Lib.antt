@@ -1,4 +1,5 @@
 pub mod Actions
+pub mod InnerTags
 pub mod Tags
 pub mod Overlays
 pub mod Overlaid

@@ -1,17 +1,17 @@
 -- The fields that a lookup of the packet compares, in terms of those of the frame that came in (OpenFlow 1.3.5, 5.3 and 7.2.3.7).
-use Rattle.std.specs.Prelude.{ℕ, ◌-◌, Bool, true, false, Option, Some, None, slice_get, unwrap_or}
+use Rattle.std.specs.Prelude.{ℕ, Bool, List, true, false, Option, Some, None, slice_get, unwrap_or}
 use Rattle.std.specs.Option.{option_map, option_map_or}
 use Rattle.of_layers.specs.declared.field.Field.{Field}
 use Rattle.of_layers.specs.declared.field.Field.TheVariants.{InPort, Metadata, VlanVid, VlanPcp}
 use Rattle.of_headers.specs.FieldMap.{value, vid}
-use Rattle.of_rewrite.specs.Views.{Tag}
+use Rattle.of_rewrite.specs.Views.{Tag, outermost}
 use Rattle.of_symbolic.specs.declared.overlay.Overlay.{Overlay}
 use Rattle.of_symbolic.specs.declared.overlay.PushedTag.{PushedTag}
 use Rattle.of_symbolic.specs.declared.overlay.ReceivedTag.{ReceivedTag}
 use Rattle.of_symbolic.specs.declared.overlay.TagNumber.{TagNumber}
 use Rattle.of_symbolic.specs.declared.overlay.TagNumber.TheVariants.{Value, Received, IfTagged, Unknown}
 use Rattle.of_symbolic.specs.Overlays.{with_value}
-use Rattle.of_symbolic.specs.Tags.{own_tag}
+use Rattle.of_symbolic.specs.Tags.{is_inner, own_tag, tags_from}
 
 -- ---- what is known
 
@@ -32,7 +32,7 @@ is_field_known o f = true
 
 -- ---- the outermost tag of the packet
 
--- a number of a tag, where `received` is that of the outermost tag of the frame that came in, if it has one
+-- a number of a tag, where `received` is that of the frame's own tag, if it has one
 abbrev pub tag_number : TagNumber → Option ℕ → ℕ
 tag_number (Value n) received = n
 tag_number Received received = unwrap_or received 0
@@ -44,17 +44,16 @@ tag_of_packet (Some k) own received = Some (record { vid = tag_number k.vid (opt
 tag_of_packet None (Some k) received = option_map (own_tag k) received
 tag_of_packet None None received = None
 
--- the outermost tag of the frame that came in, by its VLAN_VID and VLAN_PCP
-abbrev pub tag_received : Option ℕ → Option ℕ → Option Tag
-tag_received (Some v) (Some p) = Some (record { vid = v - 0x1000; pcp = p })
-tag_received v p = None
+-- the packet's, where `tags` are those of the frame that came in
+abbrev pub outermost_of_packet : Overlay → List Tag → Option Tag
+outermost_of_packet o tags = tag_of_packet (slice_get o.pushed.items 0) o.own (outermost (tags_from (is_inner o.own) tags))
 
 -- ---- the whole
 
--- the fields of the packet at this metadata, where `map` are those of the frame that came in
-abbrev pub overlaid : Overlay → ℕ → (Field → Option ℕ) → Field → Option ℕ
-overlaid o metadata map InPort = map InPort
-overlaid o metadata map Metadata = Some metadata
-overlaid o metadata map VlanVid = Some (vid (option_map (λ (t : Tag). t.vid) (tag_of_packet (slice_get o.pushed.items 0) o.own (tag_received (map VlanVid) (map VlanPcp)))))
-overlaid o metadata map VlanPcp = option_map (λ (t : Tag). t.pcp) (tag_of_packet (slice_get o.pushed.items 0) o.own (tag_received (map VlanVid) (map VlanPcp)))
-overlaid o metadata map f = with_value (value o.set f) (map f)
+-- the fields of the packet at this metadata, where `map` and `tags` are those of the frame that came in
+abbrev pub overlaid : Overlay → ℕ → (Field → Option ℕ) → List Tag → Field → Option ℕ
+overlaid o metadata map tags InPort = map InPort
+overlaid o metadata map tags Metadata = Some metadata
+overlaid o metadata map tags VlanVid = Some (vid (option_map (λ (t : Tag). t.vid) (outermost_of_packet o tags)))
+overlaid o metadata map tags VlanPcp = option_map (λ (t : Tag). t.pcp) (outermost_of_packet o tags)
+overlaid o metadata map tags f = with_value (value o.set f) (map f)

@@ -9,7 +9,7 @@ use Rattle.of_rewrite.specs.Views.{Tag, View}
 use Rattle.of_actions.specs.declared.action.Action.{Action}
 use Rattle.of_actions.specs.declared.action.Action.TheVariants as actions
 use Rattle.of_symbolic.specs.declared.overlay.Overlay.{Overlay}
-use Rattle.of_symbolic.specs.Tags.{Tags, AreTagsAfter, tags_of_actions}
+use Rattle.of_symbolic.specs.Tags.{Tags, AreTagsAfter, is_inner, tags_from, tags_of_actions}
 
 -- the value that SET_FIELD sets a field to: as many bits as the field has
 abbrev pub value_by : Action → Field → Option ℕ → Option ℕ
@@ -26,7 +26,7 @@ tags_in o = record { pushed = o.pushed.items; own = o.own }
 -- the overlay of a packet after these actions, the first one first
 pub record IsOverlay (o : Overlay) (l : List Action) : Type 0 where
   pub set : (f : Field) → value o.set f ≡ value_set l f
-  pub tags : tags_in o ≡ tags_of_actions l
+  pub tags : tags_in o ≡ tags_of_actions o.inner l
 
 -- ---- what it says
 
@@ -38,7 +38,7 @@ with_value (Some n) received = option_map (λ x. n) received
 -- The view of a packet, where `received` is that of the frame that came in: what fields were set to, and what is known of tags. The TTL is no match field.
 pub record Shows (set : Field → Option ℕ) (k : Tags) (received packet : View) : Type 0 where
   pub fields : (f : Field) → packet.fields f ≡ with_value (set f) (received.fields f)
-  pub tags : AreTagsAfter k.pushed k.own received.tags packet.tags
+  pub tags : AreTagsAfter k.pushed k.own (tags_from (is_inner k.own) received.tags) packet.tags
 
 -- the VID of each tag has 12 bits (IEEE 802.1Q, 9.6)
 abbrev pub HasVids : View → Type 0

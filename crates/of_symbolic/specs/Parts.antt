@@ -1,5 +1,5 @@
 -- A PART OF ALL PACKETS: packets of some regions that none of some lists of conditions matches (OpenFlow 1.3.5, 5.3).
-use Rattle.std.specs.Prelude.{◌≡◌, ℕ, ◌<◌, ◌^◌, List, Option, map, true, false}
+use Rattle.std.specs.Prelude.{◌≡◌, ℕ, ◌<◌, ◌/◌, ◌%◌, ◌^◌, ◌==◌, ◌&&◌, ◌||◌, nat_lt, Bool, List, [], ◌∷◌, Option, map, true, false}
 use Rattle.std.specs.List.{Contains}
 use Rattle.std.specs.Global.{Vec}
 use Rattle.of_layers.specs.declared.field.Field.{Field}
@@ -16,8 +16,9 @@ use Rattle.of_regions.specs.declared.witness.Packet.{Packet}
 use Rattle.of_regions.specs.Conditions.{AreConditions}
 use Rattle.of_regions.specs.Regions.{InRegion, IsSomeTagging}
 use Rattle.of_regions.specs.Searching.{InSome, IsUndecided}
-use Rattle.of_regions.specs.Witness.{HasNoIngress, IsReceived, fields_in}
+use Rattle.of_regions.specs.Witness.{HasNoIngress, IsReceived, IsShortFrame, fields_in}
 use Rattle.of_symbolic.specs.declared.part.Part.{Part}
+use Rattle.of_symbolic.specs.InnerTags.{description_of}
 
 abbrev pub AreListsOfConditions : List (Vec MatchField) → Type 0
 AreListsOfConditions lacks = (m : Vec MatchField) → Contains lacks m → AreConditions m.items
@@ -38,10 +39,19 @@ InPart part fields = InSome part.regions.items fields × NoneOfMatches part.lack
 abbrev pub received_fields : List ℕ → ℕ → Field → Option ℕ
 received_fields frame port = field_map (layers_of frame) port 0
 
--- all frames, by any port, and no packet with other metadata
-pub record IsWholePart (part : Part) : Type 0 where
-  pub all : (frame : List ℕ) (port : ℕ) → IsFrame frame → InPart part (received_fields frame port)
-  pub metadata : (frame : List ℕ) (port metadata : ℕ) → metadata < 2 ^ 64 → InPart part (field_map (layers_of frame) port metadata) → metadata ≡ 0
+-- METADATA that the description of a frame may have, by the frame's tags: 0, and if there is a tag and inner tags are told, the number of an inner tag, in 16 bits with the bit 0x1000
+abbrev pub may_tell : Bool → List (List ℕ) → ℕ → Bool
+may_tell told [] n = n == 0
+may_tell told (t ∷ ts) n = n == 0 || told && nat_lt n 0x10000 && n / 0x1000 % 2 == 1
+
+-- the packets of the part are descriptions of frames, each with an inner tag or without
+abbrev pub AreDescriptions : Bool → Part → Type 0
+AreDescriptions told part = (frame : List ℕ) (port metadata : ℕ) → IsFrame frame → metadata < 2 ^ 64 → InPart part (field_map (layers_of frame) port metadata) → may_tell told (layers_of frame).tags metadata ≡ true
+
+-- the descriptions of all frames, by any port, and no others
+pub record IsWholePart (told : Bool) (part : Part) : Type 0 where
+  pub all : (frame : List ℕ) (port : ℕ) → IsFrame frame → InPart part (description_of told frame port)
+  pub only : AreDescriptions told part
 
 -- ---- what a search in it finds
 
@@ -61,7 +71,7 @@ HaveConditions lacks rivals = map (λ (q : Rival). q.fields.now) rivals ≡ map 
 
 -- in so many steps: a packet of it; or it has none; or none that a switch receives; or the search was not done
 abbrev pub FindsInPart : Part → ℕ → Found → Type 0
-FindsInPart part steps (found.Free p) = IsReceived p × InPart part (fields_in p)
+FindsInPart part steps (found.Free p) = IsReceived p × IsShortFrame p.frame.items × InPart part (fields_in p)
 FindsInPart part steps (found.Taken names) = IsEmptyPart part
 FindsInPart part steps (found.Unreceived r) = IsUnreceivedPart part r
 FindsInPart part steps found.Undecided = (rivals : List Rival) × HaveConditions part.lacks.items rivals × IsUndecided part.regions.items rivals steps

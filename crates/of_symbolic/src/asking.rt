@@ -1,13 +1,15 @@
 //! What one field of a match asks of the frame that came in.
 ghost use Rattle.std.specs.Prelude.{◌≡◌, Some, slice_get};
+ghost use Rattle.std.specs.List.{list_any};
 ghost use Rattle.of_layers.specs.declared.field.Field.TheVariants.{VlanVid};
 ghost use Rattle.of_oxm.specs.Relations.{agrees, bits_looked_at};
 ghost use Rattle.of_symbolic.specs.declared.asking.Asked.TheVariants.{Asks};
-ghost use Rattle.of_symbolic.specs.Asking.{asked_of_frame, by_tag as by_tag_so, field_asked as field_asks, own_pcp as own_pcp_asks, own_vid as own_vid_asks, pcp_asked as pcp_asks, pushed_pcp as pushed_pcp_asks, pushed_vid as pushed_vid_asks, tagged_vid as tagged_vid_asks, vid_asked as vid_asks};
+ghost use Rattle.of_symbolic.specs.Asking.{asked_of_frame, asked_of_tag, asks_tag as asks_for_tag, asks_vid as asks_for_vid, by_tag as by_tag_so, field_asked as field_asks, inner_field as inner_field_of, own_pcp as own_pcp_asks, own_vid as own_vid_asks, pcp_asked as pcp_asks, pushed_pcp as pushed_pcp_asks, pushed_vid as pushed_vid_asks, tagged_vid as tagged_vid_asks, vid_asked as vid_asks};
+ghost use Rattle.of_symbolic.specs.Tags.{is_inner as is_inner_tag};
 
 use crate::overlay::{Overlay, PushedTag, ReceivedTag, TagNumber, first_tag};
 use of_headers::Field;
-use of_oxm::MatchField;
+use of_oxm::{Match, MatchField};
 
 // The bit of VLAN_VID that says that there is a tag, OFPVID_PRESENT (OpenFlow 1.3.5, 7.2.3.7).
 const PRESENT: u128 = 0x1000;
@@ -133,8 +135,8 @@ fn vid_asked(pushed: Option<PushedTag>, own: Option<ReceivedTag>, e: &MatchField
     }
 }
 
-fn pushed_pcp(pcp: TagNumber, e: &MatchField) -> Asked
-    ensures { result ≡ pushed_pcp_asks pcp e.now }
+fn pushed_pcp(tagged: bool, pcp: TagNumber, e: &MatchField) -> Asked
+    ensures { result ≡ pushed_pcp_asks tagged pcp e.now }
 {
     match pcp {
         TagNumber::Value(pcp) => {
@@ -142,8 +144,9 @@ fn pushed_pcp(pcp: TagNumber, e: &MatchField) -> Asked
             by_tag(agrees, agrees)
         }
         TagNumber::IfTagged(pcp) => { by_tag(agrees_with(e, u128::from(pcp)), agrees_with(e, 0)) }
-        TagNumber::Received if e.value != 0 => Asked::Asks(*e),
-        TagNumber::Received | TagNumber::Unknown => Asked::Open,
+        TagNumber::Received if e.value == 0 && !tagged => Asked::Open,
+        TagNumber::Received => Asked::Asks(*e),
+        TagNumber::Unknown => Asked::Open,
     }
 }
 
@@ -156,26 +159,99 @@ fn own_pcp(pcp: Option<u16>, e: &MatchField) -> Asked
     }
 }
 
-fn pcp_asked(pushed: Option<PushedTag>, own: Option<ReceivedTag>, e: &MatchField) -> Asked
-    ensures { result ≡ pcp_asks pushed own e.now }
+fn pcp_asked(
+    tagged: bool,
+    pushed: Option<PushedTag>,
+    own: Option<ReceivedTag>,
+    e: &MatchField,
+) -> Asked
+    ensures { result ≡ pcp_asks tagged pushed own e.now }
 {
     match (pushed, own) {
-        (Some(tag), _) => pushed_pcp(tag.pcp, e),
+        (Some(tag), _) => pushed_pcp(tagged, tag.pcp, e),
         (None, Some(tag)) => own_pcp(tag.pcp, e),
         (None, None) => Asked::Open,
     }
 }
 
-/// What a field of a match on the packet, with this metadata, asks of the frame that came in.
-pub fn ask(overlay: &Overlay, metadata: u64, e: &MatchField) -> Asked
-    ensures { result ≡ asked_of_frame overlay.now metadata e.now }
+fn is_inner(own: Option<ReceivedTag>) -> bool
+    ensures { result ≡ is_inner_tag own }
+{
+    match own {
+        None => false,
+        Some(tag) => tag.inner,
+    }
+}
+
+// A condition on a tag, as one on METADATA, which tells the inner tag: VLAN_VID in the low 13 bits, and the PCP above.
+fn inner_field(e: &MatchField) -> MatchField
+    ensures { result ≡ inner_field_of e.now.field e.now }
+{
+    let bits = bits_of_mask(e);
+    match e.field {
+        Field::VlanPcp => MatchField {
+            field: Field::Metadata,
+            value: PRESENT + 2 * PRESENT * (e.value % 8),
+            mask: Some(PRESENT + 2 * PRESENT * (bits % 8)),
+        },
+        _ => MatchField {
+            field: Field::Metadata,
+            value: e.value,
+            mask: Some(bits),
+        },
+    }
+}
+
+// What is asked of the outermost tag, or of the inner one.
+fn of_tag(inner: bool, asked: Asked) -> Asked
+    ensures { result ≡ asked_of_tag inner asked }
+{
+    match asked {
+        Asked::Asks(e) if inner => Asked::Asks(inner_field(&e)),
+        _ => asked,
+    }
+}
+
+// Whether it asks for a VID with some bit that is not 0.
+fn asks_vid(e: &MatchField) -> bool
+    ensures { result ≡ asks_for_vid e.now }
+{
+    matches!(e.field, Field::VlanVid) && e.value % PRESENT != 0
+}
+
+fn any_asks_vid(fields: &[MatchField]) -> bool
+    ensures { result ≡ list_any asks_for_vid fields.now }
+{
+    fields.iter().any(asks_vid)
+}
+
+/// Whether only frames with a tag of their own can match: the outermost tag was pushed with the VID of that tag (5.12.1), and the match asks for
+/// a VID with some bit that is not 0.
+pub fn asks_tag(pushed: Option<PushedTag>, m: &Match) -> bool
+    ensures { result ≡ asks_for_tag pushed m.now }
+{
+    match pushed {
+        Some(tag) => matches!(tag.vid, TagNumber::Received) && any_asks_vid(m.fields()),
+        None => false,
+    }
+}
+
+/// What a field of a match on the packet, with this metadata, asks of the frame that came in. `tagged`: the match asks for a tag of that frame.
+pub fn ask(overlay: &Overlay, metadata: u64, tagged: bool, e: &MatchField) -> Asked
+    ensures { result ≡ asked_of_frame overlay.now metadata tagged e.now }
 {
     match e.field {
         Field::InPort => Asked::Asks(*e),
         Field::Metadata if agrees_with(e, u128::from(metadata)) => Asked::Nothing,
         Field::Metadata => Asked::Never,
-        Field::VlanVid => vid_asked(first_tag(&overlay.pushed), overlay.own, e),
-        Field::VlanPcp => pcp_asked(first_tag(&overlay.pushed), overlay.own, e),
+        Field::VlanVid => of_tag(
+            is_inner(overlay.own),
+            vid_asked(first_tag(&overlay.pushed), overlay.own, e),
+        ),
+        Field::VlanPcp => of_tag(
+            is_inner(overlay.own),
+            pcp_asked(tagged, first_tag(&overlay.pushed), overlay.own, e),
+        ),
         field => field_asked(overlay.set.get(field), e),
     }
 }

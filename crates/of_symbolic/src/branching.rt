@@ -204,7 +204,7 @@ pub fn branches(
 ) -> Result<Option<Vec<Branch>>, AllocError>
     requires { AreListsOfConditions part.now.lacks.items }
     ensures some { IfOk result (λ found. IfSome found (λ made. (l : List Action) → IsOverlay overlay.now l → AreRewriting l →
-        AreBranches (flows_listed entries.now) l metadata part.now made.items)) }
+        AreBranches overlay.now.inner (flows_listed entries.now) l metadata part.now made.items)) }
     ensures conditions { IfOk result (λ found. IfSome found (λ made. (b : TheBranch) → Contains made.items b → AreListsOfConditions b.part.lacks.items)) }
     ensures none { IfOk result (λ found. IfNone found (AsksUnknown overlay.now (flows_listed entries.now))) }
 {

@@ -5,7 +5,7 @@ ghost use Rattle.of_headers.specs.FieldMap.{value as value_in};
 ghost use Rattle.of_actions.specs.declared.action.Action.{Action as TheAction};
 ghost use Rattle.of_actions.specs.declared.action.Action.TheVariants.{SetField};
 ghost use Rattle.of_symbolic.specs.Overlays.{IsOverlay, tags_in, value_by};
-ghost use Rattle.of_symbolic.specs.Tags.{copied as as_copied, new_tag as tag_above, pushed_set, received_set, tags_popped, tags_set};
+ghost use Rattle.of_symbolic.specs.Tags.{copied as as_copied, new_tag as tag_above, pushed_set, received_set, tag_below, tags_popped, tags_set};
 
 use of_actions::Action;
 use of_headers::{Field, FieldKey};
@@ -16,9 +16,9 @@ use std::alloc::{AllocError, Global};
 pub enum TagNumber {
     /// This number.
     Value(u16),
-    /// That of the outermost tag of the frame that came in, or 0 if that frame has no tag.
+    /// That of the tag of the frame that came in, or 0 if that frame has no such tag.
     Received,
-    /// This number if the frame that came in has a tag, else 0.
+    /// This number if the frame that came in has such a tag, else 0.
     IfTagged(u16),
     /// Nothing is known of it.
     Unknown,
@@ -31,11 +31,13 @@ pub struct PushedTag {
     pub pcp: TagNumber,
 }
 
-/// What the outermost tag of the frame that came in was set to, if there is one. None is as it was received.
+/// What a tag of the frame that came in was set to, if there is one. None is as it was received.
 #[derive(Clone, Copy, PartialEq, Eq)]
 pub struct ReceivedTag {
     pub vid: Option<u16>,
     pub pcp: Option<u16>,
+    /// Whether it is the inner tag, below the outermost one.
+    pub inner: bool,
 }
 
 /// What is known of a packet that actions rewrote, in terms of the frame that came in (OpenFlow 1.3.5, 5.12).
@@ -45,8 +47,11 @@ pub struct Overlay {
     pub set: FieldKey,
     /// The tags that were pushed, the outermost first.
     pub pushed: Vec<PushedTag>,
-    /// The outermost tag of the frame that came in. None after a POP_VLAN that met no pushed tag: nothing is known of the tags below it.
+    /// The tag of the frame that came in below these: its outermost one, and after a POP_VLAN that met no pushed tag its inner one. None: nothing
+    /// is known of it.
     pub own: Option<ReceivedTag>,
+    /// Whether the inner tag is told. Else nothing is known of it.
+    pub inner: bool,
 }
 
 // A number of the frame's own tag, as a tag that is pushed over it copies it.
@@ -73,6 +78,20 @@ fn new_tag(pushed: Option<PushedTag>, own: Option<ReceivedTag>) -> PushedTag
             vid: TagNumber::Unknown,
             pcp: TagNumber::Unknown,
         },
+    }
+}
+
+// What is known of the tag below that of the frame.
+fn below(told: bool, own: Option<ReceivedTag>) -> Option<ReceivedTag>
+    ensures { result ≡ tag_below told own }
+{
+    match own {
+        Some(tag) if told && !tag.inner => Some(ReceivedTag {
+            vid: None,
+            pcp: None,
+            inner: true,
+        }),
+        _ => None,
     }
 }
 
@@ -111,10 +130,12 @@ impl ReceivedTag {
             Field::VlanVid => ReceivedTag {
                 vid: Some((value % 4096) as u16),
                 pcp: self.pcp,
+                inner: self.inner,
             },
             Field::VlanPcp => ReceivedTag {
                 vid: self.vid,
                 pcp: Some((value % 8) as u16),
+                inner: self.inner,
             },
             _ => self,
         }
@@ -122,9 +143,10 @@ impl ReceivedTag {
 }
 
 impl Overlay {
-    /// That of a packet before any action. It takes no memory.
-    pub fn new(alloc: Global) -> Overlay
-        ensures { IsOverlay result [] }
+    /// That of a packet before any action, in terms of the frame that came in, with its inner tag or without. It takes no memory.
+    pub fn new(alloc: Global, inner: bool) -> Overlay
+        ensures is { IsOverlay result [] }
+        ensures inner { result.inner ≡ inner }
     {
         Overlay {
             set: FieldKey::empty(),
@@ -132,7 +154,9 @@ impl Overlay {
             own: Some(ReceivedTag {
                 vid: None,
                 pcp: None,
+                inner: false,
             }),
+            inner,
         }
     }
 
@@ -140,6 +164,7 @@ impl Overlay {
     pub fn after(&mut self, action: &Action) -> Result<(), AllocError>
         ensures after { OnOk result ((l : List TheAction) → IsOverlay self.old l → IsOverlay self.new (l ++ action.now ∷ [])) }
         ensures err { OnErr result ((l : List TheAction) → IsOverlay self.old l → IsOverlay self.new l) }
+        ensures inner { self.new.inner ≡ self.old.inner }
     {
         match *action {
             Action::PushVlan(_) => self.push_tag()?,
@@ -154,7 +179,7 @@ impl Overlay {
     fn push_tag(&mut self) -> Result<(), AllocError>
         ensures ok { OnOk result (self.new.pushed.items ≡ tag_above (slice_get self.old.pushed.items 0) self.old.own ∷ self.old.pushed.items) }
         ensures err { OnErr result (self.new.pushed.items ≡ self.old.pushed.items) }
-        ensures same { (self.new.set ≡ self.old.set) × (self.new.own ≡ self.old.own) }
+        ensures same { (self.new.set ≡ self.old.set) × (self.new.own ≡ self.old.own) × (self.new.inner ≡ self.old.inner) }
     {
         let tag = new_tag(first_tag(&self.pushed), self.own);
         self.pushed.insert(0, tag)?;
@@ -163,11 +188,11 @@ impl Overlay {
 
     // POP_VLAN.
     fn pop_tag(&mut self)
-        ensures tags { tags_in self.new ≡ tags_popped self.old.pushed.items self.old.own }
-        ensures same { self.new.set ≡ self.old.set }
+        ensures tags { tags_in self.new ≡ tags_popped self.old.inner self.old.pushed.items self.old.own }
+        ensures same { (self.new.set ≡ self.old.set) × (self.new.inner ≡ self.old.inner) }
     {
         if self.pushed.is_empty() {
-            self.own = None;
+            self.own = below(self.inner, self.own);
         } else {
             self.pushed.remove(0);
         }
@@ -177,6 +202,7 @@ impl Overlay {
     fn set_field(&mut self, field: Field, value: u128)
         ensures tags { tags_in self.new ≡ tags_set field value self.old.pushed.items self.old.own }
         ensures set { (f : TheField) → value_in self.new.set f ≡ value_by (SetField field value) f (value_in self.old.set f) }
+        ensures inner { self.new.inner ≡ self.old.inner }
     {
         self.set.put(field, value & field.row().ones);
         match first_tag(&self.pushed) {

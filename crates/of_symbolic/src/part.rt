@@ -6,6 +6,7 @@ ghost use Rattle.of_regions.specs.declared.meeting.Meeting.TheVariants.{Apart, W
 ghost use Rattle.of_regions.specs.Conditions.{AreConditions};
 ghost use Rattle.of_regions.specs.Meeting.{Meets};
 ghost use Rattle.of_regions.specs.Searching.{InSome};
+ghost use Rattle.of_symbolic.specs.InnerTags.{inner_tag_asked};
 ghost use Rattle.of_symbolic.specs.Parts.{AreLeftRegions, AreListsOfConditions, FindsInPart, HaveConditions, IsListed, IsMatchedPart, IsUnmatchedPart, IsWholePart};
 
 use of_headers::Field;
@@ -96,20 +97,48 @@ fn copied_conditions(fields: &Vec<MatchField>) -> Result<Vec<MatchField>, AllocE
     Ok(fields.clone()?)
 }
 
+// What the description of a frame with an inner tag has: an outermost tag, and the number of a tag.
+fn inner_tagged() -> [MatchField; 3]
+    ensures { result ≡ inner_tag_asked }
+{
+    [
+        MatchField {
+            field: Field::VlanVid,
+            value: 0x1000,
+            mask: Some(0x1000),
+        },
+        MatchField {
+            field: Field::Metadata,
+            value: 0x1000,
+            mask: Some(0x1000),
+        },
+        MatchField {
+            field: Field::Metadata,
+            value: 0,
+            mask: Some(0xffff_ffff_ffff_0000),
+        },
+    ]
+}
+
 impl Part {
-    /// All frames, by any port. Their metadata is 0 (OpenFlow 1.3.5, 5.1).
-    pub fn whole(alloc: Global) -> Result<Part, AllocError>
-        ensures whole { IfOk result IsWholePart }
+    /// The descriptions of all frames, by any port. METADATA tells their inner tags, or is 0.
+    pub fn whole(alloc: Global, inner: bool) -> Result<Part, AllocError>
+        ensures whole { IfOk result (IsWholePart inner) }
         ensures conditions { IfOk result (λ part. AreListsOfConditions part.lacks.items) }
     {
+        let start = regions_of(alloc, &Match::of_all(alloc))?;
         let no_metadata = MatchField {
             field: Field::Metadata,
             value: 0,
             mask: None,
         };
-        let regions = regions_of(alloc, &Match::of_all(alloc))?;
+        let mut regions = narrowed(alloc, &start, &[no_metadata])?;
+        if inner {
+            let below = narrowed(alloc, &start, &inner_tagged())?;
+            regions.extend_from_slice(&below)?;
+        }
         Ok(Part {
-            regions: narrowed(alloc, &regions, &[no_metadata])?,
+            regions,
             lacks: Vec::new(alloc),
         })
     }

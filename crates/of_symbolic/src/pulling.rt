@@ -5,8 +5,8 @@ ghost use Rattle.of_symbolic.specs.declared.pulling.Pulled.TheVariants.{Unknown}
 ghost use Rattle.of_symbolic.specs.Overlays.{IsOverlay};
 ghost use Rattle.of_symbolic.specs.Pulling.{AsksConditions, IsPulled, is_unknown_in};
 
-use crate::asking::{Asked, ask};
-use crate::overlay::Overlay;
+use crate::asking::{Asked, ask, asks_tag};
+use crate::overlay::{Overlay, first_tag};
 use of_oxm::{Match, MatchField};
 use std::alloc::{AllocError, Global};
 
@@ -24,7 +24,7 @@ pub enum Pulled {
 
 /// What a match on a packet, with this metadata, asks of the frame that came in (OpenFlow 1.3.5, 5.3).
 ///
-/// The overlay is that of the packet. `is`: the result is true of each frame that came in. `kept`: the fields that it asks are in normal form, or
+/// The overlay is that of the packet. `is`: the result is true of the description of each frame that came in. `kept`: the fields that it asks are in normal form, or
 /// have a mask of zeros. `unknown`: only a VLAN_VID or VLAN_PCP that is not known makes the result unknown.
 pub fn pull(
     alloc: Global,
@@ -32,15 +32,16 @@ pub fn pull(
     metadata: u64,
     m: &Match,
 ) -> Result<Pulled, AllocError>
-    ensures is { IfOk result (λ r. (l : List Action) → IsOverlay overlay.now l → IsPulled l metadata m.now r) }
+    ensures is { IfOk result (λ r. (l : List Action) → IsOverlay overlay.now l → IsPulled overlay.now.inner l metadata m.now r) }
     ensures conditions { IfOk result AsksConditions }
     ensures unknown { IfOk result (λ r. r ≡ Unknown → is_unknown_in overlay.now m.now ≡ true) }
 {
     m.known();
+    let tagged = asks_tag(first_tag(&overlay.pushed), m);
     let mut fields = Vec::new(alloc);
     let mut open = false;
     for e in m.fields() {
-        match ask(overlay, metadata, e) {
+        match ask(overlay, metadata, tagged, e) {
             Asked::Never => return Ok(Pulled::Never),
             Asked::Open => open = true,
             Asked::Nothing => {}

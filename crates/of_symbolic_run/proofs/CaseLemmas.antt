@@ -1,5 +1,5 @@
 -- The cases of a lookup.
-use Rattle.std.proofs.Common.{◌≡◌, ◌<◌, ◌≤◌, ◌+◌, ℕ, zero, suc, true, false, Bor, List, [], ◌∷◌, ◌++◌, length, get_or, set, drop, Option, Some, None, refl, sym, ap, subst, ◌∙◌, arith, add-one, append_assoc, drop-cons}
+use Rattle.std.proofs.Common.{Bool, ◌≡◌, ◌<◌, ◌≤◌, ◌+◌, ℕ, zero, suc, true, false, Bor, List, [], ◌∷◌, ◌++◌, length, get_or, set, drop, Option, Some, None, refl, sym, ap, subst, ◌∙◌, arith, add-one, append_assoc, drop-cons}
 use Rattle.std.specs.Prelude.{IfSome, map, slice_get}
 use Rattle.std.specs.Global.{Vec}
 use Rattle.std.specs.List.{Contains}
@@ -25,7 +25,8 @@ use Rattle.of_symbolic.specs.declared.branching.Branch.{Branch}
 use Rattle.of_symbolic.specs.declared.overlay.Overlay.{Overlay}
 use Rattle.of_symbolic.specs.Overlays.{IsOverlay}
 use Rattle.of_symbolic.specs.Branches.{AreBranches, AsksUnknown, HaveDistinctEntries, flows_listed, rewritten_fields}
-use Rattle.of_symbolic.specs.Parts.{InPart, received_fields}
+use Rattle.of_symbolic.specs.InnerTags.{description_of}
+use Rattle.of_symbolic.specs.Parts.{InPart}
 use Rattle.of_symbolic_run.specs.declared.advance.Advance.TheVariants as advances
 use Rattle.of_symbolic_run.specs.declared.dividing.Case.{Case}
 use Rattle.of_symbolic_run.specs.declared.frame_set.FrameSet.{FrameSet}
@@ -174,10 +175,13 @@ names_entry table flows (Some a) (Some b) h k same =
 -- ---- the case of a branch
 
 pub case_is : (table : ℕ) (flows : List FlowEntry) (frames : FrameSet) (state : SymbolicState) (b : Branch) (c : Case) (found : Option (ℕ × Flow)) → ((fields : Field → Option ℕ) → InPart b.part fields → InPart frames.part fields) →
-    c.frames.part ≡ b.part → c.frames.ttl_from ≡ frames.ttl_from → c.frames.ttl_to ≡ frames.ttl_to → found ≡ flow_named flows b.entry → IsEntered table found state c.state → IsCaseOf table flows frames state b c
-case_is table flows frames state b c found inside part least most is entered = record {
-  within = λ frame port h. (let own : InPart b.part (received_fields frame port) = rw (sym part) h.part in (record { part = inside (received_fields frame port) own; ttl = rw (sym least, sym most) h.ttl }, own));
-  all = λ frame port h own. record { part = rw part own; ttl = rw (least, most) h.ttl };
+    c.frames.part ≡ b.part → c.frames.inner ≡ frames.inner → c.frames.ttl_from ≡ frames.ttl_from → c.frames.ttl_to ≡ frames.ttl_to → found ≡ flow_named flows b.entry → IsEntered table found state c.state → IsCaseOf table flows frames state b c
+case_is table flows frames state b c found inside part told least most is entered = record {
+  within = λ frame port h. (
+      let own : InPart b.part (description_of frames.inner frame port) = rw (sym part, sym told) h.part in
+      (record { part = inside (description_of frames.inner frame port) own; ttl = rw (sym least, sym most) h.ttl }, own)
+      );
+  all = λ frame port h own. record { part = rw (part, told) own; ttl = rw (least, most) h.ttl };
   entered = subst (λ (o : Option (ℕ × Flow)). IsEntered table o state c.state) is entered;
 }
 
@@ -235,7 +239,7 @@ module _ (table : ℕ) (flows : List FlowEntry) (frames : FrameSet) (state : Sym
   found_named w is (Some n) = ap (flow_with_number n) (is.flow n)
 
   pub cases_are : (w : TheWorld) (l : List Action) (metadata : ℕ) (branches : List Branch) (cases : List Case) → answer_to_tasks state.tasks.items ≡ advances.Lookup table → IsTableOf w table flows → ((frame : List ℕ) (port : ℕ) → first_key state.tasks.items frame port ≡ rewritten_fields l metadata frame port) →
-      AreBranches flows l metadata frames.part branches → AreCasesOf table flows frames state branches cases → AreCases w frames state cases
+      AreBranches frames.inner flows l metadata frames.part branches → AreCasesOf table flows frames state branches cases → AreCases w frames state cases
   cases_are w l metadata branches cases answer is key are made = record {
     within = λ c there frame port h. (let o = of_case branches cases made there.0 c there.1 there.2 in (o.own.within frame port h).0);
     all = λ frame port is h.
@@ -270,9 +274,9 @@ pub key_is : (ts : List SymbolicTask) (x : SymbolicTask) (table : ℕ) → answe
 key_is [] x table answer is frame port = absurd cc
 key_is (t ∷ ts) x table answer is frame port = ap (λ (y : SymbolicTask). rewritten_fields y.packet.rewrites y.packet.metadata frame port) (sym (first_item (t ∷ ts) x t ts is refl))
 
-pub unknown_first : (ts : List SymbolicTask) (x : SymbolicTask) (table : ℕ) (o : Overlay) (flows : List FlowEntry) → answer_to_tasks ts ≡ advances.Lookup table → x ≡ get_or ts 0 x → IsOverlay o x.packet.rewrites → AsksUnknown o flows → AsksUnknownOf ts flows
-unknown_first [] x table o flows answer is over unknown = absurd cc
-unknown_first (t ∷ ts) x table o flows answer is over unknown = (o, subst (λ (y : SymbolicTask). IsOverlay o y.packet.rewrites) (first_item (t ∷ ts) x t ts is refl) over, unknown)
+pub unknown_first : (told : Bool) (ts : List SymbolicTask) (x : SymbolicTask) (table : ℕ) (o : Overlay) (flows : List FlowEntry) → answer_to_tasks ts ≡ advances.Lookup table → x ≡ get_or ts 0 x → o.inner ≡ told → IsOverlay o x.packet.rewrites → AsksUnknown o flows → AsksUnknownOf told ts flows
+unknown_first told [] x table o flows answer is tells over unknown = absurd cc
+unknown_first told (t ∷ ts) x table o flows answer is tells over unknown = (o, tells, subst (λ (y : SymbolicTask). IsOverlay o y.packet.rewrites) (first_item (t ∷ ts) x t ts is refl) over, unknown)
 
 -- what branches are
 pub own_branches : (P : Vec Branch → Type 0) (found : Option (Vec Branch)) (made : Vec Branch) → found ≡ Some made → IfSome found P → P made

@@ -1,5 +1,5 @@
 -- Sets of frames.
-use Rattle.std.proofs.Common.{◌≡◌, ◌≤◌, ◌<◌, ◌%◌, ◌^◌, ℕ, List, length, Option, Some, None, refl, sym, ap, subst, ◌∙◌, arith, inl, inr}
+use Rattle.std.proofs.Common.{◌≡◌, ◌≤◌, ◌<◌, ◌%◌, ◌^◌, ℕ, Bool, List, length, Option, Some, None, refl, sym, ap, subst, ◌∙◌, arith, inl, inr}
 use Rattle.std.specs.Prelude.{IfSome}
 use Rattle.std.proofs.Math.Nat.{mod-eq_of_lt}
 use Rattle.std.proofs.Math.Path.{fun_ext}
@@ -21,11 +21,11 @@ use Rattle.of_regions.specs.declared.searching.Found.{Found}
 use Rattle.of_regions.specs.declared.searching.Found.TheVariants as found
 use Rattle.of_regions.specs.Witness.{IsIngressPort}
 use Rattle.of_symbolic.specs.declared.part.Part.{Part}
-use Rattle.of_symbolic.specs.Parts.{FindsInPart, InPart, IsMatchedPart, IsUnmatchedPart, IsWholePart, received_fields}
+use Rattle.of_symbolic.specs.InnerTags.{description_of, inner_told}
+use Rattle.of_symbolic.specs.Parts.{AreDescriptions, FindsInPart, InPart, IsMatchedPart, IsUnmatchedPart, IsWholePart}
 use Rattle.of_symbolic.proofs.PartLemmas.{some_tagging}
 use Rattle.of_symbolic_run.specs.declared.frame_set.FrameSet.{FrameSet}
 use Rattle.of_symbolic_run.specs.declared.finding.FrameFound.TheVariants.{Empty, Undecided}
-use Rattle.of_symbolic_run.specs.FrameParts.{HasNoMetadata}
 use Rattle.of_symbolic_run.specs.FrameSets.{AreFramesMatching, AreFramesWithout, FindsFrame, HasTtlIn, InFrames}
 
 -- ---- the TTL
@@ -52,9 +52,16 @@ seen_alike v value port metadata VlanVid = refl
 seen_alike v value port metadata VlanPcp = refl
 seen_alike v value port metadata f = refl
 
-pub ttl_fields : (frame : List ℕ) (value port : ℕ) → IsFrame frame → IsFrame (frame_ttl value frame) → received_fields (frame_ttl value frame) port ≡ received_fields frame port
-ttl_fields frame value port h after = fun_ext (λ f. seen (frame_ttl value frame) (view_ttl value (view_of frame)) port 0 f after (view_follows (SetTtl value) frame (view_of frame) h tt tt (own_view frame))
-    ∙ seen_alike (view_of frame) value port 0 f ∙ sym (seen frame (view_of frame) port 0 f h (own_view frame)))
+pub ttl_fields : (told : Bool) (frame : List ℕ) (value port : ℕ) → IsFrame frame → IsFrame (frame_ttl value frame) → description_of told (frame_ttl value frame) port ≡ description_of told frame port
+ttl_fields told frame value port h after =
+    ap (λ (n : ℕ). field_map (layers_of (frame_ttl value frame)) port n) (ap (inner_told told) (sym after_view.tags)) ∙ fun_ext (λ f. seen (frame_ttl value frame) (view_ttl value (view_of frame)) port number f after after_view
+    ∙ seen_alike (view_of frame) value port number f ∙ sym (seen frame (view_of frame) port number f h (own_view frame)))
+  where
+    number : ℕ
+    number = inner_told told (view_of frame).tags
+
+    after_view : IsView (view_ttl value (view_of frame)) (frame_ttl value frame)
+    after_view = view_follows (SetTtl value) frame (view_of frame) h tt tt (own_view frame)
 
 pub ttl_fits : (frame : List ℕ) (t low high : ℕ) → IsFrame frame → ttl_of (layers_of frame) ≡ Some t → low ≤ high → low < 2 ^ 8 → HasTtlIn low high (frame_ttl low frame)
 ttl_fits frame t low high h is le fits =
@@ -68,38 +75,43 @@ ttl_is_frame frame value h = still_frame (SetTtl value) frame h tt
 
 -- ---- sets
 
-pub in_whole : (s : FrameSet) → IsWholePart s.part → s.ttl_from ≡ 0 → s.ttl_to ≡ 255 → (frame : List ℕ) (port : ℕ) → IsFrame frame → InFrames s frame port
+pub in_whole : (s : FrameSet) → IsWholePart s.inner s.part → s.ttl_from ≡ 0 → s.ttl_to ≡ 255 → (frame : List ℕ) (port : ℕ) → IsFrame frame → InFrames s frame port
 in_whole s whole from to frame port h = record { part = whole.all frame port h; ttl = rw (from, to) (any_ttl frame h) }
 
-pub without_is : (m : List MatchField) (old new : FrameSet) → IsUnmatchedPart m old.part new.part → new.ttl_from ≡ old.ttl_from → new.ttl_to ≡ old.ttl_to → AreFramesWithout m old new
-without_is m old new less from to = record {
-  within = λ frame port h. (let w = less.within (received_fields frame port) h.part in (record { part = w.0; ttl = rw (sym from, sym to) h.ttl }, w.1));
-  all = λ frame port h no. record { part = less.all (received_fields frame port) h.part no; ttl = rw (from, to) h.ttl };
+in_other : (part : Part) (told other : Bool) (frame : List ℕ) (port : ℕ) → told ≡ other → InPart part (description_of told frame port) → InPart part (description_of other frame port)
+in_other part told other frame port e h = subst (λ (b : Bool). InPart part (description_of b frame port)) e h
+
+pub without_is : (m : List MatchField) (old new : FrameSet) → IsUnmatchedPart m old.part new.part → new.inner ≡ old.inner → new.ttl_from ≡ old.ttl_from → new.ttl_to ≡ old.ttl_to → AreFramesWithout m old new
+without_is m old new less inner from to = record {
+  inner = inner;
+  within = λ frame port h. (let w = less.within (description_of old.inner frame port) (in_other new.part new.inner old.inner frame port inner h.part) in (record { part = w.0; ttl = rw (sym from, sym to) h.ttl }, w.1));
+  all = λ frame port h no. record { part = in_other new.part old.inner new.inner frame port (sym inner) (less.all (description_of old.inner frame port) h.part no); ttl = rw (from, to) h.ttl };
 }
 
-pub matching_is : (m : List MatchField) (old new : FrameSet) → IsMatchedPart m old.part new.part → new.ttl_from ≡ old.ttl_from → new.ttl_to ≡ old.ttl_to → AreFramesMatching m old new
-matching_is m old new less from to = record {
+pub matching_is : (m : List MatchField) (old new : FrameSet) → IsMatchedPart m old.part new.part → new.inner ≡ old.inner → new.ttl_from ≡ old.ttl_from → new.ttl_to ≡ old.ttl_to → AreFramesMatching m old new
+matching_is m old new less inner from to = record {
+  inner = inner;
   least = from;
   most = to;
-  within = λ frame port h. (let w = less.within (received_fields frame port) h.part in (record { part = w.0; ttl = rw (sym from, sym to) h.ttl }, w.1));
-  all = λ frame port is h yes_it_is. record { part = less.all (received_fields frame port) (some_tagging frame port 0 is) h.part yes_it_is; ttl = rw (from, to) h.ttl };
+  within = λ frame port h. (let w = less.within (description_of old.inner frame port) (in_other new.part new.inner old.inner frame port inner h.part) in (record { part = w.0; ttl = rw (sym from, sym to) h.ttl }, w.1));
+  all = λ frame port is h yes_it_is. record {
+    part = in_other new.part old.inner new.inner frame port (sym inner) (less.all (description_of old.inner frame port) (some_tagging frame port (inner_told old.inner (view_of frame).tags) is) h.part yes_it_is);
+    ttl = rw (from, to) h.ttl;
+  };
 }
 
--- a part of a part without metadata
-pub no_metadata_within : (old new : Part) → ((fields : Field → Option ℕ) → InPart new fields → InPart old fields) → HasNoMetadata old → HasNoMetadata new
-no_metadata_within old new within none frame port metadata fits h = none frame port metadata fits (within (field_map (layers_of frame) port metadata) h)
+-- a part of descriptions
+pub descriptions_within : (told : Bool) (old new : Part) → ((fields : Field → Option ℕ) → InPart new fields → InPart old fields) → AreDescriptions told old → AreDescriptions told new
+descriptions_within told old new within are frame port metadata is fits h = are frame port metadata is fits (within (field_map (layers_of frame) port metadata) h)
 
 -- ---- a packet of a part
 
-pub packet_fields : (part : Part) (frame : List ℕ) (port metadata : ℕ) → HasNoMetadata part → metadata < 2 ^ 64 → InPart part (field_map (layers_of frame) port metadata) → InPart part (received_fields frame port)
-packet_fields part frame port metadata none fits h = subst (λ (m : ℕ). InPart part (field_map (layers_of frame) port m)) (none frame port metadata fits h) h
-
--- a packet of a part, with its TTL in the range
-pub made_frame : (s : FrameSet) (frame : List ℕ) (port metadata : ℕ) (fitted made : List ℕ) → metadata < 2 ^ 64 → InPart s.part (field_map (layers_of frame) port metadata) → IsFrame fitted → length fitted ≡ length frame → length frame ≤ 9216 → IsIngressPort port
-    → HasTtlIn s.ttl_from s.ttl_to fitted → received_fields fitted port ≡ received_fields frame port → made ≡ fitted → IsFrame made × (length made ≤ 9216) × InFrames s made port × IsIngressPort port
-made_frame s frame port metadata fitted made fits h is long short ingress in_range same copied =
-    let within : InPart s.part (received_fields fitted port) = subst (InPart s.part) (sym same) (packet_fields s.part frame port metadata s.received fits h) in
-    rw copied (is, omega (arith, long, short), record { part = within; ttl = in_range }, ingress)
+-- a packet of the part whose frame, rewritten, is described by it
+pub made_frame : (s : FrameSet) (port : ℕ) (packet : Field → Option ℕ) (made fitted copy : List ℕ) → InPart s.part packet → description_of s.inner made port ≡ packet → length made ≤ 9216 → IsFrame fitted → length fitted ≡ length made → IsIngressPort port
+    → HasTtlIn s.ttl_from s.ttl_to fitted → description_of s.inner fitted port ≡ description_of s.inner made port → copy ≡ fitted → IsFrame copy × (length copy ≤ 9216) × InFrames s copy port × IsIngressPort port
+made_frame s port packet made fitted copy h is short fits long ingress in_range same copied =
+    let within : InPart s.part (description_of s.inner fitted port) = subst (InPart s.part) (sym (same ∙ is)) h in
+    rw copied (fits, omega (arith, long, short), record { part = within; ttl = in_range }, ingress)
 
 -- what a search finds in a set
 abbrev pub IsSetFound : FrameSet → ℕ → Found → Type 0
@@ -109,6 +121,6 @@ IsSetFound s steps other = FindsFrame s steps Undecided
 
 pub finds_in : (s : FrameSet) (steps : ℕ) (f : Found) → FindsInPart s.part steps f → IsSetFound s steps f
 finds_in s steps (found.Free p) h = h
-finds_in s steps (found.Taken names) h = λ frame port is i. h frame port 0 is i.part
+finds_in s steps (found.Taken names) h = λ frame port is i. h frame port (inner_told s.inner (view_of frame).tags) is i.part
 finds_in s steps (found.Unreceived r) h = inr (r, h)
 finds_in s steps found.Undecided h = inl h

@@ -5,6 +5,8 @@ pub mod CopyLemmas
 pub mod DecrementLemmas
 pub mod FirstLemmas
 pub mod FrameLemmas
+pub mod MetadataLemmas
+pub mod InnerFrameLemmas
 pub mod GroupLemmas
 pub mod GroupedLemmas
 pub mod HeaderLemmas

@@ -91,8 +91,8 @@ abbrev is_kept : ℕ → Branch → Bool
 is_kept most b = is_listed most b.entry
 
 -- no packet hits an entry that the table does not have
-pub listed_are : (es : List Entry) (most : ℕ) (l : List Action) (metadata : ℕ) (part : Part) (branches : List Branch) → most ≡ length es → AreBranches (flows_of es) l metadata part branches → AreBranches (flows_of es) l metadata part (filter (λ b. is_listed most b.entry) branches)
-listed_are es most l metadata part branches is are = record {
+pub listed_are : (told : Bool) (es : List Entry) (most : ℕ) (l : List Action) (metadata : ℕ) (part : Part) (branches : List Branch) → most ≡ length es → AreBranches told (flows_of es) l metadata part branches → AreBranches told (flows_of es) l metadata part (filter (λ b. is_listed most b.entry) branches)
+listed_are told es most l metadata part branches is are = record {
   within = λ b there. are.within b (from_kept (is_kept most) branches b there);
   wins = λ b there. are.wins b (from_kept (is_kept most) branches b there);
   once = distinct_kept (is_kept most) branches are.once;
@@ -109,8 +109,8 @@ module _ (es : List Entry) (most : ℕ) (made kept : List Branch) (is : kept ≡
   pub was_made : (b : Branch) → Contains kept b → Contains made b
   was_made b there = from_kept (is_kept most) made b (subst (λ (l : List Branch). Contains l b) is there)
 
-  pub kept_are : (l : List Action) (metadata : ℕ) (part : Part) → most ≡ length es → AreBranches (flows_of es) l metadata part made → AreBranches (flows_of es) l metadata part kept
-  kept_are l metadata part size are = subst (AreBranches (flows_of es) l metadata part) (sym is) (listed_are es most l metadata part made size are)
+  pub kept_are : (told : Bool) (l : List Action) (metadata : ℕ) (part : Part) → most ≡ length es → AreBranches told (flows_of es) l metadata part made → AreBranches told (flows_of es) l metadata part kept
+  kept_are told l metadata part size are = subst (AreBranches told (flows_of es) l metadata part) (sym is) (listed_are told es most l metadata part made size are)
 
   pub are_listed : most ≡ length es → (b : Branch) → Contains kept b → is_listed (length (flows_of es)) b.entry ≡ true
   are_listed size b there =

@@ -13,7 +13,7 @@ use Rattle.of_rewrite.specs.Frames.{IsFrame}
 use Rattle.of_ports.specs.declared.port.Port.{Port}
 use Rattle.of_ports.specs.Ports.{number_of_port, port_at}
 use Rattle.of_machine.specs.TheWorld.{TheWorld}
-use Rattle.of_symbolic.specs.Parts.{received_fields}
+use Rattle.of_symbolic.specs.InnerTags.{description_of}
 use Rattle.of_symbolic.proofs.PartLemmas.{first_or_next}
 use Rattle.of_symbolic_run.specs.declared.frame_set.FrameSet.{FrameSet}
 use Rattle.of_symbolic_run.specs.FrameSets.{AreFramesWithout, InFrames}
@@ -39,7 +39,7 @@ HasReceived w frames = (frame : List ℕ) (port : ℕ) → IsReceivedAt w frame 
 pub still_received : (w : TheWorld) (m : List MatchField) (old new : FrameSet) → IsAbsence w.ports m → AreFramesWithout m old new → HasReceived w old → HasReceived w new
 still_received w m old new absence less h frame port received =
     let there = port_there port w.ports received.ingress received.there in
-    less.all frame port (h frame port received) (absence.absent received.ingress there.listed received.receives (received_fields frame port) (ap (λ (n : ℕ). Some n) (sym there.number)))
+    less.all frame port (h frame port received) (absence.absent received.ingress there.listed received.receives (description_of old.inner frame port) (ap (λ (n : ℕ). Some n) (sym there.number)))
 
 pub is_received : (w : TheWorld) (frame : List ℕ) (port : ℕ) → IsFrame frame → length frame ≤ 9216 → IsReceivingPort w.ports port → IsReceivedAt w frame port
 is_received w frame port is short receives = record { frame_is = is; short = short; ingress = receives.port; there = receives.there; receives = receives.receives }
@@ -48,13 +48,13 @@ is_received w frame port is short receives = record { frame_is = is; short = sho
 
 -- none of these lists of conditions matches a frame of the set
 abbrev pub AreWithoutAll : List (Vec MatchField) → FrameSet → Type 0
-AreWithoutAll lists frames = (m : Vec MatchField) → Contains lists m → (frame : List ℕ) (port : ℕ) → InFrames frames frame port → matches_map m.items (received_fields frame port) ≡ false
+AreWithoutAll lists frames = (m : Vec MatchField) → Contains lists m → (frame : List ℕ) (port : ℕ) → InFrames frames frame port → matches_map m.items (description_of frames.inner frame port) ≡ false
 
 pub without_one_more : (lists : List (Vec MatchField)) (i : ℕ) (x : Vec MatchField) → x ≡ get_or lists i x → i < length lists → (old new : FrameSet) → AreFramesWithout x.items old new → AreWithoutAll (take i lists) old → AreWithoutAll (take (i + 1) lists) new
-without_one_more lists i x is lt old new less all m c frame port h = elim (first_or_next lists i x m is lt c) as (λ w. matches_map m.items (received_fields frame port) ≡ false) [
+without_one_more lists i x is lt old new less all m c frame port h = subst (λ (b : Bool). matches_map m.items (description_of b frame port) ≡ false) (sym less.inner) (elim (first_or_next lists i x m is lt c) as (λ w. matches_map m.items (description_of old.inner frame port) ≡ false) [
   | inl before ↦ all m before frame port (less.within frame port h).0
-  | inr same ↦ subst (λ (y : Vec MatchField). matches_map y.items (received_fields frame port) ≡ false) same (less.within frame port h).1
-]
+  | inr same ↦ subst (λ (y : Vec MatchField). matches_map y.items (description_of old.inner frame port) ≡ false) same (less.within frame port h).1
+])
 
 above_all : (n : ℕ) (ports : List Port) (q : Port) → list_all (λ p. nat_lt n p.number) ports ≡ true → Contains ports q → eqb n q.number ≡ false
 above_all n ports q all c = by_test (nat_lt n q.number) refl
@@ -85,7 +85,7 @@ port_of_number (p ∷ ports) q rising c = by_place c.0 c.1 c.2 (port_of_number p
 pub all_received : (ports : List Port) (lists : List (Vec MatchField)) (frames : FrameSet) → is_ascending number_of_port ports ≡ true → ((number : ℕ) → number < 2 ^ 32 → IsReceiverOrNamed ports lists number) → AreWithoutAll lists frames → AreReceived ports frames
 all_received ports lists frames rising each none frame port fits h = elim (each port fits) as (λ x. IsReceivingPort ports port) [
   | inl r ↦ record { port = r.port; there = subst (λ (n : ℕ). port_at ports n ≡ Some r.port) r.own (port_of_number ports r.port rising r.listed); receives = r.receives }
-  | inr named ↦ (let odd : true ≡ false = sym (named.2 (received_fields frame port) refl) ∙ none named.0 named.1 frame port h in absurd cc)
+  | inr named ↦ (let odd : true ≡ false = sym (named.2 (description_of frames.inner frame port) refl) ∙ none named.0 named.1 frame port h in absurd cc)
 ]
 
 -- fewer frames

@@ -1,5 +1,5 @@
 -- A step of one run.
-use Rattle.std.proofs.Common.{◌≡◌, ◌<◌, ◌≤◌, ℕ, List, length, refl, sym, subst, ◌⊎◌, inl, inr}
+use Rattle.std.proofs.Common.{◌≡◌, ◌<◌, ◌≤◌, ℕ, Bool, List, length, refl, sym, subst, ◌⊎◌, inl, inr}
 use Rattle.of_wire.specs.declared.limits.TheConstants.{TABLES}
 use Rattle.of_table.specs.Table.{FlowEntry}
 use Rattle.of_table.specs.Tables.{table_at}
@@ -19,14 +19,14 @@ use Rattle.of_symbolic_run.proofs.NextLemmas.{next_from, states_from}
 
 -- ---- a lookup
 
-pub no_table : (w : TheWorld) (s : SymbolicState) (table : ℕ) → answer_to_tasks s.tasks.items ≡ Lookup table → TABLES ≤ table → IsUnknownLookup w s
-no_table w s table lookup past = record { table = table; lookup = lookup; unknown = inl past }
+pub no_table : (told : Bool) (w : TheWorld) (s : SymbolicState) (table : ℕ) → answer_to_tasks s.tasks.items ≡ Lookup table → TABLES ≤ table → IsUnknownLookup told w s
+no_table told w s table lookup past = record { table = table; lookup = lookup; unknown = inl past }
 
 pub has_table : (f : Forwarding) (table : ℕ) (flows : List FlowEntry) → flows ≡ (table_at table f.tables).flows → IsTableOf (world_of f) table flows
 has_table f table flows is = subst (IsTableOf (world_of f) table) (sym is) (record { winner = λ fields. refl; flow = λ place. refl })
 
-pub asks_unknown : (f : Forwarding) (s : SymbolicState) (table : ℕ) (flows : List FlowEntry) → answer_to_tasks s.tasks.items ≡ Lookup table → flows ≡ (table_at table f.tables).flows → AsksUnknownOf s.tasks.items flows → IsUnknownLookup (world_of f) s
-asks_unknown f s table flows lookup is asks = record { table = table; lookup = lookup; unknown = inr (flows, has_table f table flows is, asks) }
+pub asks_unknown : (told : Bool) (f : Forwarding) (s : SymbolicState) (table : ℕ) (flows : List FlowEntry) → answer_to_tasks s.tasks.items ≡ Lookup table → flows ≡ (table_at table f.tables).flows → AsksUnknownOf told s.tasks.items flows → IsUnknownLookup told (world_of f) s
+asks_unknown told f s table flows lookup is asks = record { table = table; lookup = lookup; unknown = inr (flows, has_table f table flows is, asks) }
 
 -- ---- a step before that kept the state of each run
 
@@ -41,5 +41,5 @@ side_from w frames old between (Divided cases) keeps tasks emitted steps h = (ca
 side_from w frames old between Unknown keeps tasks emitted steps h = record {
   table = h.table;
   lookup = subst (λ (ts : List SymbolicTask). answer_to_tasks ts ≡ Lookup h.table) tasks h.lookup;
-  unknown = subst (λ (ts : List SymbolicTask). (TABLES ≤ h.table) ⊎ ((flows : List FlowEntry) × IsTableOf w h.table flows × AsksUnknownOf ts flows)) tasks h.unknown;
+  unknown = subst (λ (ts : List SymbolicTask). (TABLES ≤ h.table) ⊎ ((flows : List FlowEntry) × IsTableOf w h.table flows × AsksUnknownOf frames.inner ts flows)) tasks h.unknown;
 }

@@ -1,5 +1,5 @@
 -- The frames of a set for which DEC_NW_TTL expires, and the others.
-use Rattle.std.proofs.Common.{◌≡◌, ◌≤◌, ◌<◌, ◌+◌, ℕ, true, false, List, [], ◌∷◌, Option, Some, None, refl, sym, ap, subst, ◌∙◌, arith}
+use Rattle.std.proofs.Common.{◌≡◌, ◌≤◌, ◌<◌, ◌+◌, ℕ, Bool, true, false, List, [], ◌∷◌, Option, Some, None, refl, sym, ap, subst, ◌∙◌, arith}
 use Rattle.std.specs.Prelude.{not, nat_le, is_some, IfSome}
 use Rattle.std.proofs.lemmas.Bool.{le-leb, lt-leb}
 use Rattle.std.proofs.lemmas.Bool.Decides.{nat_tests}
@@ -12,7 +12,8 @@ use Rattle.of_oxm.specs.Relations.{matches_map}
 use Rattle.of_rewrite.specs.Frames.{IsFrame}
 use Rattle.of_rewrite.specs.TimeToLive.{ttl_of}
 use Rattle.of_symbolic.specs.declared.part.Part.{Part}
-use Rattle.of_symbolic.specs.Parts.{InPart, received_fields}
+use Rattle.of_symbolic.specs.InnerTags.{description_of}
+use Rattle.of_symbolic.specs.Parts.{InPart}
 use Rattle.of_symbolic.proofs.VidBits.{and_zero}
 use Rattle.of_symbolic_run.specs.declared.frame_set.FrameSet.{FrameSet}
 use Rattle.of_symbolic_run.specs.FrameSets.{AreFramesMatching, AreFramesThat, AreFramesWithout, InFrames}
@@ -27,8 +28,8 @@ there : (o : Option ℕ) → matches_map (has_ttl ∷ []) (λ f. o) ≡ is_some 
 there None = refl
 there (Some v) = rw (and_zero v) refl
 
-pub ttl_matches : (frame : List ℕ) (port : ℕ) → IsFrame frame → matches_map (has_ttl ∷ []) (received_fields frame port) ≡ is_some (ttl_of (layers_of frame))
-ttl_matches frame port h = there (look IpDscp (cells (layers_of frame))) ∙ ttl_or_none frame h
+pub ttl_matches : (told : Bool) (frame : List ℕ) (port : ℕ) → IsFrame frame → matches_map (has_ttl ∷ []) (description_of told frame port) ≡ is_some (ttl_of (layers_of frame))
+ttl_matches told frame port h = there (look IpDscp (cells (layers_of frame))) ∙ ttl_or_none frame h
 
 -- ---- ranges
 
@@ -71,32 +72,34 @@ none_left low high limit (Some t) le test h = let yes_up : nat_le t limit ≡ tr
 -- ---- sets
 
 module _ (s : FrameSet) where
-  in_set : (t : FrameSet) (frame : List ℕ) (port : ℕ) → t.part ≡ s.part → InPart s.part (received_fields frame port) → InPart t.part (received_fields frame port)
-  in_set t frame port same h = subst (λ (p : Part). InPart p (received_fields frame port)) (sym same) h
+  in_set : (t : FrameSet) (frame : List ℕ) (port : ℕ) → t.part ≡ s.part → t.inner ≡ s.inner → InPart s.part (description_of s.inner frame port) → InPart t.part (description_of t.inner frame port)
+  in_set t frame port same told h = subst (λ (b : Bool). InPart t.part (description_of b frame port)) (sym told) (subst (λ (p : Part). InPart p (description_of s.inner frame port)) (sym same) h)
 
-  of_set : (t : FrameSet) (frame : List ℕ) (port : ℕ) → t.part ≡ s.part → InPart t.part (received_fields frame port) → InPart s.part (received_fields frame port)
-  of_set t frame port same h = subst (λ (p : Part). InPart p (received_fields frame port)) same h
+  of_set : (t : FrameSet) (frame : List ℕ) (port : ℕ) → t.part ≡ s.part → t.inner ≡ s.inner → InPart t.part (description_of t.inner frame port) → InPart s.part (description_of s.inner frame port)
+  of_set t frame port same told h = subst (λ (p : Part). InPart p (description_of s.inner frame port)) same (subst (λ (b : Bool). InPart t.part (description_of b frame port)) told h)
 
-pub expiring_is : (limit : ℕ) (s those new : FrameSet) → AreFramesMatching (has_ttl ∷ []) s those → new.part ≡ those.part → new.ttl_from ≡ those.ttl_from → new.ttl_to ≡ lower_of those.ttl_to limit → AreFramesThat (expires (Some limit)) s new
-expiring_is limit s those new are part least most = record {
+pub expiring_is : (limit : ℕ) (s those new : FrameSet) → AreFramesMatching (has_ttl ∷ []) s those → new.part ≡ those.part → new.inner ≡ those.inner → new.ttl_from ≡ those.ttl_from → new.ttl_to ≡ lower_of those.ttl_to limit → AreFramesThat (expires (Some limit)) s new
+expiring_is limit s those new are part told least most = record {
+  inner = told ∙ are.inner;
   within = λ frame port h. (are.within frame port (before frame port h)).0;
   tested = λ frame port is h.
-      let some : is_some (ttl_of (layers_of frame)) ≡ true = sym (ttl_matches frame port is) ∙ (are.within frame port (before frame port h)).1 in
+      let some : is_some (ttl_of (layers_of frame)) ≡ true = sym (ttl_matches s.inner frame port is) ∙ (are.within frame port (before frame port h)).1 in
       low_tested those.ttl_from those.ttl_to limit (ttl_of (layers_of frame)) some (rw (sym least, sym most) h.ttl);
   all = λ frame port is h test.
-      let some : matches_map (has_ttl ∷ []) (received_fields frame port) ≡ true = ttl_matches frame port is ∙ up_to_some limit (ttl_of (layers_of frame)) test in
+      let some : matches_map (has_ttl ∷ []) (description_of s.inner frame port) ≡ true = ttl_matches s.inner frame port is ∙ up_to_some limit (ttl_of (layers_of frame)) test in
       let in_those = are.all frame port is h some in
       record {
-        part = in_set those new frame port part in_those.part;
+        part = in_set those new frame port part told in_those.part;
         ttl = rw (least, most) (low_within those.ttl_from those.ttl_to limit (ttl_of (layers_of frame)) test in_those.ttl);
       };
 }
   where
     before : (frame : List ℕ) (port : ℕ) → InFrames new frame port → InFrames those frame port
-    before frame port h = record { part = of_set those new frame port part h.part; ttl = low_range those.ttl_from those.ttl_to limit (ttl_of (layers_of frame)) (rw (sym least, sym most) h.ttl) }
+    before frame port h = record { part = of_set those new frame port part told h.part; ttl = low_range those.ttl_from those.ttl_to limit (ttl_of (layers_of frame)) (rw (sym least, sym most) h.ttl) }
 
 pub outliving_all : (limit : Option ℕ) (s all : FrameSet) → limit ≡ None → AreFramesMatching [] s all → AreFramesThat (λ frame. not (expires limit frame)) s all
 outliving_all limit s all none are = record {
+  inner = are.inner;
   within = λ frame port h. (are.within frame port h).0;
   tested = λ frame port is h. ap (λ (o : Option ℕ). not (expires o frame)) none ∙ never (ttl_of (layers_of frame));
   all = λ frame port is h test. are.all frame port is h refl;
@@ -106,23 +109,25 @@ outliving_all limit s all none are = record {
     never None = refl
     never (Some t) = refl
 
-pub outliving_above : (limit : ℕ) (s all new : FrameSet) → AreFramesMatching [] s all → new.part ≡ all.part → new.ttl_from ≡ higher_of all.ttl_from (limit + 1) → new.ttl_to ≡ all.ttl_to → AreFramesThat (λ frame. not (expires (Some limit) frame)) s new
-outliving_above limit s all new are part least most = record {
-  within = λ frame port h. (are.within frame port (record { part = of_set all new frame port part h.part; ttl = high_range all.ttl_from all.ttl_to limit (ttl_of (layers_of frame)) (rw (sym least, sym most) h.ttl) })).0;
+pub outliving_above : (limit : ℕ) (s all new : FrameSet) → AreFramesMatching [] s all → new.part ≡ all.part → new.inner ≡ all.inner → new.ttl_from ≡ higher_of all.ttl_from (limit + 1) → new.ttl_to ≡ all.ttl_to → AreFramesThat (λ frame. not (expires (Some limit) frame)) s new
+outliving_above limit s all new are part told least most = record {
+  inner = told ∙ are.inner;
+  within = λ frame port h. (are.within frame port (record { part = of_set all new frame port part told h.part; ttl = high_range all.ttl_from all.ttl_to limit (ttl_of (layers_of frame)) (rw (sym least, sym most) h.ttl) })).0;
   tested = λ frame port is h. high_tested all.ttl_from all.ttl_to limit (ttl_of (layers_of frame)) (rw (sym least, sym most) h.ttl);
   all = λ frame port is h test.
       let i = are.all frame port is h refl in
       record {
-        part = in_set all new frame port part i.part;
+        part = in_set all new frame port part told i.part;
         ttl = rw (least, most) (high_within all.ttl_from all.ttl_to limit (ttl_of (layers_of frame)) test i.ttl);
       };
 }
 
 pub outliving_without : (limit : ℕ) (s all new : FrameSet) → all.ttl_to ≤ limit → AreFramesMatching [] s all → AreFramesWithout (has_ttl ∷ []) all new → AreFramesThat (λ frame. not (expires (Some limit) frame)) s new
 outliving_without limit s all new le are less = record {
+  inner = less.inner ∙ are.inner;
   within = λ frame port h. (are.within frame port (less.within frame port h).0).0;
-  tested = λ frame port is h. none_tested limit (ttl_of (layers_of frame)) (sym (ttl_matches frame port is) ∙ (less.within frame port h).1);
+  tested = λ frame port is h. none_tested limit (ttl_of (layers_of frame)) (sym (ttl_matches all.inner frame port is) ∙ (less.within frame port h).1);
   all = λ frame port is h test.
       let i = are.all frame port is h refl in
-      less.all frame port i (ttl_matches frame port is ∙ none_left all.ttl_from all.ttl_to limit (ttl_of (layers_of frame)) le test i.ttl);
+      less.all frame port i (ttl_matches all.inner frame port is ∙ none_left all.ttl_from all.ttl_to limit (ttl_of (layers_of frame)) le test i.ttl);
 }

@@ -18,8 +18,9 @@ use Rattle.of_symbolic.specs.declared.branching.Branch.{Branch}
 use Rattle.of_symbolic.specs.declared.overlay.Overlay.{Overlay}
 use Rattle.of_symbolic.specs.declared.part.Part.{Part}
 use Rattle.of_symbolic.specs.Branches.{AsksUnknown}
+use Rattle.of_symbolic.specs.InnerTags.{description_of}
 use Rattle.of_symbolic.specs.Overlays.{IsOverlay}
-use Rattle.of_symbolic.specs.Parts.{AreListsOfConditions, InPart, received_fields}
+use Rattle.of_symbolic.specs.Parts.{AreListsOfConditions, InPart}
 use Rattle.of_symbolic_run.specs.declared.dividing.Case.{Case}
 use Rattle.of_symbolic_run.specs.declared.frame_set.FrameSet.{FrameSet}
 use Rattle.of_symbolic_run.specs.declared.state.SymbolicState.{SymbolicState}
@@ -41,10 +42,10 @@ pub record IsTableOf (w : TheWorld) (table : ℕ) (flows : List FlowEntry) : Typ
   pub winner : (fields : Field → Option ℕ) → w.winner table fields ≡ winner_place fields flows
   pub flow : (place : ℕ) → w.flow table place ≡ flow_at place flows
 
--- the match of an entry asks what is not known of the first packet
-abbrev pub AsksUnknownOf : List SymbolicTask → List FlowEntry → Type 0
-AsksUnknownOf [] flows = ⊥
-AsksUnknownOf (t ∷ rest) flows = (o : Overlay) × IsOverlay o t.packet.rewrites × AsksUnknown o flows
+-- the match of an entry asks what is not known of the first packet, where inner tags are told or not
+abbrev pub AsksUnknownOf : Bool → List SymbolicTask → List FlowEntry → Type 0
+AsksUnknownOf told [] flows = ⊥
+AsksUnknownOf told (t ∷ rest) flows = (o : Overlay) × (o.inner ≡ told) × IsOverlay o t.packet.rewrites × AsksUnknown o flows
 
 -- the fields of the first packet, for a frame
 abbrev pub first_key : List SymbolicTask → List ℕ → ℕ → Field → Option ℕ
@@ -96,8 +97,8 @@ IsBranchOf part b = AreListsOfConditions b.part.lacks.items × ((fields : Field 
 
 -- the case of a branch
 pub record IsCaseOf (table : ℕ) (flows : List FlowEntry) (frames : FrameSet) (state : SymbolicState) (b : Branch) (c : Case) : Type 0 where
-  pub within : (frame : List ℕ) (port : ℕ) → InFrames c.frames frame port → InFrames frames frame port × InPart b.part (received_fields frame port)
-  pub all : (frame : List ℕ) (port : ℕ) → InFrames frames frame port → InPart b.part (received_fields frame port) → InFrames c.frames frame port
+  pub within : (frame : List ℕ) (port : ℕ) → InFrames c.frames frame port → InFrames frames frame port × InPart b.part (description_of frames.inner frame port)
+  pub all : (frame : List ℕ) (port : ℕ) → InFrames frames frame port → InPart b.part (description_of frames.inner frame port) → InFrames c.frames frame port
   pub entered : IsEntered table (flow_named flows b.entry) state c.state
 
 -- those of branches, one after the other

@@ -1,21 +1,12 @@
--- PARTS OF FRAMES THAT COME IN: their metadata is 0 (OpenFlow 1.3.5, 5.1).
+-- That lists are of conditions has one proof at most.
 use Rattle.std.proofs.Math.Nat.{ℕ_set}
 use Rattle.std.proofs.Math.Path.{fun_ext}
-use Rattle.std.specs.Prelude.{◌≡◌, ◌<◌, ◌^◌, ℕ, List}
+use Rattle.std.specs.Prelude.{List}
 use Rattle.std.specs.Global.{Vec}
 use Rattle.std.specs.List.{AllByRecursion-prop}
 use Rattle.of_oxm.specs.declared.match_field.MatchField.{MatchField}
 use Rattle.of_regions.specs.Conditions.{IsCondition}
-use Rattle.of_layers.specs.Reading.{layers_of}
-use Rattle.of_headers.specs.FieldMap.{field_map}
-use Rattle.of_symbolic.specs.declared.part.Part.{Part}
-use Rattle.of_symbolic.specs.Parts.{AreListsOfConditions, InPart}
-
--- no packet of the part has other metadata
-abbrev pub HasNoMetadata : Part → Type 0
-HasNoMetadata part = (frame : List ℕ) (port metadata : ℕ) → metadata < 2 ^ 64 → InPart part (field_map (layers_of frame) port metadata) → metadata ≡ 0
-
--- ---- that lists are of conditions has one proof at most
+use Rattle.of_symbolic.specs.Parts.{AreListsOfConditions}
 
 condition_prop : (e : MatchField) → IsProp (IsCondition e)
 condition_prop e x y = λ i. record { within = ℕ_set _ _ x.within y.within i; value = ℕ_set _ _ x.value y.value i }

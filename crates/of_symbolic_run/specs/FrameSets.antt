@@ -1,17 +1,34 @@
 -- SETS OF FRAMES THAT COME IN, each by a port (OpenFlow 1.3.5, 5.1).
-use Rattle.std.specs.Prelude.{◌≡◌, ◌≤◌, ◌⊎◌, ℕ, Bool, true, false, List, length, Option, None, Some, IfSome}
+use Rattle.std.specs.Prelude.{◌≡◌, ◌≤◌, ◌⊎◌, ◌/◌, ◌%◌, ℕ, Bool, true, false, List, [], ◌∷◌, length, Option, None, Some, IfSome}
+use Rattle.of_layers.specs.declared.field.Field.{Field}
+use Rattle.of_layers.specs.declared.field.Field.TheVariants.{Metadata, VlanPcp, VlanVid}
 use Rattle.of_layers.specs.Reading.{layers_of}
 use Rattle.of_oxm.specs.declared.match_field.MatchField.{MatchField}
 use Rattle.of_oxm.specs.Relations.{matches_map}
 use Rattle.of_rewrite.specs.Frames.{IsFrame}
 use Rattle.of_rewrite.specs.TimeToLive.{ttl_of}
+use Rattle.of_actions.specs.declared.action.Action.{Action}
+use Rattle.of_actions.specs.declared.action.Action.TheVariants.{PushVlan, SetField}
 use Rattle.of_regions.specs.declared.region.Region.{Region}
 use Rattle.of_regions.specs.declared.searching.Found.TheVariants as found
 use Rattle.of_regions.specs.Witness.{IsIngressPort}
-use Rattle.of_symbolic.specs.Parts.{FindsInPart, InPart, IsUnreceivedPart, received_fields}
+use Rattle.of_symbolic.specs.InnerTags.{description_of}
+use Rattle.of_symbolic.specs.Parts.{FindsInPart, InPart, IsUnreceivedPart}
 use Rattle.of_symbolic_run.specs.declared.frame_set.FrameSet.{FrameSet}
 use Rattle.of_symbolic_run.specs.declared.finding.FrameFound.{FrameFound}
 use Rattle.of_symbolic_run.specs.declared.finding.FrameFound.TheVariants.{Frame, Empty, Undecided}
+
+-- ---- conditions
+
+abbrev pub is_metadata : Field → Bool
+is_metadata Metadata = true
+is_metadata f = false
+
+-- a condition on METADATA, which is 0 for each frame that comes in
+abbrev pub is_about_metadata : MatchField → Bool
+is_about_metadata e = is_metadata e.field
+
+-- ---- sets
 
 -- its TTL is in this range, if it has one
 abbrev pub HasTtlIn : ℕ → ℕ → List ℕ → Type 0
@@ -19,23 +36,26 @@ HasTtlIn low high frame = IfSome (ttl_of (layers_of frame)) (λ t. (low ≤ t) �
 
 -- a frame of the set
 pub record InFrames (s : FrameSet) (frame : List ℕ) (port : ℕ) : Type 0 where
-  pub part : InPart s.part (received_fields frame port)
+  pub part : InPart s.part (description_of s.inner frame port)
   pub ttl : HasTtlIn s.ttl_from s.ttl_to frame
 
--- those that conditions do not match
+-- those whose descriptions conditions do not match
 pub record AreFramesWithout (m : List MatchField) (old new : FrameSet) : Type 0 where
-  pub within : (frame : List ℕ) (port : ℕ) → InFrames new frame port → InFrames old frame port × (matches_map m (received_fields frame port) ≡ false)
-  pub all : (frame : List ℕ) (port : ℕ) → InFrames old frame port → matches_map m (received_fields frame port) ≡ false → InFrames new frame port
+  pub inner : new.inner ≡ old.inner
+  pub within : (frame : List ℕ) (port : ℕ) → InFrames new frame port → InFrames old frame port × (matches_map m (description_of old.inner frame port) ≡ false)
+  pub all : (frame : List ℕ) (port : ℕ) → InFrames old frame port → matches_map m (description_of old.inner frame port) ≡ false → InFrames new frame port
 
 -- those that they match; the range is as before
 pub record AreFramesMatching (m : List MatchField) (old new : FrameSet) : Type 0 where
+  pub inner : new.inner ≡ old.inner
   pub least : new.ttl_from ≡ old.ttl_from
   pub most : new.ttl_to ≡ old.ttl_to
-  pub within : (frame : List ℕ) (port : ℕ) → InFrames new frame port → InFrames old frame port × (matches_map m (received_fields frame port) ≡ true)
-  pub all : (frame : List ℕ) (port : ℕ) → IsFrame frame → InFrames old frame port → matches_map m (received_fields frame port) ≡ true → InFrames new frame port
+  pub within : (frame : List ℕ) (port : ℕ) → InFrames new frame port → InFrames old frame port × (matches_map m (description_of old.inner frame port) ≡ true)
+  pub all : (frame : List ℕ) (port : ℕ) → IsFrame frame → InFrames old frame port → matches_map m (description_of old.inner frame port) ≡ true → InFrames new frame port
 
 -- those of which a test is true
 pub record AreFramesThat (test : List ℕ → Bool) (old new : FrameSet) : Type 0 where
+  pub inner : new.inner ≡ old.inner
   pub within : (frame : List ℕ) (port : ℕ) → InFrames new frame port → InFrames old frame port
   pub tested : (frame : List ℕ) (port : ℕ) → IsFrame frame → InFrames new frame port → test frame ≡ true
   pub all : (frame : List ℕ) (port : ℕ) → IsFrame frame → InFrames old frame port → test frame ≡ true → InFrames new frame port
@@ -46,6 +66,10 @@ AreFramesOrNone test old None = (frame : List ℕ) (port : ℕ) → IsFrame fram
 AreFramesOrNone test old (Some new) = AreFramesThat test old new
 
 -- ---- what a search finds
+
+-- the actions that make the outermost tag of a frame the inner one, with this number, below a tag with this VID and PCP
+abbrev pub actions_put_below : ℕ → ℕ → ℕ → List Action
+actions_put_below number vid pcp = SetField VlanVid (number % 0x1000) ∷ SetField VlanPcp (number / 0x2000 % 8) ∷ PushVlan 0x8100 ∷ SetField VlanVid vid ∷ SetField VlanPcp pcp ∷ []
 
 -- a frame of it that a switch may receive; or it has no frame; or a search among the packets of its part found none
 abbrev pub FindsFrame : FrameSet → ℕ → FrameFound → Type 0

@@ -77,6 +77,7 @@ fn case_of<'a>(
     let state = state.entered(alloc, table, entry_named(listed, branch.entry))?;
     let frames = FrameSet {
         part: branch.part,
+        inner: frames.inner,
         ttl_from: frames.ttl_from,
         ttl_to: frames.ttl_to,
     };
@@ -116,12 +117,12 @@ fn cases_by_entry<'a>(
         AreCases w frames.now state.now cases.items)) }
     ensures next { IfOk result (λ found. IfSome found (λ cases. (w : TheWorld) → IsTableOf w table (flows_of entries.entry) →
         AreNextStates w state.now cases.items)) }
-    ensures none { IfOk result (λ found. IfNone found (AsksUnknownOf state.now.tasks.items (flows_of entries.entry))) }
+    ensures none { IfOk result (λ found. IfNone found (AsksUnknownOf frames.now.inner state.now.tasks.items (flows_of entries.entry))) }
 {
     let listed = listed_entries(alloc, entries)?;
     let packet = &state.tasks[0].packet;
     packet.rewrites.known();
-    let overlay = packet.rewrites.overlay(alloc)?;
+    let overlay = packet.rewrites.overlay(alloc, frames.inner)?;
     match branches(alloc, &listed, &overlay, packet.metadata, &frames.part)? {
         None => Ok(None),
         Some(mut branches) => {
@@ -147,7 +148,7 @@ pub fn look_up<'a>(
         AreCases w frames.now state.now cases.items)) }
     ensures next { IfOk result (λ found. IfSome found (λ cases. (w : TheWorld) → IsTableOf w table (flows_of entries.entry) →
         AreNextStates w state.now cases.items)) }
-    ensures none { IfOk result (λ found. IfNone found (AsksUnknownOf state.now.tasks.items (flows_of entries.entry))) }
+    ensures none { IfOk result (λ found. IfNone found (AsksUnknownOf frames.now.inner state.now.tasks.items (flows_of entries.entry))) }
 {
     let found = cases_by_entry(alloc, entries, state, frames, table)?;
     Ok(found)

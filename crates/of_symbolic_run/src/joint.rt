@@ -46,6 +46,7 @@ fn joint_case_of<'a>(
     let second = second.entered(alloc, table, entry_named(listed, branch.entry))?;
     let frames = FrameSet {
         part: branch.part,
+        inner: frames.inner,
         ttl_from: frames.ttl_from,
         ttl_to: frames.ttl_to,
     };
@@ -101,12 +102,12 @@ pub fn look_up_both<'a>(
         AreNextStates w first.now (first_cases cases.items))) }
     ensures next_second { IfOk result (λ found. IfSome found (λ cases. (w : TheWorld) → IsTableOf w table (flows_of entries.entry) →
         AreNextStates w second.now (second_cases cases.items))) }
-    ensures none { IfOk result (λ found. IfNone found (AsksUnknownOf first.now.tasks.items (flows_of entries.entry))) }
+    ensures none { IfOk result (λ found. IfNone found (AsksUnknownOf frames.now.inner first.now.tasks.items (flows_of entries.entry))) }
 {
     let listed = listed_entries(alloc, entries)?;
     let packet = &first.tasks[0].packet;
     packet.rewrites.known();
-    let overlay = packet.rewrites.overlay(alloc)?;
+    let overlay = packet.rewrites.overlay(alloc, frames.inner)?;
     match branches(alloc, &listed, &overlay, packet.metadata, &frames.part)? {
         None => Ok(None),
         Some(mut branches) => {

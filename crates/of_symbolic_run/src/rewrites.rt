@@ -71,18 +71,20 @@ impl Rewrites {
         let _ = &self.actions;
     }
 
-    /// What is known of the packet after them.
-    pub fn overlay(&self, alloc: Global) -> Result<Overlay, AllocError>
-        ensures { IfOk result (λ overlay. IsOverlay overlay self.now) }
+    /// What is known of the packet after them, in terms of the frame that came in, with its inner tag or without.
+    pub fn overlay(&self, alloc: Global, inner: bool) -> Result<Overlay, AllocError>
+        ensures is { IfOk result (λ overlay. IsOverlay overlay self.now) }
+        ensures inner { IfOk result (λ overlay. overlay.inner ≡ inner) }
     {
-        overlay_after(alloc, self.as_slice())
+        overlay_after(alloc, self.as_slice(), inner)
     }
 }
 
-fn overlay_after(alloc: Global, actions: &[Action]) -> Result<Overlay, AllocError>
-    ensures { IfOk result (λ overlay. IsOverlay overlay actions.now) }
+fn overlay_after(alloc: Global, actions: &[Action], inner: bool) -> Result<Overlay, AllocError>
+    ensures is { IfOk result (λ overlay. IsOverlay overlay actions.now) }
+    ensures inner { IfOk result (λ overlay. overlay.inner ≡ inner) }
 {
-    let mut overlay = Overlay::new(alloc);
+    let mut overlay = Overlay::new(alloc, inner);
     for action in actions {
         overlay.after(action)?;
     }

@@ -37,12 +37,14 @@ impl FrameSet {
     fn up_to(self, limit: u8) -> FrameSet
         requires { self.ttl_from ≤ limit }
         ensures part { result.part ≡ self.part }
+        ensures inner { result.inner ≡ self.inner }
         ensures least { result.ttl_from ≡ self.ttl_from }
         ensures most { result.ttl_to ≡ lower_of self.ttl_to limit }
     {
         let ttl_to = least_of(self.ttl_to, limit);
         FrameSet {
             part: self.part,
+            inner: self.inner,
             ttl_from: self.ttl_from,
             ttl_to,
         }
@@ -52,12 +54,14 @@ impl FrameSet {
     fn above(self, limit: u8) -> FrameSet
         requires { limit < self.ttl_to }
         ensures part { result.part ≡ self.part }
+        ensures inner { result.inner ≡ self.inner }
         ensures least { result.ttl_from ≡ higher_of self.ttl_from (limit + 1) }
         ensures most { result.ttl_to ≡ self.ttl_to }
     {
         let ttl_from = greatest_of(self.ttl_from, limit + 1);
         FrameSet {
             part: self.part,
+            inner: self.inner,
             ttl_from,
             ttl_to: self.ttl_to,
         }

@@ -4,17 +4,20 @@ use Rattle.std.specs.Global.{Vec}
 use Rattle.std.specs.List.{Contains}
 use Rattle.of_oxm.specs.declared.match_field.MatchField.{MatchField}
 use Rattle.of_table.specs.Table.{FlowEntry}
+use Rattle.of_diff.specs.Changing.{IsAskedIn}
 use Rattle.of_diff.proofs.ChangingLemmas.{asked_more}
 use Rattle.of_diff.proofs.changing.changed_conditions.Goals as goal
 
 pub returns-clause-first : goal.returns-clause-first
 returns-clause-first g c = λ i e at mark.
-    asked_more c.push_all_asked.new.asked.items c.push_all_asked-2.new.asked.items c.args.packet.now.rewrites c.args.packet.now.metadata e c.in_ok-push_all_asked-2.ensures.more
-    (c.in_ok-push_all_asked.ensures.asked c.if-not-branch.false c.args.packet.now.rewrites c.in_ok-overlay.ensures c.known.ensures i e (ap (λ (fs : List FlowEntry). slice_get fs i) c.entries-entries.ensures.flows ∙ at) (ap (λ (ms : List Bool). slice_get ms i) c.deref.ensures.value ∙ mark))
+    subst (λ (b : Bool). IsAskedIn b c.push_all_asked-2.new.asked.items c.args.packet.now.rewrites c.args.packet.now.metadata e) c.in_ok-overlay.ensures.inner
+    (asked_more c.in_ok-overlay.overlay.inner c.push_all_asked.new.asked.items c.push_all_asked-2.new.asked.items c.args.packet.now.rewrites c.args.packet.now.metadata e c.in_ok-push_all_asked-2.ensures.more
+    (c.in_ok-push_all_asked.ensures.asked c.if-not-branch.false c.args.packet.now.rewrites c.in_ok-overlay.ensures.is c.known.ensures i e (ap (λ (fs : List FlowEntry). slice_get fs i) c.entries-entries.ensures.flows ∙ at) (ap (λ (ms : List Bool). slice_get ms i) c.deref.ensures.value ∙ mark)))
 
 pub returns-clause-second : goal.returns-clause-second
 returns-clause-second g c = λ i e at mark.
-    c.in_ok-push_all_asked-2.ensures.asked c.if-not-branch-2.false c.args.packet.now.rewrites c.in_ok-overlay.ensures c.known.ensures i e (ap (λ (fs : List FlowEntry). slice_get fs i) c.entries-entries-2.ensures.flows ∙ at) (ap (λ (ms : List Bool). slice_get ms i) c.deref-2.ensures.value ∙ mark)
+    subst (λ (b : Bool). IsAskedIn b c.push_all_asked-2.new.asked.items c.args.packet.now.rewrites c.args.packet.now.metadata e) c.in_ok-overlay.ensures.inner
+    (c.in_ok-push_all_asked-2.ensures.asked c.if-not-branch-2.false c.args.packet.now.rewrites c.in_ok-overlay.ensures.is c.known.ensures i e (ap (λ (fs : List FlowEntry). slice_get fs i) c.entries-entries-2.ensures.flows ∙ at) (ap (λ (ms : List Bool). slice_get ms i) c.deref-2.ensures.value ∙ mark))
 
 pub returns-clause-conditions : goal.returns-clause-conditions
 returns-clause-conditions g c =

@@ -9,12 +9,12 @@ use Rattle.of_diff.proofs.changing.push_asked.Goals as goal
 
 pub returns-in-Never-clause-asked : goal.returns-in-Never-clause-asked
 returns-in-Never-clause-asked c = λ e l over rewriting frame port is yes.
-    let no = subst (IsTrueOfFrames l c.args.metadata c.args.entry.now.flow.fields) c.in-Never.is (c.pulled_matches_are_of_frames.ensures l c.args.metadata c.args.entry.now.flow.fields c.in_ok-pull.field-0 rewriting (c.in_ok-pull.ensures.is l over)) frame port is in
+    let no = subst (IsTrueOfFrames c.args.overlay.now.inner l c.args.metadata c.args.entry.now.flow.fields) c.in-Never.is (c.pulled_matches_are_of_frames.ensures c.args.overlay.now.inner l c.args.metadata c.args.entry.now.flow.fields c.in_ok-pull.field-0 rewriting (c.in_ok-pull.ensures.is l over)) frame port is in
     absurd cc
 
 pub returns-in_ok-push-in-When-clause-asked : goal.returns-in_ok-push-in-When-clause-asked
 returns-in_ok-push-in-When-clause-asked c = λ e l over rewriting frame port is yes.
-    let same = subst (IsTrueOfFrames l c.args.metadata c.args.entry.now.flow.fields) c.in-When.is (c.pulled_matches_are_of_frames.ensures l c.args.metadata c.args.entry.now.flow.fields c.in_ok-pull.field-0 rewriting (c.in_ok-pull.ensures.is l over)) frame port is in
+    let same = subst (IsTrueOfFrames c.args.overlay.now.inner l c.args.metadata c.args.entry.now.flow.fields) c.in-When.is (c.pulled_matches_are_of_frames.ensures c.args.overlay.now.inner l c.args.metadata c.args.entry.now.flow.fields c.in_ok-pull.field-0 rewriting (c.in_ok-pull.ensures.is l over)) frame port is in
     (c.in-When.fields, rw c.in_ok-push-in-When.ensures.items (Contains-push c.args.asked.now.items c.in-When.fields), sym same ∙ yes)
 
 pub returns-in_ok-push-in-When-clause-conditions : goal.returns-in_ok-push-in-When-clause-conditions

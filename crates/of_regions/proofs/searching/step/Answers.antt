@@ -3,7 +3,7 @@ use Rattle.std.specs.Prelude.{slice_get, IfNone, IfSome}
 use Rattle.std.proofs.lemmas.Option.{slice_get_cases, slice_get_past, slice_get-get_or}
 use Rattle.of_regions.specs.declared.witness.Packet.{Packet}
 use Rattle.of_regions.specs.Regions.{InRegion}
-use Rattle.of_regions.specs.Witness.{HasNoIngress, IsReceived, fields_in}
+use Rattle.of_regions.specs.Witness.{HasNoIngress, IsReceived, IsShortFrame, fields_in}
 use Rattle.of_oxm.specs.declared.match_field.MatchField.{MatchField}
 use Rattle.of_regions.specs.declared.looking.Rest.{Rest}
 use Rattle.of_regions.specs.declared.rival.Rival.{Rival}
@@ -53,12 +53,13 @@ returns-in_ok-push_parts-in-Splits-clause-step c start s =
 pub returns-in-Some-clause-found : goal.returns-in-Some-clause-found
 returns-in-Some-clause-found c start s =
     let rivals = c.args.rivals.now in
-    let found : IsReceived c.in-Some.packet × InRegion c.args.rest.region (fields_in c.in-Some.packet) =
-    subst (λ (o : Option Packet). IfSome o (λ p. IsReceived p × InRegion c.args.rest.region (fields_in p))) c.in-Some.is c.in_ok-packet-in-Free.ensures.some in
+    let found : IsReceived c.in-Some.packet × IsShortFrame c.in-Some.packet.frame.items × InRegion c.args.rest.region (fields_in c.in-Some.packet) =
+    subst (λ (o : Option Packet). IfSome o (λ p. IsReceived p × IsShortFrame p.frame.items × InRegion c.args.rest.region (fields_in p))) c.in-Some.is c.in_ok-packet-in-Free.ensures.some in
     record {
       received = found.0;
-      within = last_within start rivals c.args.search.now.rests.items c.args.rest c.args.search.now.names.items c.args.search.now.unreceived s (fields_in c.in-Some.packet) found.1;
-      unrivalled = unrivalled rivals c.args.rest.region c.in-Free.ensures (fields_in c.in-Some.packet) found.1;
+      short = found.1;
+      within = last_within start rivals c.args.search.now.rests.items c.args.rest c.args.search.now.names.items c.args.search.now.unreceived s (fields_in c.in-Some.packet) found.2;
+      unrivalled = unrivalled rivals c.args.rest.region c.in-Free.ensures (fields_in c.in-Some.packet) found.2;
     }
 
 pub returns-in-None-clause-state : goal.returns-in-None-clause-state

@@ -6,6 +6,7 @@ use Rattle.of_require.proofs.packets.asked_by.Goals as goal
 pub returns-clause-unknown : goal.returns-clause-unknown
 returns-clause-unknown c is = record {
   overlay = c.in_ok-overlay.overlay;
-  is = subst (λ (l : List Action). IsOverlay c.in_ok-overlay.overlay l) c.rewrites_of-rewrites.ensures c.in_ok-overlay.ensures;
+  tells = c.in_ok-overlay.ensures.inner;
+  is = subst (λ (l : List Action). IsOverlay c.in_ok-overlay.overlay l) c.rewrites_of-rewrites.ensures c.in_ok-overlay.ensures.is;
   unknown = c.in_ok-asked.ensures.unknown is;
 }

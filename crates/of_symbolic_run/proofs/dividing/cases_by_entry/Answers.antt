@@ -1,4 +1,4 @@
-use Rattle.std.proofs.Common.{◌≡◌, ◌∙◌, List, Option, ap, arith, length, subst}
+use Rattle.std.proofs.Common.{◌≡◌, ◌∙◌, Bool, List, Option, ap, arith, length, subst}
 use Rattle.std.specs.Borrow.{Bor}
 use Rattle.std.specs.Prelude.{IfNone}
 use Rattle.std.specs.Global.{Vec}
@@ -17,7 +17,7 @@ pub returns-in-None-clause-none : goal.returns-in-None-clause-none
 returns-in-None-clause-none c =
     let o = c.in_ok-overlay.overlay in
     let flows : flows_listed c.deref.result.now ≡ flows_of c.args.entries = ap flows_listed c.deref.ensures.value ∙ ap flows_of c.in_ok-listed.ensures in
-    unknown_first c.args.state.now.tasks.items c.index.result.now c.args.table o (flows_of c.args.entries) c.requires.first c.index.ensures c.in_ok-overlay.ensures
+    unknown_first c.args.frames.now.inner c.args.state.now.tasks.items c.index.result.now c.args.table o (flows_of c.args.entries) c.requires.first c.index.ensures c.in_ok-overlay.ensures.inner c.in_ok-overlay.ensures.is
     (subst (AsksUnknown o) flows (subst (λ (found : Option (Vec Branch)). IfNone found (AsksUnknown o (flows_listed c.deref.result.now))) c.in-None.is c.in_ok-branches.ensures.none))
 
 pub cases_of-requires-clause-each : goal.cases_of-requires-clause-each
@@ -25,7 +25,7 @@ cases_of-requires-clause-each c b kept =
     let made = c.in-Some.branches in
     let packet = c.index.result.now.packet in
     let there = was_made c.args.entries c.len.result made.items c.keep_listed.new.branches.items c.keep_listed.ensures b kept in
-    let all = own_branches _ c.in_ok-branches.field-0 made c.in-Some.is c.in_ok-branches.ensures.some packet.rewrites c.in_ok-overlay.ensures c.known.ensures in
+    let all = own_branches _ c.in_ok-branches.field-0 made c.in-Some.is c.in_ok-branches.ensures.some packet.rewrites c.in_ok-overlay.ensures.is c.known.ensures in
     let conditions = own_branches _ c.in_ok-branches.field-0 made c.in-Some.is c.in_ok-branches.ensures.conditions b there in
     (conditions, all.within b there)
 
@@ -40,8 +40,8 @@ returns-clause-some c w is =
     let flows : flows_listed c.deref.result.now ≡ flows_of c.args.entries = ap flows_listed c.deref.ensures.value ∙ ap flows_of c.in_ok-listed.ensures in
     let flows-2 : flows_listed c.deref-in-Some.result.now ≡ flows_of c.args.entries = ap flows_listed c.deref-in-Some.ensures.value ∙ ap flows_of c.in_ok-listed.ensures in
     let size : c.len.result ≡ length c.args.entries = omega (arith, c.len.ensures, c.in_ok-listed.listed.ok.0, ap length c.in_ok-listed.ensures, length-map c.in_ok-listed.listed.items (λ (e : Bor Entry). e.now)) in
-    let all = own_branches _ c.in_ok-branches.field-0 made c.in-Some.is c.in_ok-branches.ensures.some packet.rewrites c.in_ok-overlay.ensures c.known.ensures in
-    let are = kept_are c.args.entries c.len.result made.items kept c.keep_listed.ensures packet.rewrites packet.metadata frames.part size (subst (λ (fs : List FlowEntry). AreBranches fs packet.rewrites packet.metadata frames.part made.items) flows all) in
+    let all = own_branches _ c.in_ok-branches.field-0 made c.in-Some.is c.in_ok-branches.ensures.some packet.rewrites c.in_ok-overlay.ensures.is c.known.ensures in
+    let are = kept_are c.args.entries c.len.result made.items kept c.keep_listed.ensures frames.inner packet.rewrites packet.metadata frames.part size (subst (λ (b : Bool). AreBranches b (flows_of c.args.entries) packet.rewrites packet.metadata frames.part made.items) c.in_ok-overlay.ensures.inner (subst (λ (fs : List FlowEntry). AreBranches c.in_ok-overlay.overlay.inner fs packet.rewrites packet.metadata frames.part made.items) flows all)) in
     let own : AreCasesOf c.args.table (flows_of c.args.entries) frames state kept cases = subst (λ (fs : List FlowEntry). AreCasesOf c.args.table fs frames state kept cases) flows-2 c.in_ok-cases-in-Some.ensures in
     cases_are c.args.table (flows_of c.args.entries) frames state w packet.rewrites packet.metadata kept cases c.requires.first is (key_is state.tasks.items c.index.result.now c.args.table c.requires.first c.index.ensures) are own
 
@@ -56,7 +56,7 @@ returns-clause-next c w is =
     let flows : flows_listed c.deref.result.now ≡ flows_of c.args.entries = ap flows_listed c.deref.ensures.value ∙ ap flows_of c.in_ok-listed.ensures in
     let flows-2 : flows_listed c.deref-in-Some.result.now ≡ flows_of c.args.entries = ap flows_listed c.deref-in-Some.ensures.value ∙ ap flows_of c.in_ok-listed.ensures in
     let size : c.len.result ≡ length c.args.entries = omega (arith, c.len.ensures, c.in_ok-listed.listed.ok.0, ap length c.in_ok-listed.ensures, length-map c.in_ok-listed.listed.items (λ (e : Bor Entry). e.now)) in
-    let all = own_branches _ c.in_ok-branches.field-0 made c.in-Some.is c.in_ok-branches.ensures.some packet.rewrites c.in_ok-overlay.ensures c.known.ensures in
-    let are = kept_are c.args.entries c.len.result made.items kept c.keep_listed.ensures packet.rewrites packet.metadata frames.part size (subst (λ (fs : List FlowEntry). AreBranches fs packet.rewrites packet.metadata frames.part made.items) flows all) in
+    let all = own_branches _ c.in_ok-branches.field-0 made c.in-Some.is c.in_ok-branches.ensures.some packet.rewrites c.in_ok-overlay.ensures.is c.known.ensures in
+    let are = kept_are c.args.entries c.len.result made.items kept c.keep_listed.ensures frames.inner packet.rewrites packet.metadata frames.part size (subst (λ (b : Bool). AreBranches b (flows_of c.args.entries) packet.rewrites packet.metadata frames.part made.items) c.in_ok-overlay.ensures.inner (subst (λ (fs : List FlowEntry). AreBranches c.in_ok-overlay.overlay.inner fs packet.rewrites packet.metadata frames.part made.items) flows all)) in
     let own : AreCasesOf c.args.table (flows_of c.args.entries) frames state kept cases = subst (λ (fs : List FlowEntry). AreCasesOf c.args.table fs frames state kept cases) flows-2 c.in_ok-cases-in-Some.ensures in
     cases_next c.args.table (flows_of c.args.entries) frames state w kept cases c.requires.first is are.once (are_listed c.args.entries c.len.result made.items kept c.keep_listed.ensures size) own

@@ -1,4 +1,4 @@
-use Rattle.std.proofs.Common.{◌≡◌, ◌<◌, ◌≤◌, length, arith, subst, sym, take, take_all}
+use Rattle.std.proofs.Common.{◌<◌, ◌≤◌, ◌∙◌, length, arith, subst, sym, take_all}
 use Rattle.of_datapath.specs.Datapath.{world_of}
 use Rattle.of_datapath.specs.Numbers.{forwarding_of}
 use Rattle.of_symbolic.proofs.PartLemmas.{contains_index}
@@ -8,8 +8,9 @@ use Rattle.of_symbolic_run.proofs.reception.received_frames.Goals as goal
 
 pub loop-index-init : goal.loop-index-init
 loop-index-init g c = record {
-  all = λ frame port received. c.in_ok-frames.ensures frame port received.frame_is;
+  all = λ frame port received. c.in_ok-frames.ensures.all frame port received.frame_is;
   without = λ m none. absurd (omega (arith, none.1));
+  inner = c.in_ok-frames.ensures.inner;
 }
 
 pub without-requires : goal.without-requires
@@ -27,10 +28,14 @@ loop-index-preserved g c =
     record {
       all = still_received w c.index.result.now.items c.loop-index.frames c.in_ok-frames-2.frames absence c.in_ok-frames-2.ensures c.loop-index.invariant.all;
       without = without_one_more absent.items c.loop-index.index c.index.result.now c.index.ensures lt c.loop-index.frames c.in_ok-frames-2.frames c.in_ok-frames-2.ensures c.loop-index.invariant.without;
+      inner = c.in_ok-frames-2.ensures.inner ∙ c.loop-index.invariant.inner;
     }
 
 pub returns-clause-all : goal.returns-clause-all
 returns-clause-all g c = c.loop-index.invariant.all
+
+pub returns-clause-inner : goal.returns-clause-inner
+returns-clause-inner g c = c.loop-index.invariant.inner
 
 pub returns-clause-received : goal.returns-clause-received
 returns-clause-received g c =

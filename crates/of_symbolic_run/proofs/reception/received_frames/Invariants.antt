@@ -1,4 +1,4 @@
-use Rattle.std.proofs.Common.{take}
+use Rattle.std.proofs.Common.{◌≡◌, take}
 use Rattle.of_datapath.specs.Datapath.{world_of}
 use Rattle.of_datapath.specs.Numbers.{forwarding_of}
 use Rattle.of_symbolic_run.proofs.ReceivedLemmas.{AreWithoutAll, HasReceived}
@@ -8,4 +8,5 @@ abbrev pub invariant-loop-index : goal.invariant-loop-index
 invariant-loop-index g l = record {
   all : HasReceived (world_of (forwarding_of l.datapath)) l.frames;
   without : AreWithoutAll (take l.index l.absent.items) l.frames;
+  inner : l.frames.inner ≡ l.inner;
 }

@@ -4,7 +4,7 @@ use Rattle.of_symbolic_run.proofs.SideLemmas.{asks_unknown, has_table, no_table}
 use Rattle.of_symbolic_run.proofs.side.step_lookup.Goals as goal
 
 pub returns-then-table-ge-TABLES : goal.returns-then-table-ge-TABLES
-returns-then-table-ge-TABLES g c = no_table (world_of (forwarding_of c.args.datapath.now)) c.args.state.now c.args.table c.requires c.if-table-ge-TABLES.true
+returns-then-table-ge-TABLES g c = no_table c.args.frames.now.inner (world_of (forwarding_of c.args.datapath.now)) c.args.state.now c.args.table c.requires c.if-table-ge-TABLES.true
 
 pub returns-in-Some : goal.returns-in-Some
 returns-in-Some g c =
@@ -17,4 +17,4 @@ returns-in-Some g c =
 pub returns-in-None : goal.returns-in-None
 returns-in-None g c =
     let f = forwarding_of c.args.datapath.now in
-    asks_unknown f c.args.state.now c.args.table _ c.requires c.entries-entries.ensures.flows (rw c.in-None.is at c.in_ok-cases.ensures.none)
+    asks_unknown c.args.frames.now.inner f c.args.state.now c.args.table _ c.requires c.entries-entries.ensures.flows (rw c.in-None.is at c.in_ok-cases.ensures.none)

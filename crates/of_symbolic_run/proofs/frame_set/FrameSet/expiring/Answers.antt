@@ -14,4 +14,4 @@ returns-in_ok-those-in-Some c =
     let s = c.args.self.now in
     let those = c.in_ok-those-in-Some.those in
     let are : AreFramesMatching (has_ttl ∷ []) s those = subst (λ (e : MatchField). AreFramesMatching (e ∷ []) s those) c.has_ttl.ensures c.in_ok-those-in-Some.ensures in
-    subst (λ (limit : Option ℕ). AreFramesThat (expires limit) s c.up_to.result) (sym c.in-Some.is) (expiring_is c.in-Some.limit s those c.up_to.result are c.up_to.ensures.part c.up_to.ensures.least c.up_to.ensures.most)
+    subst (λ (limit : Option ℕ). AreFramesThat (expires limit) s c.up_to.result) (sym c.in-Some.is) (expiring_is c.in-Some.limit s those c.up_to.result are c.up_to.ensures.part c.up_to.ensures.inner c.up_to.ensures.least c.up_to.ensures.most)

@@ -13,4 +13,4 @@ returns-in-Some-clause-ttl c =
     rw c.set_ttl.ensures.frame (ttl_fits c.args.frame.now c.in-Some.ttl c.args.self.now.ttl_from c.args.self.now.ttl_to c.requires is c.args.self.now.range (search rules))
 
 pub returns-in-Some-clause-same : goal.returns-in-Some-clause-same
-returns-in-Some-clause-same c port = rw c.set_ttl.ensures.frame (ttl_fields c.args.frame.now c.args.self.now.ttl_from port c.requires (ttl_is_frame c.args.frame.now c.args.self.now.ttl_from c.requires))
+returns-in-Some-clause-same c port = rw c.set_ttl.ensures.frame (ttl_fields c.args.self.now.inner c.args.frame.now c.args.self.now.ttl_from port c.requires (ttl_is_frame c.args.frame.now c.args.self.now.ttl_from c.requires))

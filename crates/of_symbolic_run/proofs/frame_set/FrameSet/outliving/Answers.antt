@@ -13,7 +13,7 @@ returns-in-None c = outliving_all c.args.limit c.args.self.now c.in_ok-all.all c
 pub returns-in-Some : goal.returns-in-Some
 returns-in-Some c =
     let s = c.args.self.now in
-    subst (λ (limit : Option ℕ). AreFramesThat (λ frame. not (expires limit frame)) s c.above.result) (sym c.in-Some.is) (outliving_above c.in-Some.limit s c.in_ok-all.all c.above.result c.in_ok-all.ensures c.above.ensures.part c.above.ensures.least c.above.ensures.most)
+    subst (λ (limit : Option ℕ). AreFramesThat (λ frame. not (expires limit frame)) s c.above.result) (sym c.in-Some.is) (outliving_above c.in-Some.limit s c.in_ok-all.all c.above.result c.in_ok-all.ensures c.above.ensures.part c.above.ensures.inner c.above.ensures.least c.above.ensures.most)
 
 pub returns-in_ok-push-in-Some-2 : goal.returns-in_ok-push-in-Some-2
 returns-in_ok-push-in-Some-2 c =
