@@ -1,13 +1,15 @@
 -- THE REGION OF A SET OF FRAMES: what all its frames have in common, in words that `paths --match` takes (ovs-fields(7)). The set may have fewer frames.
-use Rattle.std.specs.Prelude.{◌≡◌, ℕ, ◌==◌, ◌&&◌, Bool, true, not, is_some, List, [], ◌∷◌, ◌++◌, length, filter, decimal, Option, Some, None, Ok, if◌then◌else◌}
+use Rattle.std.specs.Prelude.{◌≡◌, ℕ, ◌/◌, ◌%◌, ◌==◌, ◌&&◌, Bool, true, not, is_some, List, [], ◌∷◌, ◌++◌, length, filter, decimal, Option, Some, None, Ok, unwrap_or, if◌then◌else◌}
 use Rattle.std.specs.Global.{Vec}
-use Rattle.std.specs.List.{list_any}
-use Rattle.of_layers.specs.declared.field.Field.TheVariants.{InPort}
+use Rattle.std.specs.List.{list_all, list_any}
+use Rattle.of_layers.specs.declared.field.Field.TheVariants.{InPort, Metadata}
 use Rattle.of_layers.specs.Fields.{number_of}
+use Rattle.of_headers.specs.FieldMap.{value}
 use Rattle.of_oxm.specs.declared.match_field.MatchField.{MatchField}
 use Rattle.of_oxm.specs.Relations.{matches_map}
 use Rattle.of_values.specs.Filled.{filled}
 use Rattle.of_frame_words.specs.Conditions.{conditions_in_words}
+use Rattle.of_regions.specs.declared.region.Region.{Region}
 use Rattle.of_symbolic.specs.Parts.{received_fields}
 use Rattle.of_symbolic_run.specs.declared.frame_set.FrameSet.{FrameSet}
 use Rattle.of_symbolic_run.specs.FrameSets.{InFrames}
@@ -28,7 +30,7 @@ abbrev pub IsRegionOf : List FrameSet → Option DescribedSet → Type 0
 IsRegionOf [] region = region ≡ None
 IsRegionOf (s ∷ sets) region = IsRegionOfSet s region
 
--- ---- `ip,nw_dst=10.2.0.0/16 with nw_ttl 2 to 255 without 1 match`
+-- ---- `ip,dl_vlan=7,nw_dst=10.2.0.0/16 with an inner VLAN tag with nw_ttl 2 to 255 without 1 match`
 
 abbrev pub words_said : List ℕ → List ℕ
 words_said words = if length words == 0 then line.ALL_FRAMES else words
@@ -36,6 +38,14 @@ words_said words = if length words == 0 then line.ALL_FRAMES else words
 -- the range of the TTL, if the frame has one and not each TTL is in it
 abbrev pub ttl_range_part : ℕ → ℕ → List ℕ
 ttl_range_part low high = if low == 0 && high == 255 then [] else filled line.TTL (decimal low ∷ decimal high ∷ [])
+
+-- METADATA of the descriptions of its frames tells an inner tag
+abbrev pub is_inner_region : Region → Bool
+is_inner_region r = unwrap_or (value r.known Metadata) 0 / 0x1000 % 2 == 1
+
+-- each frame has a tag below its outermost one
+abbrev pub inner_part : List Region → List ℕ
+inner_part regions = if list_all is_inner_region regions then line.INNER else []
 
 -- a condition on IN_PORT under a mask, which no entry has, leaves out the numbers of ports that the switches do not have
 abbrev pub is_port_block : MatchField → Bool
@@ -54,7 +64,7 @@ lacks_part n = if n == 0 then [] else filled (if n == 1 then line.LACKS_ONE else
 
 unfoldable pub region_words : DescribedSet → List ℕ
 region_words d =
-    words_said d.words.items ++ ttl_range_part d.frames.now.ttl_from d.frames.now.ttl_to ++ lacks_part (count_of_entries d.frames.now.part.lacks.items)
+    words_said d.words.items ++ inner_part d.frames.now.part.regions.items ++ ttl_range_part d.frames.now.ttl_from d.frames.now.ttl_to ++ lacks_part (count_of_entries d.frames.now.part.lacks.items)
 
 abbrev pub region_line : Option DescribedSet → List ℕ
 region_line None = []

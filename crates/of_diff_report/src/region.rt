@@ -1,11 +1,12 @@
 //! What all frames of a set have in common, in words.
 ghost use Rattle.std.specs.Prelude.{◌≡◌, ℕ, ◌++◌, Option, IfOk, OnOk, true};
+ghost use Rattle.std.specs.List.{list_all};
 ghost use Rattle.of_layers.specs.declared.field.Field.{Field as TheField};
 ghost use Rattle.of_oxm.specs.Relations.{matches_map};
 ghost use Rattle.of_regions.specs.declared.meeting.Meeting.TheVariants.{Whole};
 ghost use Rattle.of_regions.specs.Meeting.{Meets};
 ghost use Rattle.of_regions.specs.Searching.{InSome};
-ghost use Rattle.of_diff_report.specs.RegionWords.{IsRegionOfSet, IsRegionOf, IsTrueOf, count_of_entries, is_of_entry as is_of_entry_by, is_port_block as is_port_block_by, lacks_part, region_line, region_words, ttl_range_part, words_said};
+ghost use Rattle.of_diff_report.specs.RegionWords.{IsRegionOfSet, IsRegionOf, IsTrueOf, count_of_entries, inner_part, is_inner_region, is_of_entry as is_of_entry_by, is_port_block as is_port_block_by, lacks_part, region_line, region_words, ttl_range_part, words_said};
 
 use of_frame_words::{NoFrame, read_conditions};
 use of_layers::Field;
@@ -20,6 +21,8 @@ use std::alloc::{AllocError, Global};
 pub const REGION: [u8; 12] = *b"    region: ";
 
 pub const ALL_FRAMES: [u8; 10] = *b"all frames";
+
+pub const INNER: [u8; 23] = *b" with an inner VLAN tag";
 
 pub const TTL: [u8; 19] = *b" with nw_ttl % to %";
 
@@ -227,6 +230,27 @@ fn said(words: &[u8]) -> &[u8]
     if words.is_empty() { &ALL_FRAMES } else { words }
 }
 
+fn is_inner(region: &Region) -> bool
+    ensures { result ≡ is_inner_region region.now }
+{
+    region.known.get(Field::Metadata).unwrap_or(0) / 0x1000 % 2 == 1
+}
+
+fn are_inner(regions: &[Region]) -> bool
+    ensures { result ≡ list_all is_inner_region regions.now }
+{
+    regions.iter().all(is_inner)
+}
+
+fn push_inner(out: &mut Vec<u8>, regions: &[Region]) -> Result<(), AllocError>
+    ensures { OnOk result (out.new.items ≡ out.old.items ++ inner_part regions.now) }
+{
+    if are_inner(regions) {
+        out.extend_from_slice(&INNER)?;
+    }
+    Ok(())
+}
+
 fn push_ttl(out: &mut Vec<u8>, low: u8, high: u8) -> Result<(), AllocError>
     ensures { OnOk result (out.new.items ≡ out.old.items ++ ttl_range_part low high) }
 {
@@ -274,12 +298,13 @@ fn push_lacks(out: &mut Vec<u8>, count: usize) -> Result<(), AllocError>
     }
 }
 
-/// Appends the region of a set: its words, the range of its TTL, and how many matches match none of its frames.
+/// Appends the region of a set: its words, whether each of its frames has an inner tag, the range of its TTL, and how many matches match none of its frames.
 #[tactic(auto, unfolding(crate::specs::RegionWords::region_words))]
 pub fn push_set(out: &mut Vec<u8>, set: &DescribedSet<'_>) -> Result<(), AllocError>
     ensures { OnOk result (out.new.items ≡ out.old.items ++ region_words set.now) }
 {
     out.extend_from_slice(said(&set.words))?;
+    push_inner(out, &set.frames.part.regions)?;
     push_ttl(out, set.frames.ttl_from, set.frames.ttl_to)?;
     push_lacks(out, lacking(set.frames))
 }

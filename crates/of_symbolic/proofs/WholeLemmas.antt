@@ -195,29 +195,29 @@ module _ (start : List Region) (begins : IsStart [] start) where
     only = λ frame port metadata is fits h. zero_may false (layers_of frame).tags metadata (metadata_asked frame port metadata fits (are.within (field_map (layers_of frame) port metadata) h.0).1);
   }
 
-  pub whole_told : (part : Part) (first below : List Region) → AreNarrowed (no_metadata ∷ []) start first → AreNarrowed inner_tag_asked start below → part.regions.items ≡ first ++ below → part.lacks.items ≡ [] → IsWholePart true part
+  pub whole_told : (part : Part) (first below : List Region) → AreNarrowed (no_metadata ∷ []) start first → AreNarrowed inner_tag_asked start below → part.regions.items ≡ below ++ first → part.lacks.items ≡ [] → IsWholePart true part
   whole_told part first below are inner regions lacks = record {
     all = λ frame port h. (subst (λ (rs : List Region). InSome rs (description_of true frame port)) (sym regions) (in_either frame port h (layers_of frame).tags refl (are_layers frame h.1 h.0).tags), nothing_lacks part (description_of true frame port) lacks);
     only = λ frame port metadata is fits h. told frame port metadata is fits (subst (λ (rs : List Region). InSome rs (field_map (layers_of frame) port metadata)) regions h.0);
   }
     where
-      in_first : (frame : List ℕ) (port : ℕ) → IsFrame frame → inner_told true (view_of frame).tags ≡ 0 → InSome (first ++ below) (description_of true frame port)
+      in_first : (frame : List ℕ) (port : ℕ) → IsFrame frame → inner_told true (view_of frame).tags ≡ 0 → InSome (below ++ first) (description_of true frame port)
       in_first frame port h none =
           let n = inner_told true (view_of frame).tags in
           let i = are.all (description_of true frame port) (some_tagging frame port n h) (begun frame port n h) (nothing_told frame port n none) in
-          (i.0, Contains-append_left first below i.0 i.1, i.2)
+          (i.0, Contains-append_right below first i.0 i.1, i.2)
 
-      in_either : (frame : List ℕ) (port : ℕ) → IsFrame frame → (ts : List (List ℕ)) → (layers_of frame).tags ≡ ts → AreTags (layers_of frame).tags → InSome (first ++ below) (description_of true frame port)
+      in_either : (frame : List ℕ) (port : ℕ) → IsFrame frame → (ts : List (List ℕ)) → (layers_of frame).tags ≡ ts → AreTags (layers_of frame).tags → InSome (below ++ first) (description_of true frame port)
       in_either frame port h [] is fits = in_first frame port h (ap (λ (ts : List (List ℕ)). inner_told true (map tag_of_numbers ts)) is)
       in_either frame port h (t ∷ []) is fits = in_first frame port h (ap (λ (ts : List (List ℕ)). inner_told true (map tag_of_numbers ts)) is)
       in_either frame port h (t ∷ u ∷ rest) is fits =
           let n = inner_told true (view_of frame).tags in
           let e : n ≡ number_of_tag (Some (tag_of_numbers u)) = ap (λ (ts : List (List ℕ)). inner_told true (map tag_of_numbers ts)) is in
           let i = inner.all (description_of true frame port) (some_tagging frame port n h) (begun frame port n h) (two_tags frame port h t u rest n is (subst AreTags is fits) e) in
-          (i.0, Contains-append_right first below i.0 i.1, i.2)
+          (i.0, Contains-append_left below first i.0 i.1, i.2)
 
-      told : (frame : List ℕ) (port metadata : ℕ) → IsFrame frame → metadata < 2 ^ 64 → InSome (first ++ below) (field_map (layers_of frame) port metadata) → may_tell true (layers_of frame).tags metadata ≡ true
-      told frame port metadata is fits h = elim (Contains-append_cases first below h.0 h.1) as (λ w. may_tell true (layers_of frame).tags metadata ≡ true) [
-        | inl a ↦ zero_may true (layers_of frame).tags metadata (metadata_asked frame port metadata fits (are.within (field_map (layers_of frame) port metadata) (h.0, a, h.2)).1)
-        | inr b ↦ told_number frame port is metadata fits (inner.within (field_map (layers_of frame) port metadata) (h.0, b, h.2)).1
+      told : (frame : List ℕ) (port metadata : ℕ) → IsFrame frame → metadata < 2 ^ 64 → InSome (below ++ first) (field_map (layers_of frame) port metadata) → may_tell true (layers_of frame).tags metadata ≡ true
+      told frame port metadata is fits h = elim (Contains-append_cases below first h.0 h.1) as (λ w. may_tell true (layers_of frame).tags metadata ≡ true) [
+        | inl b ↦ told_number frame port is metadata fits (inner.within (field_map (layers_of frame) port metadata) (h.0, b, h.2)).1
+        | inr a ↦ zero_may true (layers_of frame).tags metadata (metadata_asked frame port metadata fits (are.within (field_map (layers_of frame) port metadata) (h.0, a, h.2)).1)
       ]

@@ -132,11 +132,13 @@ impl Part {
             value: 0,
             mask: None,
         };
-        let mut regions = narrowed(alloc, &start, &[no_metadata])?;
+        // a search begins with the last region: with frames that have no inner tag
+        let mut regions = Vec::new(alloc);
         if inner {
-            let below = narrowed(alloc, &start, &inner_tagged())?;
-            regions.extend_from_slice(&below)?;
+            regions = narrowed(alloc, &start, &inner_tagged())?;
         }
+        let plain = narrowed(alloc, &start, &[no_metadata])?;
+        regions.extend_from_slice(&plain)?;
         Ok(Part {
             regions,
             lacks: Vec::new(alloc),
