@@ -43,9 +43,10 @@ ttl_range_part low high = if low == 0 && high == 255 then [] else filled line.TT
 abbrev pub is_inner_region : Region → Bool
 is_inner_region r = unwrap_or (value r.known Metadata) 0 / 0x1000 % 2 == 1
 
--- each frame has a tag below its outermost one
+-- each frame has a tag below its outermost one; nothing is said of a set without regions
 abbrev pub inner_part : List Region → List ℕ
-inner_part regions = if list_all is_inner_region regions then line.INNER else []
+inner_part [] = []
+inner_part (r ∷ rs) = if list_all is_inner_region (r ∷ rs) then line.INNER else []
 
 -- a condition on IN_PORT under a mask, which no entry has, leaves out the numbers of ports that the switches do not have
 abbrev pub is_port_block : MatchField → Bool

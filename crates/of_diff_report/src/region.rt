@@ -245,10 +245,11 @@ fn are_inner(regions: &[Region]) -> bool
 fn push_inner(out: &mut Vec<u8>, regions: &[Region]) -> Result<(), AllocError>
     ensures { OnOk result (out.new.items ≡ out.old.items ++ inner_part regions.now) }
 {
-    if are_inner(regions) {
-        out.extend_from_slice(&INNER)?;
+    match regions {
+        [] => Ok(()),
+        _ if are_inner(regions) => out.extend_from_slice(&INNER),
+        _ => Ok(()),
     }
-    Ok(())
 }
 
 fn push_ttl(out: &mut Vec<u8>, low: u8, high: u8) -> Result<(), AllocError>
@@ -298,7 +299,8 @@ fn push_lacks(out: &mut Vec<u8>, count: usize) -> Result<(), AllocError>
     }
 }
 
-/// Appends the region of a set: its words, whether each of its frames has an inner tag, the range of its TTL, and how many matches match none of its frames.
+/// Appends the region of a set: its words, whether each of its frames has an inner tag, the range of its TTL, and how many matches match
+/// none of its frames.
 #[tactic(auto, unfolding(crate::specs::RegionWords::region_words))]
 pub fn push_set(out: &mut Vec<u8>, set: &DescribedSet<'_>) -> Result<(), AllocError>
     ensures { OnOk result (out.new.items ≡ out.old.items ++ region_words set.now) }
