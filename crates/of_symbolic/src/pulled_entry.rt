@@ -11,11 +11,11 @@ use of_oxm::MatchField;
 use of_table::Entry;
 use std::alloc::{AllocError, Global};
 
-/// An entry of a flow table, in terms of the frame that came in.
+/// An entry of a flow table, in terms of the description of the frame that came in.
 #[derive(Drop)]
 pub struct PulledEntry {
     pub priority: u16,
-    /// It matches if all these conditions agree with that frame. None: it never matches.
+    /// It matches if all these conditions agree with that description. None: it never matches.
     pub fields: Option<Vec<MatchField>>,
 }
 

@@ -17,15 +17,16 @@ pub enum Pulled {
     Never,
     /// It is not known which frames make it match.
     Unknown,
-    /// It matches exactly if each of these fields agrees with the frame that came in. VLAN_VID may be there twice: for the VID, and for whether
-    /// there is a tag. A field with a mask of zeros asks only that the frame has the field.
+    /// It matches exactly if each of these fields agrees with the description of the frame that came in: with its fields, where METADATA is 0 or
+    /// the number of its inner tag. VLAN_VID may be there twice: for the VID, and for whether there is a tag; and METADATA for VID and PCP of
+    /// the inner tag. A field with a mask of zeros asks only that the frame has the field.
     When(Vec<MatchField>),
 }
 
 /// What a match on a packet, with this metadata, asks of the frame that came in (OpenFlow 1.3.5, 5.3).
 ///
-/// The overlay is that of the packet. `is`: the result is true of the description of each frame that came in. `kept`: the fields that it asks are in normal form, or
-/// have a mask of zeros. `unknown`: only a VLAN_VID or VLAN_PCP that is not known makes the result unknown.
+/// The overlay is that of the packet. `is`: the result is true of the description of each frame that came in. `conditions`: the fields that it
+/// asks are conditions on fields. `unknown`: only a VLAN_VID or VLAN_PCP that is not known makes the result unknown.
 pub fn pull(
     alloc: Global,
     overlay: &Overlay,
